@@ -9,7 +9,7 @@ pub mod SignalLaw
 pub mod Spellings
 pub mod Lines
 pub mod Advances
-mod KeptTexts
+pub mod KeptTexts
 pub mod Growths
 pub mod ItemTexts
 pub mod JoinedLines
@@ -19,16 +19,6 @@ pub mod JoinedCells
 pub mod MarginTexts
 pub mod MarginLaw
 pub mod Stretch
-pub mod FinerTrees
-pub mod FinerTraces
-pub mod FinerTruth
-pub mod FinerValues
-pub mod FinerMargins
-pub mod KnotsChange
-pub mod FinerKnots
-pub mod FinerRobust
-pub mod FinerVerdicts
-pub mod FinerCheck
 pub mod Sequences
 pub mod StepLemmas
 pub mod TableTexts
@@ -40,11 +30,3 @@ pub mod JsonParts
 pub mod JsonItems
 pub mod ReportTexts
 pub mod FaultLines
-mod NearTimes
-mod MovedWindows
-mod CalmTruth
-mod GapLines
-mod SmallFractions
-mod CalmFormulas
-mod TurningTimes
-mod CoarserVerdicts

@@ -17,8 +17,7 @@ use Rattle.stl_syntax.specs.Texts.{fraction_text, IsNumberText, IsValueText, boo
 use Rattle.stl_syntax.specs.Texts.{AreVerdictLines, IsStartLine, IsKnotLine, IsPieceLine, ArePieceLines, AreMarginLines}
 use Rattle.stl_syntax.specs.declared.scale.Scale.{Scale}
 use Rattle.stl_syntax.specs.declared.items.Verdict.{Verdict}
-use Rattle.report.proofs.Stretch.{stretch, same_back}
-use Rattle.report.proofs.FinerKnots.{ratio_of}
+use Rattle.report.proofs.Stretch.{stretch, same_back, ratio_of}
 
 -- ---- numbers
 

@@ -1,33 +1,18 @@
--- Numbers times K, and their K-th parts.
-use Rattle.std.proofs.Common.{◌≡◌, ℕ, zero, suc, ◌+◌, ◌*◌, ◌<◌, ◌≤◌, Bool, true, false, refl, arith, ℤ, pos, negsuc, IsTrue}
+-- Numbers times K.
+use Rattle.std.proofs.Common.{◌≡◌, ℕ, zero, suc, ◌+◌, ◌*◌, ◌<◌, ◌≤◌, refl, arith, ℤ, pos, negsuc}
 use Rattle.std.specs.Prelude.{neg_ℤ, ◌*ℤ◌}
-use Rattle.std.proofs.Math.Nat.{mul-pos, mul-le-mul_left, le_of_mul-le-mul_left, mul-lt-mul_of_pos_left, lt_of_mul-lt-mul_left}
+use Rattle.std.proofs.Math.Nat.{mul-le-mul_left, le_of_mul-le-mul_left}
 use Rattle.rational.specs.Rational.{part_above, part_below}
-use Rattle.rational.specs.Time.{Rational, ◌≤ʳ◌, ◌<ʳ◌, ◌≈◌, Within, Precedes, later, whole, times, add}
+use Rattle.rational.specs.Time.{Rational, ◌≤ʳ◌, ◌≈◌, ratio}
 use Rattle.rational.proofs.Order.{same_of_le, le_of_same, ge_of_same}
-use Rattle.stl_syntax.specs.Truth.{compares}
-use Rattle.stl_syntax.specs.declared.rel.Rel.{Rel}
-use Rattle.stl_syntax.specs.declared.rel.Rel.TheVariants.{AtLeast, Above, AtMost, Below}
 
 -- K times the number
 abbrev pub stretch : ℕ → Rational → Rational
 stretch K t = record { up = K * t.up; down = K * t.down; den = t.den; positive = t.positive }
 
--- the K-th part of the number
-abbrev pub shrink : (K : ℕ) → 0 < K → Rational → Rational
-shrink K p t = record { up = t.up; down = t.down; den = K * t.den; positive = mul-pos p t.positive }
-
 -- the order stays
 pub stretch_le : {t u : Rational} (K : ℕ) → t ≤ʳ u → stretch K t ≤ʳ stretch K u
 stretch_le K h = record { le = let m = mul-le-mul_left K h.le in omega (arith, m) }
-
--- K times two numbers are ordered as the numbers
-pub stretch_lt : {t u : Rational} (K : ℕ) → 0 < K → t <ʳ u → stretch K t <ʳ stretch K u
-stretch_lt K p h = record { lt = let m = mul-lt-mul_of_pos_left h.lt p in omega (arith, m) }
-
--- two ways to write one number are, times K, one number
-pub stretch_same : {t u : Rational} (K : ℕ) → t ≈ u → stretch K t ≈ stretch K u
-stretch_same K h = same_of_le (stretch_le K (le_of_same h)) (stretch_le K (ge_of_same h))
 
 -- and the other way
 pub le_back : {t u : Rational} (K : ℕ) → 0 < K → stretch K t ≤ʳ stretch K u → t ≤ʳ u
@@ -35,49 +20,9 @@ le_back {t} {u} K p h = record {
   le = le_of_mul-le-mul_left (let e : K * (t.up * u.den + u.down * t.den) ≤ K * (u.up * t.den + t.down * u.den) = omega (arith, h.le) in e) p;
 }
 
--- two numbers are ordered as K times the numbers
-pub lt_back : {t u : Rational} (K : ℕ) → stretch K t <ʳ stretch K u → t <ʳ u
-lt_back {t} {u} K h = record {
-  lt = lt_of_mul-lt-mul_left K (let e : K * (t.up * u.den + u.down * t.den) < K * (u.up * t.den + t.down * u.den) = omega (arith, h.lt) in e);
-}
-
 -- two numbers are the same where K times the numbers are
 pub same_back : {t u : Rational} (K : ℕ) → 0 < K → stretch K t ≈ stretch K u → t ≈ u
 same_back K p h = same_of_le (le_back K p (le_of_same h)) (le_back K p (ge_of_same h))
-
--- a number is K times its K-th part
-pub stretch-shrink : (K : ℕ) (p : 0 < K) (t : Rational) → stretch K (shrink K p t) ≈ t
-stretch-shrink K p t = record { same = omega arith }
-
--- what precedes another number does so too when both are taken K times
-pub precedes_stretch : (K : ℕ) → 0 < K → (b : Bool) (t u : Rational) → Precedes b t u → Precedes b (stretch K t) (stretch K u)
-precedes_stretch K p true t u h = stretch_le K h
-precedes_stretch K p false t u h = stretch_lt K p h
-
--- what precedes another number when both are taken K times does so itself
-pub precedes_back : (K : ℕ) → 0 < K → (b : Bool) (t u : Rational) → Precedes b (stretch K t) (stretch K u) → Precedes b t u
-precedes_back K p true t u h = le_back K p h
-precedes_back K p false t u h = lt_back K h
-
--- later by K times as much
-pub later_stretch : (K a : ℕ) (t : Rational) → later (stretch K t) (K * a) ≈ stretch K (later t a)
-later_stretch K a t = record { same = omega arith }
-
--- what lies within two numbers does so too when all are taken K times
-pub within_stretched : {t u v : Rational} (K : ℕ) → Within t u v → Within (stretch K t) (stretch K u) (stretch K v)
-within_stretched K h = record { above = stretch_le K h.above; below = stretch_le K h.below }
-
--- what lies within two numbers when all are taken K times does so itself
-pub within_back : {t u v : Rational} (K : ℕ) → 0 < K → Within (stretch K t) (stretch K u) (stretch K v) → Within t u v
-within_back K p h = record { above = le_back K p h.above; below = le_back K p h.below }
-
--- sums and products
-pub add_stretch : (K : ℕ) (a b : Rational) → add (stretch K a) (stretch K b) ≈ stretch K (add a b)
-add_stretch K a b = record { same = omega arith }
-
--- a coefficient of K times a number is K times the product
-pub times_stretch : (K : ℕ) (c : ℤ) (a : Rational) → times c (stretch K a) ≈ stretch K (times c a)
-times_stretch K c a = record { same = omega arith }
 
 -- a number of ticks below 0 has nothing above 0
 pub neg_above : (n : ℕ) → part_above (neg_ℤ (pos n)) ≡ 0
@@ -89,32 +34,20 @@ pub neg_below : (n : ℕ) → part_below (neg_ℤ (pos n)) ≡ n
 neg_below zero = refl
 neg_below (suc n) = refl
 
--- the parts of a product
-pub above-times : (K : ℕ) (z : ℤ) → part_above (pos K *ℤ z) ≡ K * part_above z
-above-times K (pos n) = refl
-above-times K (negsuc n) = let e = neg_above (K * suc n) in omega (arith, e)
+-- the parts of a whole number times x
+pub above_of : (z : ℤ) (x : ℕ) → part_above (z *ℤ pos x) ≡ part_above z * x
+above_of (pos n) x = refl
+above_of (negsuc n) x = let e = neg_above (suc n * x) in omega (arith, e)
 
--- the part below nought of K times a whole number is K times its part
-pub below-times : (K : ℕ) (z : ℤ) → part_below (pos K *ℤ z) ≡ K * part_below z
-below-times K (pos n) = omega arith
-below-times K (negsuc n) = neg_below (K * suc n)
+-- and below nought
+pub below_of : (z : ℤ) (x : ℕ) → part_below (z *ℤ pos x) ≡ part_below z * x
+below_of (pos n) x = omega arith
+below_of (negsuc n) x = neg_below (suc n * x)
 
--- K times a whole number is whole
-pub whole_stretch : (K : ℕ) (z : ℤ) → whole (pos K *ℤ z) ≈ stretch K (whole z)
-whole_stretch K z = let e = above-times K z in let f = below-times K z in record { same = omega (arith, e, f) }
+-- a number times K
+times_part : (x y K den u v : ℕ) → u ≡ x * K → v ≡ y * K → u * den + K * y * den ≡ K * x * den + v * den
+times_part x y K den u v a b = rw (a, b) (omega arith)
 
--- the comparison with 0
-pub compares_stretch : (K : ℕ) → 0 < K → (rel : Rel) (x : Rational) → IsTrue (compares rel x) → IsTrue (compares rel (stretch K x))
-compares_stretch K p AtLeast x h = let k : x.down ≤ x.up = grind arith in let l = mul-le-mul_left K k in grind arith
-compares_stretch K p Above x h = let k : x.down < x.up = grind arith in let l = mul-lt-mul_of_pos_left k p in grind arith
-compares_stretch K p AtMost x h = let k : x.up ≤ x.down = grind arith in let l = mul-le-mul_left K k in grind arith
-compares_stretch K p Below x h = let k : x.up < x.down = grind arith in let l = mul-lt-mul_of_pos_left k p in grind arith
-
--- a comparison with nought is that of K times the number
-pub compares_back : (K : ℕ) → 0 < K → (rel : Rel) (x : Rational) → IsTrue (compares rel (stretch K x)) → IsTrue (compares rel x)
-compares_back K p AtLeast x h =
-    let k : K * x.down ≤ K * x.up = grind arith in let l = le_of_mul-le-mul_left {m = x.down} {n = x.up} {k = K} k p in grind arith
-compares_back K p Above x h = let k : K * x.down < K * x.up = grind arith in let l = lt_of_mul-lt-mul_left K {m = x.down} {n = x.up} k in grind arith
-compares_back K p AtMost x h =
-    let k : K * x.up ≤ K * x.down = grind arith in let l = le_of_mul-le-mul_left {m = x.up} {n = x.down} {k = K} k p in grind arith
-compares_back K p Below x h = let k : K * x.up < K * x.down = grind arith in let l = lt_of_mul-lt-mul_left K {m = x.up} {n = x.down} k in grind arith
+-- a fraction whose numerator is times K is K times the fraction
+pub ratio_of : (num : ℤ) (den : ℕ) (p : 0 < den) (K : ℕ) → ratio (num *ℤ pos K) den p ≈ stretch K (ratio num den p)
+ratio_of num den p K = record { same = times_part (part_above num) (part_below num) K den _ _ (above_of num K) (below_of num K) }

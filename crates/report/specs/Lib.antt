@@ -1,7 +1,6 @@
 pub mod Json
 pub mod Table
 pub mod Report
-pub mod Units
 pub mod Appended
 pub mod Before
 pub mod Numbers

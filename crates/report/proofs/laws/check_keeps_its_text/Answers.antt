@@ -1,5 +1,0 @@
-use Rattle.report.proofs.FinerCheck.{check_keeps_its_text as law}
-use Rattle.report.proofs.laws.check_keeps_its_text.Goals as goal
-
-pub returns : goal.returns
-returns c = law

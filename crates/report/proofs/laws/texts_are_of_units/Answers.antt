@@ -1,5 +1,0 @@
-use Rattle.report.proofs.CoarserVerdicts.{law_of_units as law}
-use Rattle.report.proofs.laws.texts_are_of_units.Goals as goal
-
-pub returns : goal.returns
-returns c = law

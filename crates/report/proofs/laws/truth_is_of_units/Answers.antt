@@ -1,5 +1,0 @@
-use Rattle.report.proofs.FinerTruth.{truth_is_of_units as law}
-use Rattle.report.proofs.laws.truth_is_of_units.Goals as goal
-
-pub returns : goal.returns
-returns c = law

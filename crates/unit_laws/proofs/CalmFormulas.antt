@@ -1,0 +1,53 @@
+-- The atoms of a formula within its limits have one truth about a time with no small denominator, in ticks of any scale.
+use Rattle.std.proofs.Common.{ℕ, ◌-◌, ◌^◌, false, List, [], ◌∷◌, ◌++◌, All, map, length, subst, sym, inl, inr}
+use Rattle.std.proofs.lemmas.Bool.{cases_lt}
+use Rattle.std.proofs.lemmas.List.{get_or_past}
+use Rattle.std.proofs.lemmas.List.Elements.{All-get_or, All-head, All-tail, All-cons, All-append, All-nil}
+use Rattle.stl_syntax.specs.Trace.{Trace, IsTrace, AreInRange}
+use Rattle.stl_syntax.specs.Formula.{Subformula, constant, tree_of, tree_at, trees_after, subformula, root}
+use Rattle.stl_syntax.specs.Scaling.{scaled_node}
+use Rattle.stl_syntax.specs.WellFormed.{IsLeafInLimits}
+use Rattle.stl_syntax.specs.declared.node.Node.{Node}
+use Rattle.stl_syntax.specs.declared.node.Node.TheVariants.{Const, Atom as Leaf, Not, And, Or, Implies, Until, Eventually, Always, Since, Once, Historically}
+use Rattle.unit_laws.proofs.CalmTruth.{HasCalmAtoms}
+use Rattle.unit_laws.proofs.GapLines.{calm_atom}
+
+module _ (tr : Trace) (ok : IsTrace tr) (range : AreInRange tr.rows) where
+  abbrev IsCalm : Subformula → Type 0
+  IsCalm p = HasCalmAtoms (2 ^ 31) tr p
+
+  -- a node's tree, from those of its children
+  tree_calm : (A B : ℕ) (at : ℕ → Subformula) → ((j : ℕ) → IsCalm (at j)) → (i : ℕ) (n : Node) → IsLeafInLimits n → IsCalm (tree_of at i (scaled_node A B n))
+  tree_calm A B at h i (Const b) l = tt
+  tree_calm A B at h i (Leaf a) l = λ t r. calm_atom tr i _ t r ok range l.few l.terms
+  tree_calm A B at h i (Not p) l = h p
+  tree_calm A B at h i (And p q) l = (h p, h q)
+  tree_calm A B at h i (Or p q) l = (h p, h q)
+  tree_calm A B at h i (Implies p q) l = (h p, h q)
+  tree_calm A B at h i (Until p q a b) l = (h p, h q)
+  tree_calm A B at h i (Eventually p a b a_in b_in) l = h p
+  tree_calm A B at h i (Always p a b a_in b_in) l = h p
+  tree_calm A B at h i (Since p q a b) l = (h p, h q)
+  tree_calm A B at h i (Once p a b a_in b_in) l = h p
+  tree_calm A B at h i (Historically p a b a_in b_in) l = h p
+
+  at_calm : (trees : List Subformula) → All IsCalm trees → (j : ℕ) → IsCalm (tree_at trees j)
+  at_calm trees h j = elim (cases_lt j (length trees)) [
+    | inl k ↦ All-get_or IsCalm trees j (constant false) k h
+    | inr k ↦ subst IsCalm (sym (get_or_past trees j (constant false) k)) tt
+  ]
+
+  trees_calm : (A B : ℕ) (trees : List Subformula) (nodes : List Node) → All IsCalm trees → All IsLeafInLimits nodes
+      → All IsCalm (trees_after trees (map (scaled_node A B) nodes))
+  trees_calm A B trees [] h l = h
+  trees_calm A B trees (n ∷ nodes) h l =
+      let new = tree_of (tree_at trees) (length trees) (scaled_node A B n) in
+      let is = tree_calm A B (tree_at trees) (at_calm trees h) (length trees) n (All-head IsLeafInLimits n nodes l) in
+      trees_calm A B (trees ++ new ∷ []) nodes (All-append IsCalm trees (new ∷ []) h (All-cons IsCalm new [] is (All-nil IsCalm)))
+      (All-tail IsLeafInLimits n nodes l)
+
+  -- so are those of the root
+  pub root_calm : (A B : ℕ) (nodes : List Node) → All IsLeafInLimits nodes → IsCalm (root (map (scaled_node A B) nodes))
+  unfolding subformula
+  root_calm A B nodes l =
+      at_calm (trees_after [] (map (scaled_node A B) nodes)) (trees_calm A B [] nodes (All-nil IsCalm) l) (length (map (scaled_node A B) nodes) - 1)

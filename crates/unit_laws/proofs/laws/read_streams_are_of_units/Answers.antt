@@ -1,0 +1,5 @@
+use Rattle.unit_laws.proofs.StreamsKept.{read_streams as law}
+use Rattle.unit_laws.proofs.laws.read_streams_are_of_units.Goals as goal
+
+pub returns : goal.returns
+returns c = law c.args.formula.now c.len-count.ensures.well_formed
