@@ -1,8 +1,6 @@
 -- The laws of runs.
-use Rattle.std.proofs.Common.{◌≡◌, ◌≢◌, ◌⊎◌, inl, inr, ℕ, Bool, true, false, List, ◌++◌, refl, sym, ap, ◌∙◌, subst, eq-eqb}
-use Rattle.std.specs.Prelude.{◌==◌}
+use Rattle.std.proofs.Common.{◌≡◌, ◌≢◌, ◌⊎◌, inl, inr, ℕ, Bool, true, false, List, ◌++◌, refl, sym, ap, ◌∙◌, subst}
 use Rattle.std.specs.Io.KnownBytes.{IsAtEnd}
-use Rattle.std.proofs.lemmas.Bool.{false≢true, eqb-true}
 use Rattle.io_edge.specs.Calls.{Drained, Filled}
 use Rattle.workbench.specs.Requests.{Request, has_input}
 use Rattle.workbench.specs.Owed.{Owes}
@@ -15,7 +13,7 @@ use Rattle.run_laws.proofs.Endings.{IsEnding}
 use Rattle.run_laws.proofs.OneEnding.{AreOne, one_ending}
 use Rattle.run_laws.proofs.Fronts.{ending_is_owed, front_of_end, front_of_unread}
 use Rattle.run_laws.proofs.Unread.{unread_once}
-use Rattle.run_laws.proofs.OwnEnds.{HasOwnEnd, has_own_end, own_ending, HowEnded, known, starved, how_ended}
+use Rattle.run_laws.proofs.OwnEnds.{HasOwnEnd, has_own_end, own_ending, HowEnded, known, starved, how_ended, seven}
 
 module _ {words asked : List (List ℕ)} {i j : Drained} {o e p g : Filled} {status other : ℕ} (a : IsRun words i o e status) (b : IsRun asked j p g other)
     (narrow : status ≢ 8) (thin : other ≢ 8) where
@@ -53,13 +51,6 @@ one_answer_to_words words i j o e p g status other held a b own still narrow thi
     of_request a b narrow thin y.request x y (one_request words x.request y.request x.asks y.asks) refl (λ has. held)
 
 -- ---- fronts
-
-seven : (n : ℕ) → (n ≡ 7) ⊎ (n ≢ 7)
-seven n = by_test (n == 7) refl
-  where
-    by_test : (b : Bool) → (n == 7) ≡ b → (n ≡ 7) ⊎ (n ≢ 7)
-    by_test true e = inl (eqb-true n 7 e)
-    by_test false e = inr (λ same. false≢true (sym e ∙ eq-eqb n 7 same))
 
 -- what any run wrote is the front of the answer
 pub front_of_the_answer : FrontOfTheAnswer

@@ -25,7 +25,7 @@ pub fn beside_a_refusal_for_a_denominator()
 
 /// What a bench hears in a crowd is its own run: of what a run of `mux` wrote that ended with 0, the lines that begin with a tag and a space,
 /// answers to queries left out, are those that a run of `watch` for the same formula wrote over the bytes of the tag's own lines, with the
-/// line that it told where it ended with 4. Where the run of `mux` ended with 4 or 5 they are the lines of a front of that.
+/// line that it told where it ended with 4. However the run of `mux` ended, of its whole lines they are the first of these.
 pub fn a_bench_hears_its_own_run()
     ensures whole { HearsItsOwnRun }
     ensures front { HearsAFront }
