@@ -1,9 +1,10 @@
 -- What a session writes by itself is what a run of `watch` over its bytes writes and tells.
 use Rattle.std.proofs.Common.{◌≡◌, inl, inr, ℕ, Bool, true, false, List, [], ◌++◌, refl, sym, ap, ◌∙◌, subst, append-nil, append_assoc, Option, Some, None}
+use Rattle.std.proofs.lemmas.Bool.{false≢true}
 use Rattle.stl_syntax.specs.Formula.{Formula}
 use Rattle.stl_syntax.specs.Trace.{Header, Row}
 use Rattle.report.specs.FaultTexts.{fault_text}
-use Rattle.trace_reader.specs.InputFaults.{stream_limits, IsInputFault}
+use Rattle.trace_reader.specs.InputFaults.{stream_limits}
 use Rattle.trace_stream.specs.Streams.{verdicts, StreamOf, OwesRows}
 use Rattle.trace_stream.proofs.OwedRows.{stream_owed_grows}
 use Rattle.session_mux.specs.Sessions.{IsRowsStream, IsFaultLine, Alone}
@@ -56,27 +57,27 @@ parts_of f bytes text ended (header, rows, whole, written, told, before, is, lin
 }
 
 -- before a fault it goes on
-calm_goes_on : (f : Formula) (bytes said all : List ℕ) (p : AreParts f bytes false said) → AreParts f bytes true all → p.told ≡ [] → IsFront said all
-calm_goes_on f bytes said all p q none =
-    let owed = subst (λ bs. OwesRows verdicts f bs true q.written) (sym (append-nil bytes)) q.owed in
-    let (rest, e) = stream_owed_grows verdicts f bytes [] true p.written q.written p.owed owed in
+calm_goes_on : (f : Formula) (bytes more said all : List ℕ) (p : AreParts f bytes false said) → AreParts f (bytes ++ more) true all → p.told ≡ []
+    → IsFront said all
+calm_goes_on f bytes more said all p q none =
+    let (rest, e) = stream_owed_grows verdicts f bytes more true p.written q.written p.owed q.owed in
     let mine : said ≡ p.written = p.is ∙ ap (λ l. p.written ++ l) none ∙ append-nil p.written in
     (rest ++ q.told, q.is ∙ ap (λ w. w ++ q.told) e ∙ append_assoc p.written rest q.told ∙ ap (λ w. w ++ (rest ++ q.told)) (sym mine))
 
--- what a session wrote before the end is the front of what it writes in all
-pub alone_goes_on : (f : Formula) (bytes said all : List ℕ) (ended : Bool) → Alone f bytes ended said → Alone f bytes true all → IsFront said all
-alone_goes_on f bytes said all true a b = ([], text_alone_once f bytes true all said b a ∙ sym (append-nil said))
-alone_goes_on f bytes said all false a b = by_line (parts_of f bytes said false a)
+-- what a session wrote is the front of what it writes by itself for more bytes and their end; it wrote all where its own had ended
+pub alone_goes_on : (f : Formula) (bytes more said all : List ℕ) (ended : Bool) → (ended ≡ true → bytes ++ more ≡ bytes) → Alone f bytes ended said
+    → Alone f (bytes ++ more) true all → IsFront said all
+alone_goes_on f bytes more said all true at a b =
+    ([], text_alone_once f bytes true all said (subst (λ bs. Alone f bs true all) (at refl) b) a ∙ sym (append-nil said))
+alone_goes_on f bytes more said all false at a b = by_line (parts_of f bytes said false a)
   where
     by_line : AreParts f bytes false said → IsFront said all
     by_line p = by_told p.line
       where
         by_told : IsFaultLine f bytes false p.told → IsFront said all
-        by_told (inl (calm, none)) = calm_goes_on f bytes said all p (parts_of f bytes all true b) none
+        by_told (inl (calm, none)) = calm_goes_on f bytes more said all p (parts_of f (bytes ++ more) all true b) none
         by_told (inr (x, fault, e)) =
-            let whole = append-nil bytes in
-            let also = subst (λ bs. IsInputFault stream_limits f bs true x) whole (fault_of_all stream_limits f bytes [] false x (λ k. refl) fault) in
-            let owed = subst (λ bs. OwesRows verdicts f bs true p.written) whole
-            (rows_owed_of_all verdicts f bytes [] p.written false (λ k. refl) (x, fault) p.owed) in
-            let mine = together f bytes p.written p.told true owed (inr (x, also, e)) in
-            ([], text_alone_once f bytes true all (p.written ++ p.told) b mine ∙ sym p.is ∙ sym (append-nil said))
+            let also = fault_of_all stream_limits f bytes more false x (λ k. absurd (false≢true k)) fault in
+            let owed = rows_owed_of_all verdicts f bytes more p.written false (λ k. absurd (false≢true k)) (x, fault) p.owed in
+            let mine = together f (bytes ++ more) p.written p.told true owed (inr (x, also, e)) in
+            ([], text_alone_once f (bytes ++ more) true all (p.written ++ p.told) b mine ∙ sym p.is ∙ sym (append-nil said))

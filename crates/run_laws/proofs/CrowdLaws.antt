@@ -1,26 +1,36 @@
 -- The laws of a bench in a crowd.
-use Rattle.std.proofs.Common.{◌≡◌, ◌⊎◌, inl, inr, ℕ, Bool, true, false, List, [], ◌++◌, take, refl, sym, ap, ◌∙◌, subst, arith, Some, ◌-◌}
+use Rattle.std.proofs.Common.{◌≡◌, ◌≢◌, ◌⊎◌, inl, inr, ℕ, Bool, true, false, cond, List, [], ◌∷◌, ◌++◌, refl, sym, ap, ◌∙◌, subst, arith}
+use Rattle.std.proofs.Common.{append_assoc, append-nil, Some}
+use Rattle.std.specs.Io.KnownBytes.{IsAtEnd}
+use Rattle.std.specs.Prelude.{◌||◌, bytes_eq}
+use Rattle.std.proofs.lemmas.Bool.{false≢true}
+use Rattle.std.proofs.lemmas.Slice.Eq.{bytes_eq-Decides}
 use Rattle.io_edge.specs.Calls.{Drained, Filled}
+use Rattle.stl_syntax.specs.Characters.{is_among}
 use Rattle.stl_syntax.specs.Formula.{Formula}
+use Rattle.stl_grammar.specs.FormulaRefusals.{IsFormulaOf}
 use Rattle.trace_reader.specs.TraceText.{Line, lines}
 use Rattle.session_mux.specs.Hearing.{heard, HaveTags}
-use Rattle.session_mux.specs.Inputs.{fault_line, AreLinesBefore, sound, faulted, OwesLines}
+use Rattle.session_mux.specs.Inputs.{InputFault, FaultOfInput, AreLinesBefore, sound, faulted, OwesLines}
 use Rattle.session_mux.specs.Saying.{texts}
-use Rattle.session_mux.specs.Sessions.{Tagged, AreTagged, none, unfinished, blank, next, own, is_stopped, AreAnswers, MuxText}
+use Rattle.session_mux.specs.Sessions.{Tagged, IsTag, AreTagged, none, unfinished, blank, next, own, is_stopped, tags_after, Alone, AreAnswers, MuxText}
 use Rattle.session_mux.proofs.HearingLemmas.{hears_what_is_said}
-use Rattle.session_mux.proofs.OwedLines.{input_fault_once, tagged_lines_once}
 use Rattle.session_mux.proofs.SessionsSaid.{as_alone, text_alone_once}
 use Rattle.session_mux.proofs.TagLemmas.{tag_is}
+use Rattle.session_mux.proofs.TextLemmas.{EndsInFeed, alone_ends, texts_joined}
 use Rattle.workbench.specs.Requests.{Request, has_input, Asks, stream, sessions, verdicts}
 use Rattle.workbench.specs.Ended.{IsAnswered, faulty, answered, wide, overfull}
-use Rattle.workbench.specs.Running.{IsEnd, by_itself, unread, unwritten, no_memory, IsRun}
+use Rattle.workbench.specs.Running.{IsBegun, IsEnd, by_itself, unread, unwritten, no_memory, IsReadOut, IsRun}
 use Rattle.workbench.proofs.BenchesHear.{hears_own_stream, read_names}
+use Rattle.workbench.proofs.Completing.{rest_of}
 use Rattle.workbench.proofs.OneRequest.{one_request}
 use Rattle.run_laws.specs.OneAnswer.{IsOwn, IsFront}
-use Rattle.run_laws.specs.Crowd.{HearsItsOwnRun, HearsAFront}
+use Rattle.run_laws.specs.Crowd.{heard_whole, HearsItsOwnRun, HearsAFront}
 use Rattle.run_laws.proofs.Crowd.{watch_alone, alone_goes_on}
 use Rattle.run_laws.proofs.Endings.{IsEnding, at_fault, answer, too_wide, too_full}
-use Rattle.run_laws.proofs.OwnEnds.{has_own_end, own_ending, HowEnded, known, starved, how_ended}
+use Rattle.run_laws.proofs.FirstLines.{before_once, before_goes_on, own_grows, own_stays}
+use Rattle.run_laws.proofs.OwnEnds.{has_own_end, own_ending, HowEnded, known, starved, how_ended, seven}
+use Rattle.run_laws.proofs.WholeLines.{heard_first, heard_nothing}
 
 -- ---- runs of one request
 
@@ -48,7 +58,7 @@ hears_its_own_run words alone f bytes seen t i j o e p g other ask also held are
     let watched = watch_alone (asked_ending (stream verdicts f) (own seen t) also own_end source b refl) in
     heard_is ∙ ap texts (text_alone_once f (own seen t) true said (b.text ++ b.line) alone_text watched)
 
--- ---- before the end
+-- ---- tags
 
 have_tags : {all : List Line} {tagged : List Tagged} → AreTagged all tagged → HaveTags tagged
 have_tags none = tt
@@ -60,59 +70,161 @@ before_tags : {bytes : List ℕ} {ended whole : Bool} {seen : List Tagged} → A
 before_tags (sound calm are) = have_tags are
 before_tags (faulted x fault are) = have_tags are
 
--- the lines before the first fault are one list
-before_once : {bytes : List ℕ} {ended v w : Bool} {seen others : List Tagged} → AreLinesBefore bytes ended seen v → AreLinesBefore bytes ended others w
-    → seen ≡ others
-before_once {bytes} {ended} {seen = seen} {others = others} (sound calm are) (sound quiet also) = tagged_lines_once (lines ended bytes) seen others are also
-before_once (sound calm are) (faulted y fault also) = absurd (calm y fault)
-before_once (faulted x fault are) (sound quiet also) = absurd (quiet x fault)
-before_once {bytes} {ended} {seen = seen} {others = others} (faulted x fault are) (faulted y there also) =
-    tagged_lines_once (take (fault_line y - 1) (lines ended bytes)) seen others
-    (subst (λ n. AreTagged (take (n - 1) (lines ended bytes)) seen) (ap fault_line (input_fault_once 1 [] (lines ended bytes) x y fault there)) are) also
-
--- what was written for lines before the end of the input is the answers to them
-answers_by : (f : Formula) (text : List ℕ) {bytes : List ℕ} {ended whole : Bool} {seen tagged : List Tagged} → AreLinesBefore bytes ended seen false
-    → AreLinesBefore bytes ended tagged whole → MuxText f tagged whole text → AreAnswers f [] tagged text
-answers_by f text a (faulted y there also) m = m
-answers_by f text (faulted x fault are) (sound quiet also) m = absurd (quiet x fault)
-answers_by f text (sound calm are) (sound quiet also) m = m
-
-answers_before : {f : Formula} {bytes text : List ℕ} {ended : Bool} {seen : List Tagged} → AreLinesBefore bytes ended seen false → OwesLines f bytes ended text
-    → AreAnswers f [] seen text
-answers_before {f} {bytes} {text} {ended} {seen} before owed =
-    subst (λ ls. AreAnswers f [] ls text) (before_once owed.before before) (answers_by f text before owed.before owed.is)
-
--- what was written where the input was refused, or its source failed
-owed_by_then : {f : Formula} {i : Drained} {o : Filled} {bytes text line : List ℕ} {status : ℕ} → (status ≡ 4) ⊎ (status ≡ 5)
-    → IsEnd (sessions f) i o bytes text status line → OwesLines f bytes i.ended text
-owed_by_then which (by_itself (faulty h prompt owed)) = owed
-owed_by_then which (by_itself (answered h)) = let e = h.1 in absurd (by_which which e)
+-- a tag of the lines is one
+is_tag : (t : List ℕ) (before : List (List ℕ)) (all : List Tagged) → HaveTags all → is_among t (tags_after before all) ≡ true → IsTag t
+is_tag t before [] h a = absurd (false≢true a)
+is_tag t before (x ∷ all) h a = by_before (is_among x.tag before) (λ b. is_tag t before all h.1 b) (λ b. is_tag t (x.tag ∷ before) all h.1 b) a
   where
-    by_which : {n : ℕ} → (n ≡ 4) ⊎ (n ≡ 5) → n ≡ 0 → ⊥
-    by_which (inl k) e = omega (arith, k, e)
-    by_which (inr k) e = omega (arith, k, e)
-owed_by_then which (by_itself (wide n den h)) = absurd h
-owed_by_then which (by_itself (overfull count h)) = absurd h
-owed_by_then {f} {bytes = bytes} {text = text} which (unread has unended failed calm owed) = subst (λ (b : Bool). OwesLines f bytes b text) (sym unended) owed
-owed_by_then which (unwritten rest some failed begun) = elim which [ inl k ↦ absurd (omega (arith, k)) | inr k ↦ absurd (omega (arith, k)) ]
-owed_by_then which (no_memory some begun) = elim which [ inl k ↦ absurd (omega (arith, k)) | inr k ↦ absurd (omega (arith, k)) ]
+    by_before : (k : Bool) → (is_among t (tags_after before all) ≡ true → IsTag t) → (is_among t (tags_after (x.tag ∷ before) all) ≡ true → IsTag t)
+        → is_among t (cond k (tags_after before all) (x.tag ∷ tags_after (x.tag ∷ before) all)) ≡ true → IsTag t
+    by_before true same more b = same b
+    by_before false same more b = by_tag (bytes_eq t x.tag) refl b
+      where
+        by_tag : (e : Bool) → bytes_eq t x.tag ≡ e → (e || is_among t (tags_after (x.tag ∷ before) all)) ≡ true → IsTag t
+        by_tag true e c = subst IsTag (sym ((bytes_eq-Decides t x.tag).0 e)) h.0
+        by_tag false e c = more c
+
+-- ---- a run that was cut short
+
+-- the text is the front of what is owed for the first of the bytes
+record IsOfFirst (f : Formula) (bytes text : List ℕ) : Type 0 where
+  seen : List ℕ
+  beyond : List ℕ
+  parts : bytes ≡ seen ++ beyond
+  seen_end : Bool
+  at_end : seen_end ≡ true → beyond ≡ []
+  rest : List ℕ
+  owed : OwesLines f seen seen_end (text ++ rest)
+
+begun_of_first : {f : Formula} {read text rest : List ℕ} {ended : Bool} (left : List ℕ) → (ended ≡ true → left ≡ [])
+    → IsBegun (sessions f) read ended text rest → IsOfFirst f (read ++ left) text
+begun_of_first {rest = rest} left at b = record {
+  seen = b.seen;
+  beyond = b.later ++ left;
+  parts = ap (λ r. r ++ left) b.parts ∙ append_assoc b.seen b.later left;
+  seen_end = b.seen_end;
+  at_end = λ e. let done = b.at_end e in ap (λ l. l ++ left) done.1 ∙ at done.0;
+  rest = rest;
+  owed = b.owed;
+}
+
+owed_of_first : {f : Formula} {read text : List ℕ} (ended : Bool) (left : List ℕ) → (ended ≡ true → left ≡ []) → OwesLines f read ended text
+    → IsOfFirst f (read ++ left) text
+owed_of_first {f} {read} {text} ended left at owed = record {
+  seen = read;
+  beyond = left;
+  parts = refl;
+  seen_end = ended;
+  at_end = at;
+  rest = [];
+  owed = subst (λ x. OwesLines f read ended x) (sym (append-nil text)) owed;
+}
+
+-- however it ended it wrote such a text, or nothing
+of_first : {f : Formula} {i : Drained} {o : Filled} {read text line : List ℕ} {status : ℕ} (left : List ℕ) → (i.ended ≡ true → left ≡ [])
+    → IsEnd (sessions f) i o read text status line → (text ≡ []) ⊎ IsOfFirst f (read ++ left) text
+of_first {i = i} left at (by_itself (faulty h prompt owed)) = inr (owed_of_first i.ended left at owed)
+of_first left at (by_itself (answered h)) = inr (owed_of_first true left (λ e. at h.0) h.2)
+of_first left at (by_itself (wide n den h)) = absurd h
+of_first left at (by_itself (overfull count h)) = absurd h
+of_first left at (unread has unended failed calm owed) = inr (owed_of_first false left (λ e. absurd (false≢true e)) owed)
+of_first left at (unwritten rest some failed b) = inr (begun_of_first left at b)
+of_first left at (no_memory some (inl e)) = inl e
+of_first left at (no_memory some (inr (rest, b))) = inr (begun_of_first left at b)
+
+-- ---- what the bench hears
+
+module _ (formula : List ℕ) (f : Formula) (bytes : List ℕ) (seen : List Tagged) (t watched : List ℕ) (read : IsFormulaOf formula f)
+    (among : is_among t (tags_after [] seen) ≡ true) (tag : IsTag t) (alone : Alone f (own seen t) true watched) where
+  -- it hears a front of what its own lines get alone
+  abbrev HearsFront : List ℕ → Type 0
+  HearsFront text = (said : List ℕ) × (heard t text ≡ texts said) × EndsInFeed said × IsFront said watched
+
+  -- of the answers to the first of the lines
+  of_answers : (first others : List Tagged) (text : List ℕ) → seen ≡ first ++ others → HaveTags first → AreAnswers f [] first text → HearsFront text
+  of_answers first others text e tags answers =
+      let (said, to, alone_text) = as_alone f t first text answers in
+      let (more, grown) = own_grows first others t in
+      let bytes_are : own seen t ≡ own first t ++ more = ap (λ ls. own ls t) e ∙ grown in
+      let stays : is_stopped first t ≡ true → own first t ++ more ≡ own first t = λ h. sym grown ∙ own_stays first others t h in (
+        said,
+        hears_what_is_said f t first text said (read_names formula f read) tag tags to,
+        alone_ends f (own first t) (is_stopped first t) said alone_text,
+        alone_goes_on f (own first t) more said watched (is_stopped first t) stays alone_text (subst (λ bs. Alone f bs true watched) bytes_are alone),
+      )
+
+  -- of all lines and their ends
+  of_whole : (text : List ℕ) → OwesLines f bytes true text → ((x : InputFault) → ¬ FaultOfInput 1 [] (lines true bytes) x) → AreTagged (lines true bytes) seen
+      → HearsFront text
+  of_whole text owed calm are =
+      let (said, alone_text, heard_is) = hears_own_stream formula f bytes text 0 read (refl, refl, owed, calm) seen are t among in (
+        said,
+        heard_is,
+        alone_ends f (own seen t) true said alone_text,
+        ([], text_alone_once f (own seen t) true watched said alone alone_text ∙ sym (append-nil said)),
+      )
+
+  -- of what is owed for the first of the bytes
+  of_owed : {first : List ℕ} {beyond text : List ℕ} {whole w : Bool} {tagged : List Tagged} (ended : Bool) → bytes ≡ first ++ beyond
+      → (ended ≡ true → beyond ≡ []) → AreLinesBefore bytes true seen w → AreLinesBefore first ended tagged whole → MuxText f tagged whole text
+      → OwesLines f first ended text → HearsFront text
+  of_owed {first} {beyond} {text} {w = w} {tagged = tagged} false e at all before m owed =
+      let (others, k) = before_goes_on first beyond before (subst (λ bs. AreLinesBefore bs true seen w) e all) in
+      of_answers tagged others text k (before_tags before) (answers_open before m)
+    where
+      answers_open : {whole : Bool} → AreLinesBefore first false tagged whole → MuxText f tagged whole text → AreAnswers f [] tagged text
+      answers_open (sound calm are) m = m
+      answers_open (faulted x fault are) m = m
+  of_owed {first} {beyond} {text} {w = w} {tagged = tagged} true e at all before m owed = by_fault here before m
+    where
+      same : first ≡ bytes
+      same = sym (e ∙ ap (λ r. first ++ r) (at refl) ∙ append-nil first)
+
+      here : AreLinesBefore first true seen w
+      here = subst (λ bs. AreLinesBefore bs true seen w) (sym same) all
+
+      by_fault : {v whole : Bool} → AreLinesBefore first true seen v → AreLinesBefore first true tagged whole → MuxText f tagged whole text → HearsFront text
+      by_fault mine (faulted x fault are) m =
+          of_answers tagged [] text (before_once mine (faulted x fault are) ∙ sym (append-nil tagged)) (have_tags are) m
+      by_fault (faulted x fault are) (sound calm also) m = absurd (calm x fault)
+      by_fault (sound calm are) (sound quiet also) m =
+          of_whole text (subst (λ bs. OwesLines f bs true text) same owed)
+          (subst (λ bs. (x : InputFault) → ¬ FaultOfInput 1 [] (lines true bs) x) same calm)
+          (subst (λ bs. AreTagged (lines true bs) seen) same are)
 
 -- a bench hears a front of its own run
 pub hears_a_front : HearsAFront
-hears_a_front words alone f seen t i j o e p g status other ask also which is_tag a before source b own_end = by_end (how_ended a.ended)
+hears_a_front words alone f bytes seen whole t i j o e p g status other ask also held before among source a b truly own_end = by_end (how_ended a.ended)
   where
-    by_owed : OwesLines f a.bytes i.ended a.text → (said : List ℕ) × (heard t a.text ≡ texts said) × IsFront said (b.text ++ b.line)
-    by_owed owed =
-        let answers = answers_before before owed in
-        let (said, to, text_alone) = as_alone f t seen a.text answers in
-        let names = read_names ask.text f ask.is in
-        let watched = watch_alone (asked_ending (stream verdicts f) (own seen t) also own_end source b refl) in (
-          said,
-          hears_what_is_said f t seen a.text said names is_tag (before_tags before) to,
-          alone_goes_on f (own seen t) said (b.text ++ b.line) (is_stopped seen t) text_alone watched,
+    watched : Alone f (own seen t) true (b.text ++ b.line)
+    watched = watch_alone (asked_ending (stream verdicts f) (own seen t) also own_end source b refl)
+
+    nothing : a.text ≡ [] → (later : List (List ℕ)) × (texts (b.text ++ b.line) ≡ heard_whole t a.text ++ later)
+    nothing none_written = (texts (b.text ++ b.line), ap (λ ts. ts ++ texts (b.text ++ b.line)) (sym (ap (heard_whole t) none_written ∙ heard_nothing t)))
+
+    of_part : IsOfFirst f bytes a.text → (later : List (List ℕ)) × (texts (b.text ++ b.line) ≡ heard_whole t a.text ++ later)
+    of_part x =
+        let (said, heard_is, ends, (more, e)) = of_owed ask.text f bytes seen t (b.text ++ b.line) ask.is among (is_tag t [] seen (before_tags before) among)
+        watched x.seen_end x.parts x.at_end before x.owed.before x.owed.is x.owed in
+        let (later, first) = heard_first t a.text x.rest in (
+          later ++ texts more,
+          ap texts e ∙ texts_joined said more ends ∙ ap (λ ts. ts ++ texts more) (sym heard_is ∙ first)
+              ∙ append_assoc (heard_whole t a.text) later (texts more),
         )
 
-    by_end : HowEnded words i o a.bytes a.text status a.line → (said : List ℕ) × (heard t a.text ≡ texts said) × IsFront said (b.text ++ b.line)
-    by_end (starved empty e) = elim which [ inl k ↦ absurd (omega (arith, k, e)) | inr k ↦ absurd (omega (arith, k, e)) ]
+    by_status : (status ≡ 7) ⊎ (status ≢ 7) → (status ≢ 7 → IsReadOut i) → i.ended ≡ true → IsAtEnd i.after
+    by_status (inl e) out said = truly e said
+    by_status (inr n) out said = (out n).none_left said
+
+    by_end : HowEnded words i o a.bytes a.text status a.line → (later : List (List ℕ)) × (texts (b.text ++ b.line) ≡ heard_whole t a.text ++ later)
+    by_end (starved none_written e) = nothing none_written
     by_end (known request asks out end) =
-        by_owed (owed_by_then which (subst (λ (q : Request). IsEnd q i o a.bytes a.text status a.line) (one_request words request (sessions f) asks ask) end))
+        let same = one_request words request (sessions f) asks ask in
+        let mine = subst (λ (q : Request). IsEnd q i o a.bytes a.text status a.line) same end in
+        let (left, after, parts) = rest_of i.before i.after bytes a.bytes held a.moved in
+        let at : i.ended ≡ true → left ≡ [] =
+        λ said. subst IsAtEnd after (by_status (seven status) (λ n. out n (ap has_input same)) said) in
+        elim (of_first left at mine) [
+          | inl none_written ↦ nothing none_written
+          | inr x ↦ of_part (subst (λ bs. IsOfFirst f bs a.text) (sym parts) x)
+        ]

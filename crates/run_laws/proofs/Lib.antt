@@ -7,6 +7,8 @@ pub mod OwnEnds
 pub mod Fronts
 pub mod LawProofs
 pub mod Crowd
+pub mod FirstLines
+pub mod WholeLines
 pub mod CrowdLaws
 pub mod Wides
 pub mod BesideWides

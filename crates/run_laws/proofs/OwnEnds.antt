@@ -1,5 +1,7 @@
 -- A run that came to an end of its own ended as its request does over all bytes of the input.
-use Rattle.std.proofs.Common.{◌≡◌, ◌≢◌, ℕ, true, List, [], refl, sym, subst, Some}
+use Rattle.std.proofs.Common.{◌≡◌, ◌≢◌, ◌⊎◌, inl, inr, ℕ, Bool, true, false, List, [], refl, sym, ◌∙◌, subst, Some, eq-eqb}
+use Rattle.std.specs.Prelude.{◌==◌}
+use Rattle.std.proofs.lemmas.Bool.{false≢true, eqb-true}
 use Rattle.std.specs.Io.KnownBytes.{Consumes, IsAtEnd}
 use Rattle.io_edge.specs.Calls.{Drained, Filled}
 use Rattle.workbench.specs.Requests.{Request, Asks, has_input}
@@ -56,3 +58,11 @@ pub how_ended : {words : List (List ℕ)} {i : Drained} {o : Filled} {bytes text
     → HasEnded words i o bytes text status line → HowEnded words i o bytes text status line
 how_ended (asked request ask nothing out pace end) = known request ask out end
 how_ended (unknown some none) = starved refl refl
+
+-- a status is that of want of memory or not
+pub seven : (n : ℕ) → (n ≡ 7) ⊎ (n ≢ 7)
+seven n = by_test (n == 7) refl
+  where
+    by_test : (b : Bool) → (n == 7) ≡ b → (n ≡ 7) ⊎ (n ≢ 7)
+    by_test true e = inl (eqb-true n 7 e)
+    by_test false e = inr (λ same. false≢true (sym e ∙ eq-eqb n 7 same))

@@ -1,5 +1,5 @@
 -- Two runs of one request over one input.
-use Rattle.std.specs.Prelude.{◌≡◌, ◌≢◌, ◌⊎◌, ℕ, ◌≤◌, true, List, ◌++◌, Some}
+use Rattle.std.specs.Prelude.{◌≡◌, ◌≢◌, ◌⊎◌, ℕ, ◌≤◌, true, false, List, ◌++◌, Some}
 use Rattle.std.specs.Io.KnownBytes.{IsAtEnd}
 use Rattle.io_edge.specs.Calls.{Drained, Filled}
 use Rattle.stl_syntax.specs.Formula.{Formula}
@@ -51,6 +51,20 @@ FrontOfTheAnswer =
     (request : Request) (words asked : List (List ℕ)) (i j : Drained) (o e p g : Filled) (status other : ℕ)
     → Asks words request → Asks asked request → (has_input request ≡ true → HoldTheSame i j)
     → (a : IsRun words i o e status) → (b : IsRun asked j p g other) → EndsTruly status i → IsOwn other → other ≢ 8 → IsFront a.text b.text
+
+-- the second source held the bytes of the first, and maybe more behind them
+pub record HoldsMore (i j : Drained) : Type 0 where
+  pub bytes : List ℕ
+  pub more : List ℕ
+  pub first : i.before ≡ Some bytes
+  pub second : j.before ≡ Some (bytes ++ more)
+
+-- what a run wrote whose source had not said its end is the front of what one wrote for the same request over that input and more
+abbrev pub FrontOfMore : Type 0
+FrontOfMore =
+    (request : Request) (words asked : List (List ℕ)) (i j : Drained) (o e p g : Filled) (status other : ℕ)
+    → Asks words request → Asks asked request → (has_input request ≡ true → HoldsMore i j) → i.ended ≡ false
+    → (a : IsRun words i o e status) → (b : IsRun asked j p g other) → IsOwn other → other ≢ 8 → IsFront a.text b.text
 
 -- one of the two texts begins with the other
 abbrev pub AreOnOneLine : List ℕ → List ℕ → Type 0

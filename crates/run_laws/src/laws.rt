@@ -1,6 +1,6 @@
 //! Laws of runs. Each is the contract of a call that does nothing, so that the gate proves it.
 ghost use Rattle.run_laws.specs.Crowd.{HearsAFront, HearsItsOwnRun};
-ghost use Rattle.run_laws.specs.OneAnswer.{BesideAWide, FrontOfTheAnswer, OneAnswer, OneAnswerToWords};
+ghost use Rattle.run_laws.specs.OneAnswer.{BesideAWide, FrontOfMore, FrontOfTheAnswer, OneAnswer, OneAnswerToWords};
 
 /// It does not matter how one asked: two runs whose words ask for one request, over inputs with the same bytes where it reads any, have the
 /// same status, put the same text at the end of their outputs and tell the same line, however the bytes came in pieces and whatever the
@@ -11,9 +11,10 @@ pub fn one_answer()
 {}
 
 /// What a run wrote, however it ended, is the front of the text of each run for the same request over the same input that did not end with
-/// 5, 6, 7 or 8.
+/// 5, 6, 7 or 8. Where its source had not said its end, as where it failed, the other's input may go on from its own.
 pub fn what_was_written_is_of_the_answer()
-    ensures { FrontOfTheAnswer }
+    ensures answer { FrontOfTheAnswer }
+    ensures more { FrontOfMore }
 {}
 
 /// Beside a run that ended with 8, each run for the same request over the same input that ended neither with 5, 6 nor 7 ended with 8 too,
@@ -25,7 +26,7 @@ pub fn beside_a_refusal_for_a_denominator()
 
 /// What a bench hears in a crowd is its own run: of what a run of `mux` wrote that ended with 0, the lines that begin with a tag and a space,
 /// answers to queries left out, are those that a run of `watch` for the same formula wrote over the bytes of the tag's own lines, with the
-/// line that it told where it ended with 4. Where the run of `mux` ended with 4 or 5 they are the lines of a front of that.
+/// line that it told where it ended with 4. However the run of `mux` ended, of its whole lines they are the first of these.
 pub fn a_bench_hears_its_own_run()
     ensures whole { HearsItsOwnRun }
     ensures front { HearsAFront }
