@@ -1,5 +1,6 @@
 pub mod AlikeTexts
 pub mod OneContent
+pub mod KnotsFrom
 pub mod SignLaw
 pub mod StartLaw
 pub mod JoinLaw

@@ -4,7 +4,7 @@ use Rattle.std.specs.Prelude.{MatchBool, slice_get}
 use Rattle.rational.specs.Time.{Rational, Within, IsIn, closed, whole, ◌≤ʳ◌, ◌<ʳ◌, ◌≈◌}
 use Rattle.rational.specs.Places.{Place, begins, ends, After, Upto}
 use Rattle.rational.specs.Extended.{Extended, ◌<ᵉ◌, ◌≈ᵉ◌}
-use Rattle.rational.proofs.Order.{le_refl, le_of_same, ge_of_same, le_trans, le_or_lt, same_of_le, same_sym, same_trans}
+use Rattle.rational.proofs.Order.{le_refl, le_of_same, ge_of_same, le_trans, le_or_lt, same_of_le, same_sym}
 use Rattle.rational.proofs.ExtendedLemmas.{lt_of_lt_of_leᵉ, lt_of_le_of_ltᵉ}
 use Rattle.rational.proofs.AffineLemmas.{same_reflᵉ}
 use Rattle.rational.proofs.PlaceLemmas.{sides, not_both, after_same}
@@ -14,9 +14,9 @@ use Rattle.stl_syntax.specs.Formula.{implication, until, eventually, always, sin
 use Rattle.stl_syntax.specs.Trace.{Trace, start, stop}
 use Rattle.stl_syntax.specs.Truth.{Truth}
 use Rattle.stl_syntax.specs.Closeness.{AreClose}
-use Rattle.stl_syntax.specs.Knots.{Knot, Piece, Knots, ReadsFrom, Reads, AreKnotsFrom}
+use Rattle.stl_syntax.specs.Knots.{Knot, Piece, Knots, ReadsFrom, Reads}
 use Rattle.stl_syntax.specs.SupInf.{Robustness, margin_setting, zero_value}
-use Rattle.stl_syntax.specs.Verdicts.{IsTold, Describes, IsRobust, IsRobustInside, PiecesGoOn, TellsAfter, DescribesMargins}
+use Rattle.stl_syntax.specs.Verdicts.{IsTold, Describes, IsRobust, DescribesMargins}
 use Rattle.stl_syntax.specs.declared.items.Verdict.{Verdict}
 use Rattle.stl_syntax.proofs.KnotsLemmas.{reads_one}
 use Rattle.stl_syntax.proofs.LawProofs.{values_are_of_times}
@@ -26,6 +26,7 @@ use Rattle.online_nodes.proofs.StayLaw.{described}
 use Rattle.online_nodes.proofs.EmittedLaw.{describes_tiles}
 use Rattle.online_nodes.proofs.HeldLaw.{is_in}
 use Rattle.report.specs.Report.{nodes_for}
+use Rattle.agreeing.proofs.KnotsFrom.{TellFrom, go_on, all_tell, rise}
 use Rattle.agreeing.specs.Signs.{AgreeInSign, LinesAgreeInSign, RowsAgreeInSign, ReportsAgreeInSign}
 
 -- ---- verdicts
@@ -63,27 +64,14 @@ close_to_itself tr (once a b a_in b_in p) = close_to_itself tr p
 close_to_itself tr (historically a b a_in b_in p) = close_to_itself tr p
 
 module _ (p : Subformula) (tr : Trace) where
-  -- from knot k on the knots tell the robustness, up to the stop
-  abbrev TellFrom : Knot → List Piece → Type 0
-  TellFrom k [] = k.time ≈ stop tr
-  TellFrom k (q ∷ pieces) = IsRobustInside p tr k q × IsRobust p tr q.next × PiecesGoOn p tr (stop tr) k q pieces
-
-  go_on : (k : Knot) (q : Piece) (pieces : List Piece) → PiecesGoOn p tr (stop tr) k q pieces → TellFrom q.next pieces
-  go_on k q [] h = h
-  go_on k q (next ∷ pieces) h = (h.1, h.2, h.3)
-
-  rise : (k : Knot) (pieces : List Piece) → TellFrom k pieces → AreKnotsFrom k pieces
-  rise k [] h = tt
-  rise k (q ∷ pieces) h = (h.0.0, rise q.next pieces (go_on k q pieces h.2))
-
   -- at each time from k on they give the robustness
-  value_from : (k : Knot) (pieces : List Piece) → TellFrom k pieces → IsRobust p tr k → (t : Rational) → Within k.time (stop tr) t
+  value_from : (k : Knot) (pieces : List Piece) → TellFrom p tr (stop tr) k pieces → IsRobust p tr k → (t : Rational) → Within k.time (stop tr) t
       → (r : Extended) × ReadsFrom k pieces t r × Robustness p tr t r
   value_from k [] h is t w =
       let e : t ≈ k.time = same_of_le (le_trans w.below (ge_of_same h)) w.above in
       (k.value, (e, same_reflᵉ k.value), values_are_of_times p (margin_setting tr) k.time t k.value (same_sym e) is)
   value_from k (q ∷ pieces) h is t w =
-      by_begin (λ b. value_from q.next pieces (go_on k q pieces h.2) h.1 t (record { above = b; below = w.below })) (le_or_lt t k.time)
+      by_begin (λ b. value_from q.next pieces (go_on p tr (stop tr) k q pieces h.2) h.1 t (record { above = b; below = w.below })) (le_or_lt t k.time)
     where
       by_next : (q.next.time ≤ʳ t → (r : Extended) × ReadsFrom q.next pieces t r × Robustness p tr t r) → k.time <ʳ t
           → (q.next.time ≤ʳ t) ⊎ (t <ʳ q.next.time) → (r : Extended) × ReadsFrom k (q ∷ pieces) t r × Robustness p tr t r
@@ -97,16 +85,9 @@ module _ (p : Subformula) (tr : Trace) where
           (k.value, inl (e, same_reflᵉ k.value), values_are_of_times p (margin_setting tr) k.time t k.value (same_sym e) is)
       by_begin on (inr a) = by_next on a (le_or_lt q.next.time t)
 
-  all_tell : (first : Knot) (pieces : List Piece) → first.time ≈ start tr
-      → ((pieces ≡ []) × (start tr ≈ stop tr)) ⊎ TellsAfter p tr (stop tr) first pieces → TellFrom first pieces
-  all_tell first [] e (inl (none, same)) = same_trans e same
-  all_tell first [] e (inr tells) = absurd tells
-  all_tell first (q ∷ pieces) e (inl (none, same)) = absurd (let k = none in cc)
-  all_tell first (q ∷ pieces) e (inr tells) = tells
-
   module _ (knots : Knots) (margins : DescribesMargins knots p tr) where
-    tell : TellFrom knots.first knots.pieces
-    tell = all_tell knots.first knots.pieces margins.0 margins.2
+    tell : TellFrom p tr (stop tr) knots.first knots.pieces
+    tell = all_tell p tr (stop tr) (start tr) knots.first knots.pieces margins.0 margins.2
 
     -- at each time of the domain the knots give the robustness
     value_in : (t : Rational) → Within (start tr) (stop tr) t → (r : Extended) × Reads knots t r × Robustness p tr t r
@@ -116,8 +97,8 @@ module _ (p : Subformula) (tr : Trace) where
     -- and nothing else
     read_once : (t : Rational) (r v : Extended) → Reads knots t r → Reads knots t v → r ≈ᵉ v
     read_once t r v a b = record {
-      at_most = reads_one knots.first knots.pieces t r v (rise knots.first knots.pieces tell) a b;
-      at_least = reads_one knots.first knots.pieces t v r (rise knots.first knots.pieces tell) b a;
+      at_most = reads_one knots.first knots.pieces t r v (rise p tr (stop tr) knots.first knots.pieces tell) a b;
+      at_least = reads_one knots.first knots.pieces t v r (rise p tr (stop tr) knots.first knots.pieces tell) b a;
     }
 
     -- above 0 the formula holds, and below 0 it fails

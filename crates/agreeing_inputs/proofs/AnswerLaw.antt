@@ -1,8 +1,13 @@
 -- What several commands answer to one input is of one content, and what streams answer joins to it.
-use Rattle.std.proofs.Common.{◌≡◌, refl, ap, subst, ◌∙◌, ℕ, Bool, true, List, ◌++◌}
+use Rattle.std.proofs.Common.{◌≡◌, ◌⊎◌, inl, inr, refl, sym, ap, subst, ◌∙◌, ℕ, Bool, true, List, ◌++◌, arith}
+use Rattle.rational.specs.Time.{Within}
+use Rattle.rational.proofs.Order.{le_refl}
 use Rattle.stl_syntax.specs.Formula.{Formula, root}
 use Rattle.stl_syntax.specs.Trace.{Trace, start, stop}
 use Rattle.stl_syntax.specs.Texts.{start_line}
+use Rattle.stl_syntax.proofs.RowsLemmas.{first_to_last}
+use Rattle.values_exist.proofs.LawProofs.{truth_is_decided}
+use Rattle.trace_reader.specs.TraceText.{IsTraceText}
 use Rattle.trace_reader.proofs.TraceRefusalLaw.{Trace-unique}
 use Rattle.trace_stream.specs.CaseReader.{IsWhole}
 use Rattle.report.specs.Report.{Command, check, robust, explain, json, table, Out, nodes_for}
@@ -13,14 +18,17 @@ use Rattle.agreeing.specs.Joined.{AreJoined}
 use Rattle.agreeing.proofs.OneContent.{json_tells_all}
 use Rattle.agreeing.proofs.JoinLaw.{covers_join}
 use Rattle.workbench.specs.InputFaults.{whole_limits}
+use Rattle.workbench.specs.Answers.{HoldsAtStart}
 use Rattle.workbench.specs.Owed.{at_end as at_end_owed}
-use Rattle.workbench.specs.Ended.{IsAnsweredWhole}
+use Rattle.workbench.specs.Requests.{Stream, verdicts, early, margins}
+use Rattle.workbench.specs.Ended.{TellsTruth, IsAnsweredWhole, IsAnsweredByRow}
 use Rattle.workbench.specs.SureLines.{IsCoverText}
 use Rattle.workbench.specs.SureMargins.{IsMarginCover}
 use Rattle.workbench.proofs.OwedLaws.{explain_owed_once, json_owed_once}
 use Rattle.workbench.proofs.SureLines.{watch_text}
 use Rattle.workbench.proofs.SureMargins.{margin_text}
-use Rattle.agreeing_inputs.specs.Answers.{AnswersHaveOneContent, WatchJoinsToCheck, RwatchJoinsToRobust}
+use Rattle.agreeing_inputs.specs.Answers.{AnswersHaveOneContent, WatchJoinsToCheck, RwatchJoinsToRobust, JudgesStart, JudgesStartByRow}
+use Rattle.agreeing_inputs.specs.Answers.{IsOneStatus, AnswersHaveOneStatus}
 use Rattle.agreeing_inputs.proofs.PartsLaw.{parts_join}
 
 -- the bytes are those of one trace
@@ -93,3 +101,38 @@ rwatch_joins_to_robust f bytes watched measured status other a b =
       lines,
       parts_join (root (nodes_for f b.tr)) b.tr (stop b.tr) (start b.tr) m.parts knots c.covers c.told described,
     )
+
+-- a status that tells the truth at the start is one
+told_once : (f : Formula) (tr : Trace) (status other : ℕ) → TellsTruth f tr status → TellsTruth f tr other → status ≡ other
+told_once f tr status other (inl a) (inl b) = a.0 ∙ sym b.0
+told_once f tr status other (inl a) (inr b) = absurd (b.1 a.1)
+told_once f tr status other (inr a) (inl b) = absurd (a.1 b.1)
+told_once f tr status other (inr a) (inr b) = a.0 ∙ sym b.0
+
+-- one status
+pub answers_have_one_status : AnswersHaveOneStatus
+answers_have_one_status f bytes tr t = by_truth (truth_is_decided (root (nodes_for f tr)) tr (start tr) at_start)
+  where
+    at_start : Within (start tr) (stop tr) (start tr)
+    at_start = record { above = le_refl (start tr); below = let h = first_to_last tr t.trace.text.rising in record { le = omega arith } }
+
+    moved : (u : Trace) (status : ℕ) → IsTraceText bytes f.scale u → TellsTruth f u status → TellsTruth f tr status
+    moved u status text told = subst (λ (x : Trace). TellsTruth f x status) (Trace-unique bytes f.scale u tr text t.trace.text) told
+
+    whole : (status : ℕ) → TellsTruth f tr status → (command : Command) (text : List ℕ) (other : ℕ) → JudgesStart command
+        → IsAnsweredWhole command f bytes other text → other ≡ status
+    whole status told check text other judges a = told_once f tr other status (moved a.tr other a.trace.trace.text a.verdict) told
+    whole status told robust text other judges a = absurd judges
+    whole status told explain text other judges a = told_once f tr other status (moved a.tr other a.trace.trace.text a.verdict) told
+    whole status told json text other judges a = told_once f tr other status (moved a.tr other a.trace.trace.text a.verdict) told
+    whole status told table text other judges a = absurd judges
+
+    by_row : (status : ℕ) → TellsTruth f tr status → (stream : Stream) (text : List ℕ) (other : ℕ) → JudgesStartByRow stream
+        → IsAnsweredByRow stream f bytes other text → other ≡ status
+    by_row status told verdicts text other judges a = told_once f tr other status (moved a.tr other a.trace.trace.text a.verdict) told
+    by_row status told early text other judges a = told_once f tr other status (moved a.tr other a.trace.trace.text a.verdict) told
+    by_row status told margins text other judges a = absurd judges
+
+    by_truth : HoldsAtStart f tr ⊎ (¬ HoldsAtStart f tr) → (status : ℕ) × TellsTruth f tr status × IsOneStatus f bytes status
+    by_truth (inl h) = (0, inl (refl, h), record { whole = whole 0 (inl (refl, h)); by_row = by_row 0 (inl (refl, h)) })
+    by_truth (inr h) = (1, inr (refl, h), record { whole = whole 1 (inr (refl, h)); by_row = by_row 1 (inr (refl, h)) })

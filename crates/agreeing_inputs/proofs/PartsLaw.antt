@@ -15,11 +15,12 @@ use Rattle.stl_syntax.specs.Trace.{Trace}
 use Rattle.stl_syntax.specs.Formula.{Subformula}
 use Rattle.stl_syntax.specs.Knots.{Knot, Piece, Knots, IsInside}
 use Rattle.stl_syntax.specs.SupInf.{Robustness, margin_setting}
-use Rattle.stl_syntax.specs.Verdicts.{IsRobust, IsRobustInside, PiecesGoOn, TellsAfter, TellsClosed}
+use Rattle.stl_syntax.specs.Verdicts.{IsRobustInside, TellsClosed}
 use Rattle.stl_syntax.proofs.LawProofs.{values_are_of_times, one_value}
 use Rattle.online_nodes.specs.MarginEdges.{Part, point, gap}
 use Rattle.workbench.specs.SureMargins.{AreTrueParts, AreInTurn, CoverParts}
 use Rattle.workbench.proofs.MarginTruth.{one_inside}
+use Rattle.agreeing.proofs.KnotsFrom.{TellFrom, go_on, all_tell, up_to_end}
 use Rattle.agreeing_inputs.specs.JoinedParts.{AllLieInside, AreJoinedAfter, AreJoinedParts}
 
 -- parts in turn from another pair of the time
@@ -71,21 +72,8 @@ module _ (p : Subformula) (tr : Trace) where
       le_trans (ge_of_same h.0) (le_trans (le_of_lt told.0.0) (le_trans (le_of_same h.1) (lead_on t to parts h.2 told.1.1)))
 
   module _ (to : Rational) where
-    -- from knot k on the knots tell the robustness up to the end
-    abbrev TellFrom : Knot → List Piece → Type 0
-    TellFrom k [] = k.time ≈ to
-    TellFrom k (q ∷ pieces) = IsRobustInside p tr k q × IsRobust p tr q.next × PiecesGoOn p tr to k q pieces
-
-    go_on : (k : Knot) (q : Piece) (pieces : List Piece) → PiecesGoOn p tr to k q pieces → TellFrom q.next pieces
-    go_on k q [] h = h
-    go_on k q (next ∷ pieces) h = (h.1, h.2, h.3)
-
-    up_to_end : (k : Knot) (pieces : List Piece) → TellFrom k pieces → k.time ≤ʳ to
-    up_to_end k [] h = le_of_same h
-    up_to_end k (q ∷ pieces) h = le_trans (le_of_lt h.0.0) (up_to_end q.next pieces (go_on k q pieces h.2))
-
     -- a knot that is needed does not lie inside a gap
-    not_in_gap : (k l : Knot) (q b : Piece) (pieces : List Piece) → TellFrom k (q ∷ pieces) → IsRobustInside p tr l b → k.time ≤ʳ l.time
+    not_in_gap : (k l : Knot) (q b : Piece) (pieces : List Piece) → TellFrom p tr to k (q ∷ pieces) → IsRobustInside p tr l b → k.time ≤ʳ l.time
         → l.time <ʳ q.next.time → b.next.time ≤ʳ to → ¬ (q.next.time <ʳ b.next.time)
     not_in_gap k l q b [] h i from inside end past = not_lt_of_le (le_trans end (ge_of_same h.2)) past
     not_in_gap k l q b (c ∷ pieces) h i from inside end past = h.2.0 (record {
@@ -172,10 +160,11 @@ module _ (p : Subformula) (tr : Trace) where
         inside_alike k q s r x (one_inside l b s r x i.0 reads j)
         (read_inside k q h s x (lt_of_le_of_lt from reads.after) (lt_of_lt_of_le reads.before end) told)
 
-    split : (k : Knot) (q : Piece) (pieces : List Piece) (at : Rational) (parts : List Part) → TellFrom k (q ∷ pieces) → k.time ≤ʳ at → at <ʳ q.next.time
+    split : (k : Knot) (q : Piece) (pieces : List Piece) (at : Rational) (parts : List Part) → TellFrom p tr to k (q ∷ pieces) → k.time ≤ʳ at
+        → at <ʳ q.next.time
         → AreInTurn at to parts → AreTrueParts p tr parts → Split k q at parts
     split k q pieces at [] h from before turn told =
-        absurd (lt_irrefl (lt_of_lt_of_le before (le_trans (up_to_end q.next pieces (go_on k q pieces h.2)) (ge_of_same turn))))
+        absurd (lt_irrefl (lt_of_lt_of_le before (le_trans (up_to_end p tr to q.next pieces (go_on p tr to k q pieces h.2)) (ge_of_same turn))))
     split k q pieces at (point t v ∷ parts) h from before turn told = absurd turn
     split k q pieces at (gap a b v w ∷ []) h from before turn told = absurd turn
     split k q pieces at (gap a b v w ∷ (gap x y u z ∷ parts)) h from before turn told = absurd turn
@@ -229,7 +218,7 @@ module _ (p : Subformula) (tr : Trace) where
         by_time on (inr (inr l)) = absurd (not_in_gap k (as_knot a v) q (as_piece v w b) pieces h told.0 begin (lt_of_le_of_lt (le_of_same turn.0) before)
             (le_trans (le_of_same turn.1) (lead_on t to parts turn.2 told.1.1)) (lt_of_lt_of_le l (ge_of_same turn.1)))
 
-    joined_after : (k : Knot) (pieces : List Piece) (at : Rational) (parts : List Part) → TellFrom k pieces → at ≈ k.time → AreInTurn at to parts
+    joined_after : (k : Knot) (pieces : List Piece) (at : Rational) (parts : List Part) → TellFrom p tr to k pieces → at ≈ k.time → AreInTurn at to parts
         → AreTrueParts p tr parts → AreJoinedAfter k pieces parts
     joined_after k [] at [] h e turn told = refl
     joined_after k [] at (point t v ∷ parts) h e turn told = absurd turn
@@ -249,15 +238,8 @@ module _ (p : Subformula) (tr : Trace) where
           s.inside,
           s.time,
           s.value,
-          joined_after q.next pieces s.t s.others (go_on k q pieces h.2) s.time s.rest_leads s.rest_told,
+          joined_after q.next pieces s.t s.others (go_on p tr to k q pieces h.2) s.time s.rest_leads s.rest_told,
         )
-
-    from_first : (from : Rational) (k : Knot) (pieces : List Piece) → k.time ≈ from → ((pieces ≡ []) × (from ≈ to)) ⊎ TellsAfter p tr to k pieces
-        → TellFrom k pieces
-    from_first from k [] e (inl h) = same_trans e h.1
-    from_first from k [] e (inr h) = absurd h
-    from_first from k (q ∷ pieces) e (inl h) = absurd (let x = h.0 in cc)
-    from_first from k (q ∷ pieces) e (inr h) = h
 
     -- parts that cover a stretch and tell the robustness, joined, are the knots that tell it there
     pub parts_join : (from : Rational) (parts : List Part) (knots : Knots) → CoverParts from to parts → AreTrueParts p tr parts
@@ -268,5 +250,5 @@ module _ (p : Subformula) (tr : Trace) where
         let e = same_trans c.0 (same_sym h.0) in (
           e,
           one knots.first.time v knots.first.value (values_are_of_times p (margin_setting tr) t knots.first.time v e told.0) h.1,
-          joined_after knots.first knots.pieces t parts (from_first from knots.first knots.pieces h.0 h.2) e c.1 told.1,
+          joined_after knots.first knots.pieces t parts (all_tell p tr to from knots.first knots.pieces h.0 h.2) e c.1 told.1,
         )
