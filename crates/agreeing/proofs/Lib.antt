@@ -5,6 +5,6 @@ pub mod SignLaw
 pub mod StartLaw
 pub mod JoinLaw
 pub mod PlayOn
-pub mod ShortRuns
+pub mod MarginsSettled
 pub mod WideLaw
 pub mod WideInput

@@ -26,7 +26,7 @@ use Rattle.trace_stream.specs.Wides.{IsNeededByThen, IsWideRows, at_row, at_end}
 use Rattle.trace_stream.proofs.Refused.{stream_scaled}
 use Rattle.agreeing.specs.Wides.{HasCause, StreamedWidesAreWhole}
 use Rattle.agreeing.proofs.PlayOn.{StaysSame, part_on, value_within, limit_within, end_part_on, ahead_has_time, behind_has_time, shifted_later}
-use Rattle.agreeing.proofs.ShortRuns.{to, end, short, long, further, settled}
+use Rattle.agreeing.proofs.MarginsSettled.{to, end, short, long, further, settled}
 
 -- ---- nodes that are streamed
 
