@@ -21,11 +21,11 @@ use Rattle.session_mux.proofs.TextLemmas.{EndsInFeed, alone_ends, texts_joined}
 use Rattle.workbench.specs.Requests.{Request, has_input, Asks, stream, sessions, verdicts}
 use Rattle.workbench.specs.Ended.{IsAnswered, faulty, answered, wide, overfull}
 use Rattle.workbench.specs.Running.{IsBegun, IsEnd, by_itself, unread, unwritten, no_memory, IsReadOut, IsRun}
-use Rattle.workbench.proofs.BenchesHear.{hears_own_stream, read_names}
+use Rattle.workbench.proofs.BenchesHear.{hears_own_stream, hears_the_same, read_names}
 use Rattle.workbench.proofs.Completing.{rest_of}
 use Rattle.workbench.proofs.OneRequest.{one_request}
 use Rattle.run_laws.specs.OneAnswer.{IsOwn, IsFront}
-use Rattle.run_laws.specs.Crowd.{heard_whole, HearsItsOwnRun, HearsAFront}
+use Rattle.run_laws.specs.Crowd.{heard_whole, HearsItsOwnRun, OthersChangeNothing, HearsAFront}
 use Rattle.run_laws.proofs.Crowd.{watch_alone, alone_goes_on}
 use Rattle.run_laws.proofs.Endings.{IsEnding, at_fault, answer, too_wide, too_full}
 use Rattle.run_laws.proofs.FirstLines.{before_once, before_goes_on, own_grows, own_stays}
@@ -49,14 +49,26 @@ zero_answered {request} {bytes} {text = text} e (answer h) = subst (λ n. IsAnsw
 zero_answered e (too_wide read left ended i den k at h) = absurd (omega (arith, e))
 zero_answered e (too_full count h) = absurd (omega (arith, e))
 
+own_zero : IsOwn 0
+own_zero = ((λ k. omega (arith, k)), (λ k. omega (arith, k)), (λ k. omega (arith, k)))
+
+-- a run of `mux` that ended with 0 answered
+crowd_answered : {words : List (List ℕ)} {f : Formula} {bytes : List ℕ} {i : Drained} {o e : Filled} → Asks words (sessions f) → i.before ≡ Some bytes
+    → (a : IsRun words i o e 0) → IsAnswered (sessions f) bytes true 0 a.text
+crowd_answered {f = f} {bytes = bytes} ask held a = zero_answered refl (asked_ending (sessions f) bytes ask own_zero held a refl)
+
 -- a bench hears its own run
 pub hears_its_own_run : HearsItsOwnRun
 hears_its_own_run words alone f bytes seen t i j o e p g other ask also held are among source a b own_end =
-    let own_zero : IsOwn 0 = ((λ k. omega (arith, k)), (λ k. omega (arith, k)), (λ k. omega (arith, k))) in
-    let crowd = zero_answered refl (asked_ending (sessions f) bytes ask own_zero held a refl) in
-    let (said, alone_text, heard_is) = hears_own_stream ask.text f bytes a.text 0 ask.is crowd seen are t among in
+    let (said, alone_text, heard_is) = hears_own_stream ask.text f bytes a.text 0 ask.is (crowd_answered ask held a) seen are t among in
     let watched = watch_alone (asked_ending (stream verdicts f) (own seen t) also own_end source b refl) in
     heard_is ∙ ap texts (text_alone_once f (own seen t) true said (b.text ++ b.line) alone_text watched)
+
+-- whatever others send
+pub others_change_nothing : OthersChangeNothing
+others_change_nothing words asked f bytes also seen others t i j o e p g ask ask_too held are among source are_too among_too same a b =
+    hears_the_same ask.is (record { status = 0; answered = crowd_answered ask held a; seen = seen; are = are; among = among })
+    (record { status = 0; answered = crowd_answered ask_too source b; seen = others; are = are_too; among = among_too }) same
 
 -- ---- tags
 

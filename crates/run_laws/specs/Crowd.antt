@@ -7,6 +7,7 @@ use Rattle.trace_reader.specs.TraceText.{Line, lines}
 use Rattle.session_mux.specs.Hearing.{heard, says_to}
 use Rattle.session_mux.specs.Inputs.{AreLinesBefore}
 use Rattle.session_mux.specs.Saying.{texts}
+use Rattle.session_mux.specs.SessionsAlone.{lines_of}
 use Rattle.workbench.specs.Requests.{Asks, stream, sessions, verdicts}
 use Rattle.workbench.specs.Running.{IsRun}
 use Rattle.workbench.specs.Sessions.{Tagged, AreTagged, tags_after, own}
@@ -20,6 +21,15 @@ HearsItsOwnRun =
     → Asks words (sessions f) → Asks alone (stream verdicts f)
     → i.before ≡ Some bytes → AreTagged (lines true bytes) seen → is_among t (tags_after [] seen) ≡ true → j.before ≡ Some (own seen t)
     → (a : IsRun words i o e 0) → (b : IsRun alone j p g other) → IsOwn other → heard t a.text ≡ texts (b.text ++ b.line)
+
+-- two runs of `mux` that ended with 0 tell a bench the same whose own lines are the same, whatever lines of others came between
+abbrev pub OthersChangeNothing : Type 0
+OthersChangeNothing =
+    (words asked : List (List ℕ)) (f : Formula) (bytes also : List ℕ) (seen others : List Tagged) (t : List ℕ) (i j : Drained) (o e p g : Filled)
+    → Asks words (sessions f) → Asks asked (sessions f)
+    → i.before ≡ Some bytes → AreTagged (lines true bytes) seen → is_among t (tags_after [] seen) ≡ true
+    → j.before ≡ Some also → AreTagged (lines true also) others → is_among t (tags_after [] others) ≡ true → lines_of t seen ≡ lines_of t others
+    → (a : IsRun words i o e 0) → (b : IsRun asked j p g 0) → heard t a.text ≡ heard t b.text
 
 -- the lines of a text that have their LF
 abbrev pub whole_texts : List ℕ → List (List ℕ)

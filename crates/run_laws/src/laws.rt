@@ -1,5 +1,5 @@
 //! Laws of runs. Each is the contract of a call that does nothing, so that the gate proves it.
-ghost use Rattle.run_laws.specs.Crowd.{HearsAFront, HearsItsOwnRun};
+ghost use Rattle.run_laws.specs.Crowd.{HearsAFront, HearsItsOwnRun, OthersChangeNothing};
 ghost use Rattle.run_laws.specs.OneAnswer.{BesideAWide, FrontOfMore, FrontOfTheAnswer, OneAnswer, OneAnswerToWords};
 
 /// It does not matter how one asked: two runs whose words ask for one request, over inputs with the same bytes where it reads any, have the
@@ -26,8 +26,10 @@ pub fn beside_a_refusal_for_a_denominator()
 
 /// What a bench hears in a crowd is its own run: of what a run of `mux` wrote that ended with 0, the lines that begin with a tag and a space,
 /// answers to queries left out, are those that a run of `watch` for the same formula wrote over the bytes of the tag's own lines, with the
-/// line that it told where it ended with 4. However the run of `mux` ended, of its whole lines they are the first of these.
+/// line that it told where it ended with 4. So two runs of `mux` that ended with 0 tell a bench the same whose own lines are the same. However
+/// a run of `mux` ended, of its whole lines the bench hears the first of those of its own run.
 pub fn a_bench_hears_its_own_run()
     ensures whole { HearsItsOwnRun }
+    ensures others { OthersChangeNothing }
     ensures front { HearsAFront }
 {}
