@@ -46,8 +46,11 @@ module _ (tr : Trace) (ok : IsTrace tr) (range : AreInRange tr.rows) where
       trees_calm A B (trees ++ new ∷ []) nodes (All-append IsCalm trees (new ∷ []) h (All-cons IsCalm new [] is (All-nil IsCalm)))
       (All-tail IsLeafInLimits n nodes l)
 
-  -- so are those of the root
-  pub root_calm : (A B : ℕ) (nodes : List Node) → All IsLeafInLimits nodes → IsCalm (root (map (scaled_node A B) nodes))
+  -- so are those of each subformula
+  pub subformula_calm : (A B : ℕ) (nodes : List Node) (i : ℕ) → All IsLeafInLimits nodes → IsCalm (subformula (map (scaled_node A B) nodes) i)
   unfolding subformula
-  root_calm A B nodes l =
-      at_calm (trees_after [] (map (scaled_node A B) nodes)) (trees_calm A B [] nodes (All-nil IsCalm) l) (length (map (scaled_node A B) nodes) - 1)
+  subformula_calm A B nodes i l = at_calm (trees_after [] (map (scaled_node A B) nodes)) (trees_calm A B [] nodes (All-nil IsCalm) l) i
+
+  -- and of the root
+  pub root_calm : (A B : ℕ) (nodes : List Node) → All IsLeafInLimits nodes → IsCalm (root (map (scaled_node A B) nodes))
+  root_calm A B nodes l = subformula_calm A B nodes (length (map (scaled_node A B) nodes) - 1) l

@@ -28,7 +28,8 @@ use Rattle.unit_laws.proofs.VerdictsBack.{HasEnds, verdicts_back, describe_back,
 
 -- the lines stay
 module _ (k : ℕ) (kp : 0 < 10 ^ k) (scale other : Scale) (is : other.time ≡ scale.time + k) where
-  end_text : (t : Rational) (a : HasFrac (unclock (10 ^ k) (ahead 0) kp t)) (text : List ℕ) → IsNumberText other.time t text
+  -- a time's text in smaller ticks is that of the number at which it is shown
+  pub end_text : (t : Rational) (a : HasFrac (unclock (10 ^ k) (ahead 0) kp t)) (text : List ℕ) → IsNumberText other.time t text
       → IsNumberText scale.time (value a.frac) text
   end_text t a text h =
       number_of_same scale.time (unclock (10 ^ k) (ahead 0) kp t) (value a.frac) text (same_sym a.same)

@@ -21,7 +21,7 @@ use Rattle.stl_syntax.proofs.ScalingLemmas.{scaled_at}
 use Rattle.stl_syntax.proofs.TruthLemmas.{Truth-same}
 use Rattle.unit_laws.proofs.NearTimes.{Move}
 use Rattle.unit_laws.proofs.Multiples.{stretch, shrink, above-times, below-times}
-use Rattle.unit_laws.proofs.Clocks.{clock, unclock, clock_lt, clock_same, same_of_clock, clock-unclock, unclock_lt}
+use Rattle.unit_laws.proofs.Clocks.{clock, unclock, clock_lt, clock_same, same_of_clock, clock-unclock, unclock-clock, unclock_lt, unclock_same}
 use Rattle.unit_laws.proofs.Recounts.{IsRecount}
 use Rattle.unit_laws.proofs.FinerTrees.{finer_tree, minus_times, subformula_by}
 use Rattle.unit_laws.proofs.FinerTruth.{AreEnds, ends, inside_by, inside_back, truth_by}
@@ -114,6 +114,16 @@ module _ (K : ℕ) (o : Move) (kp : 0 < K) where
   among_by (u ∷ times) t (inl e) = inl (same_trans (same_sym (clock-unclock K o kp t)) (clock_same K o e))
   among_by (u ∷ times) t (inr h) = inr (among_by times t h)
 
+  unrising_by : (times : List Rational) → AreRisingTimes times → AreRisingTimes (map (unclock K o kp) times)
+  unrising_by [] h = tt
+  unrising_by (t ∷ []) h = tt
+  unrising_by (t ∷ u ∷ times) h = (unclock_lt K o kp h.0, unrising_by (u ∷ times) h.1)
+
+  unamong_by : (times : List Rational) (t : Rational) → IsAmong times (clock K o t) → IsAmong (map (unclock K o kp) times) t
+  unamong_by [] t h = h
+  unamong_by (u ∷ times) t (inl e) = inl (same_trans (same_sym (unclock-clock K o kp t)) (unclock_same K o kp e))
+  unamong_by (u ∷ times) t (inr h) = inr (unamong_by times t h)
+
 module _ (K : ℕ) (o : Move) (M : ℕ) (kp : 0 < K) (mp : 0 < M) {tr ur : Trace} (c : IsRecount K o M tr ur) where
   the_ends : AreEnds K o (start tr) (stop tr) (start ur) (stop ur)
   the_ends = ends K o M kp mp c
@@ -172,7 +182,7 @@ module _ (K : ℕ) (o : Move) (M : ℕ) (kp : 0 < K) (mp : 0 < M) {tr ur : Trace
     many = length-map nodes (scaled_node K M)
 
     -- a cut time is one by the clock
-    cut_by : {i : ℕ} {t : Rational} → IsCut nodes tr i t → IsCut fine_nodes ur i (clock K o t)
+    pub cut_by : {i : ℕ} {t : Rational} → IsCut nodes tr i t → IsCut fine_nodes ur i (clock K o t)
     cut_by (root_start e s) = root_start (e ∙ sym many) (same_trans (clock_same K o s) (same_sym c.starts))
     cut_by (first l s) = first (omega (arith, l, many)) (same_trans (clock_same K o s) (same_sym c.starts))
     cut_by (last l s) = last (omega (arith, l, many)) (same_trans (clock_same K o s) (same_sym c.stops))
@@ -190,7 +200,7 @@ module _ (K : ℕ) (o : Move) (M : ℕ) (kp : 0 < K) (mp : 0 < M) {tr ur : Trace
     at_stop t s = same_of_clock K o kp (same_trans (clock-unclock K o kp t) (same_trans s c.stops))
 
     -- and the other way round
-    cut_back : {i : ℕ} {t : Rational} → IsCut fine_nodes ur i t → IsCut nodes tr i (unclock K o kp t)
+    pub cut_back : {i : ℕ} {t : Rational} → IsCut fine_nodes ur i t → IsCut nodes tr i (unclock K o kp t)
     cut_back {t = t} (root_start e s) = root_start (e ∙ many) (at_start t s)
     cut_back {t = t} (first l s) = first (omega (arith, l, many)) (at_start t s)
     cut_back {t = t} (last l s) = last (omega (arith, l, many)) (at_stop t s)
@@ -217,4 +227,16 @@ module _ (K : ℕ) (o : Move) (M : ℕ) (kp : 0 < K) (mp : 0 < M) {tr ur : Trace
       rising = rising_by K o kp times h.rising;
       sound = all_cut_by i times h.sound;
       complete = λ t cut. among_by K o kp times t (h.complete (unclock K o kp t) (cut_back cut));
+    }
+
+    all_cut_back : (i : ℕ) (times : List Rational) → AreAllCut fine_nodes ur i times → AreAllCut nodes tr i (map (unclock K o kp) times)
+    all_cut_back i [] h = tt
+    all_cut_back i (t ∷ times) h = (cut_back h.0, all_cut_back i times h.1)
+
+    -- and the other way round
+    pub cuts_back : (i : ℕ) (times : List Rational) → AreCuts fine_nodes ur i times → AreCuts nodes tr i (map (unclock K o kp) times)
+    cuts_back i times h = record {
+      rising = unrising_by K o kp times h.rising;
+      sound = all_cut_back i times h.sound;
+      complete = λ t cut. unamong_by K o kp times t (h.complete (clock K o t) (cut_by cut));
     }

@@ -78,7 +78,8 @@ module _ (K : ℕ) (o : Move) (kp : 0 < K) where
 
 module _ (k : ℕ) (p : 0 < 10 ^ k) (scale other : Scale) (is : other.time ≡ scale.time + k) (f : Formula) where
   -- the lines of items in smaller ticks have the same text
-  pub item_texts_by : (items : List Item) (text : List ℕ) → AreItemLines scale f items text → AreItemLines other f (map (item_by (10 ^ k) (ahead 0) p) items) text
+  pub item_texts_by : (items : List Item) (text : List ℕ) → AreItemLines scale f items text
+      → AreItemLines other f (map (item_by (10 ^ k) (ahead 0) p) items) text
   item_texts_by [] text h = h
   item_texts_by (e ∷ items) text (a, at, (name, on, later, named, span, rest, same)) =
       (a, at, (name, on, later, named, span_text k p scale other is e.on on span, item_texts_by items later rest, same))

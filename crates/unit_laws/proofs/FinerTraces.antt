@@ -37,7 +37,8 @@ less_by K o p t u v e = by_test (less t u) refl
 
 -- a line that is K times as wide and M times as high, and moved by o
 pub at_by : (f g : Line) (K : ℕ) (o : Move) (M : ℕ) (t : Rational) → g.base_up ≡ K * (M * f.base_up) + M * f.rise_down * o.up + M * f.rise_up * o.down
-    → g.base_down ≡ K * (M * f.base_down) + M * f.rise_up * o.up + M * f.rise_down * o.down → g.rise_up ≡ M * f.rise_up → g.rise_down ≡ M * f.rise_down → g.run ≡ K * f.run
+    → g.base_down ≡ K * (M * f.base_down) + M * f.rise_up * o.up + M * f.rise_down * o.down
+    → g.rise_up ≡ M * f.rise_up → g.rise_down ≡ M * f.rise_down → g.run ≡ K * f.run
     → at g (clock K o t) ≈ stretch M (at f t)
 at_by f g K o M t a b c e h = record { same = rw (a, b, c, e, h) (omega arith) }
 

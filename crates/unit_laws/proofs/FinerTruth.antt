@@ -17,25 +17,29 @@ use Rattle.unit_laws.proofs.FinerTrees.{finer_tree}
 use Rattle.unit_laws.proofs.Recounts.{IsRecount, holds_by}
 
 -- what begins a window begins it by the clock
-pub begins_by : (K : ℕ) (o : Move) → 0 < K → (a : ℕ) (i : Bool) (t u : Rational) → Precedes i (later t a) u → Precedes i (later (clock K o t) (K * a)) (clock K o u)
+pub begins_by : (K : ℕ) (o : Move) → 0 < K → (a : ℕ) (i : Bool) (t u : Rational) → Precedes i (later t a) u
+    → Precedes i (later (clock K o t) (K * a)) (clock K o u)
 begins_by K o p a i t u h =
     precedes_after i (later (clock K o t) (K * a)) (clock K o (later t a)) (clock K o u) (le_of_same (later_clock K o a t))
     (precedes_clock K o p i (later t a) u h)
 
 -- and what ends it
-pub ends_by : (K : ℕ) (o : Move) → 0 < K → (b : ℕ) (i : Bool) (t u : Rational) → Precedes i u (later t b) → Precedes i (clock K o u) (later (clock K o t) (K * b))
+pub ends_by : (K : ℕ) (o : Move) → 0 < K → (b : ℕ) (i : Bool) (t u : Rational) → Precedes i u (later t b)
+    → Precedes i (clock K o u) (later (clock K o t) (K * b))
 ends_by K o p b i t u h =
     precedes_before i (clock K o u) (clock K o (later t b)) (later (clock K o t) (K * b)) (precedes_clock K o p i u (later t b) h)
     (ge_of_same (later_clock K o b t))
 
 -- and the other way round
-pub begins_back : (K : ℕ) (o : Move) → 0 < K → (a : ℕ) (i : Bool) (t u : Rational) → Precedes i (later (clock K o t) (K * a)) (clock K o u) → Precedes i (later t a) u
+pub begins_back : (K : ℕ) (o : Move) → 0 < K → (a : ℕ) (i : Bool) (t u : Rational) → Precedes i (later (clock K o t) (K * a)) (clock K o u)
+    → Precedes i (later t a) u
 begins_back K o p a i t u h =
     precedes_of_clock K o p i (later t a) u
     (precedes_after i (clock K o (later t a)) (later (clock K o t) (K * a)) (clock K o u) (ge_of_same (later_clock K o a t)) h)
 
 -- likewise
-pub ends_back : (K : ℕ) (o : Move) → 0 < K → (b : ℕ) (i : Bool) (t u : Rational) → Precedes i (clock K o u) (later (clock K o t) (K * b)) → Precedes i u (later t b)
+pub ends_back : (K : ℕ) (o : Move) → 0 < K → (b : ℕ) (i : Bool) (t u : Rational) → Precedes i (clock K o u) (later (clock K o t) (K * b))
+    → Precedes i u (later t b)
 ends_back K o p b i t u h =
     precedes_of_clock K o p i u (later t b)
     (precedes_before i (clock K o u) (later (clock K o t) (K * b)) (clock K o (later t b)) h (le_of_same (later_clock K o b t)))

@@ -228,7 +228,8 @@ module _ (k : ℕ) (p : 0 < 10 ^ k) (scale other : Scale) (is : other.time ≡ s
   end_text : (f : Frac) (text : List ℕ) → IsNumberText scale.time (value f) text → IsNumberText other.time (value (frac_of (10 ^ k) (ahead 0) p f)) text
   end_text f text h =
       subst (λ d. IsNumberText d (value (frac_of (10 ^ k) (ahead 0) p f)) text) (sym is)
-      (number_of_same (scale.time + k) (clock (10 ^ k) (ahead 0) (value f)) (value (frac_of (10 ^ k) (ahead 0) p f)) text (same_sym (frac_same (10 ^ k) (ahead 0) p f))
+      (number_of_same (scale.time + k) (clock (10 ^ k) (ahead 0) (value f)) (value (frac_of (10 ^ k) (ahead 0) p f)) text
+      (same_sym (frac_same (10 ^ k) (ahead 0) p f))
       (time_text_by scale.time k (value f) text h))
 
   -- a span's text is that of the span in smaller ticks

@@ -46,3 +46,6 @@ pub mod ReadRanges
 pub mod OneTexts
 pub mod UnitExamples
 pub mod OriginTexts
+pub mod CutFractions
+pub mod ShownItems
+pub mod ExplainBack

@@ -123,7 +123,8 @@ value_one infinity = same_reflᵉ infinity
 pub truth_moves : TruthMoves
 truth_moves p tr d t ok =
     let ur = delayed d tr in
-    let s = subst (λ q. Truth p tr t ↔ Truth q ur (clock 1 (ahead d) t)) (same_tree p) (truth_by 1 (ahead d) 1 some_one some_one (delayed_counts d tr ok) p t) in
+    let s = subst (λ q. Truth p tr t ↔ Truth q ur (clock 1 (ahead d) t)) (same_tree p)
+    (truth_by 1 (ahead d) 1 some_one some_one (delayed_counts d tr ok) p t) in
     let e = clock_later d t in
     (λ h. Truth-same p ur e (s.0 h), λ h. s.1 (Truth-same p ur (same_sym e) h))
 

@@ -4,7 +4,7 @@ use Prim.Native.Nat.{◌∣◌}
 use Rattle.std.proofs.Math.Nat.{dvd-sub, dvd-mul_left_of_dvd}
 use Rattle.std.proofs.lemmas.Nat.{div-add-mod', mod_below}
 use Rattle.std.proofs.lemmas.Nat.Gcd.{le_of_dvd}
-use Rattle.rational.specs.Rational.{Rational, ◌≈◌, part_above, part_below, ratio, whole}
+use Rattle.rational.specs.Rational.{Rational, ◌≈◌, part_above, part_below, mixed, ratio, whole}
 use Rattle.rational.specs.Time.{IsLowest, HasDenominator}
 use Rattle.rational.proofs.Order.{same_sym, same_trans}
 use Rattle.rational.proofs.Mixed.{parts}
@@ -61,7 +61,8 @@ has_frac t d (negsuc n, low, e) small =
         small = small;
         lowest = turned_lowest n d (n / d) (n % d) (d - 1 - n % d) turn low;
       };
-      same = same_trans (record { same = omega (arith, ap (λ z. z * d) turn) }) (same_sym e);
+      same = same_trans {a = mixed (negsuc (n / d)) (d - 1 - n % d) d low.positive} {b = ratio (negsuc n) d low.positive}
+          (record { same = omega (arith, ap (λ z. z * d) turn) }) (same_sym e);
     }
 
 -- a whole number

@@ -77,7 +77,8 @@ differ true false other a b f g = b (f a)
 differ false true other a b f g = a (g b)
 differ false false other a b f g = other refl
 
-module _ (K : ℕ) (o : Move) (M : ℕ) (kp : 0 < K) (mp : 0 < M) {tr ur : Trace} (c : IsRecount K o M tr ur) (p : Subformula) (atoms : HasCalmAtoms (2 ^ 31) tr p) where
+module _ (K : ℕ) (o : Move) (M : ℕ) (kp : 0 < K) (mp : 0 < M) {tr ur : Trace} (c : IsRecount K o M tr ur)
+    (p : Subformula) (atoms : HasCalmAtoms (2 ^ 31) tr p) where
   abbrev r : Subformula
   r = finer_tree K M p
 

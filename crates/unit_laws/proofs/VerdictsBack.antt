@@ -83,8 +83,8 @@ module _ (K : ℕ) (o : Move) (M : ℕ) (kp : 0 < K) (mp : 0 < M) {tr ur : Trace
   abbrev q : Subformula
   q = finer_tree K M p
 
-  -- the truth at what the clock shows
-  told_in : (b : Bool) (u : Rational) → MatchBool b (Truth q ur (clock K o u)) (¬ Truth q ur (clock K o u)) → MatchBool b (Truth p tr u) (¬ Truth p tr u)
+  -- the truth at what the clock shows is that of the time
+  pub told_in : (b : Bool) (u : Rational) → MatchBool b (Truth q ur (clock K o u)) (¬ Truth q ur (clock K o u)) → MatchBool b (Truth p tr u) (¬ Truth p tr u)
   told_in true u h = (truth_by K o M kp mp c p u).1 h
   told_in false u h = λ k. h ((truth_by K o M kp mp c p u).0 k)
 

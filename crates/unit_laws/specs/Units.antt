@@ -56,11 +56,23 @@ LawOfUnits =
     (f : Formula) (tr : Trace) (k m : ℕ) → IsWellFormed f → IsTrace tr → AreInRange tr.rows → f.scale.time ≤ tr.header.scale.time
     → f.scale.value ≤ tr.header.scale.value → WritesAlike check f tr (finer k m tr) × WritesAlike robust f tr (finer k m tr)
 
--- so it is for each trace that is read for the formula: its rows lie within the limits, and its ticks are no coarser than the formula's
+-- so it is for `explain` and `json`
+abbrev pub IsOfUnitsWithin : Command → Type 0
+IsOfUnitsWithin command =
+    (f : Formula) (tr : Trace) (k m : ℕ) → IsWellFormed f → IsTrace tr → AreInRange tr.rows → f.scale.time ≤ tr.header.scale.time
+    → f.scale.value ≤ tr.header.scale.value → WritesAlike command f tr (finer k m tr)
+
+abbrev pub ExplainIsOfUnits : Type 0
+ExplainIsOfUnits = IsOfUnitsWithin explain
+
+abbrev pub JsonIsOfUnits : Type 0
+JsonIsOfUnits = IsOfUnitsWithin json
+
+-- and for every command and each trace that is read for the formula: its rows lie within the limits, and its ticks are no coarser
 abbrev pub ReadTextsAreOfUnits : Formula → Type 0
 ReadTextsAreOfUnits f =
-    (bytes : List ℕ) (limits : Limits) (tr : Trace) (k m : ℕ) → HasTrace bytes limits f.scale tr
-    → WritesAlike check f tr (finer k m tr) × WritesAlike robust f tr (finer k m tr) × WritesAlike table f tr (finer k m tr)
+    (command : Command) (bytes : List ℕ) (limits : Limits) (tr : Trace) (k m : ℕ) → HasTrace bytes limits f.scale tr
+    → WritesAlike command f tr (finer k m tr)
 
 -- where `check` writes something in both ticks it is one text, whatever the formula and the trace
 abbrev pub CheckWritesOneText : Type 0

@@ -2,7 +2,7 @@
 ghost use Rattle.unit_laws.specs.Origins.{TruthMoves, RobustnessMoves, VerdictsMove, KnotsMove, TextsMove, ExplanationsMove};
 ghost use Rattle.unit_laws.specs.Streams.{StreamsAreKept, StreamsOweOneText, EarlyIsOfUnits, MarginsAreOfUnits, WatchIsOfUnits, ReadStreamsAreOfUnits};
 ghost use Rattle.unit_laws.specs.Units.{TruthIsOfUnits, RobustnessIsOfUnits, RobustIsOfUnits, TableIsOfUnits, TextsAreKept};
-ghost use Rattle.unit_laws.specs.Units.{TruthTurnsAtFractions, LawOfUnits, ReadTextsAreOfUnits, CheckWritesOneText};
+ghost use Rattle.unit_laws.specs.Units.{TruthTurnsAtFractions, LawOfUnits, ExplainIsOfUnits, JsonIsOfUnits, ReadTextsAreOfUnits, CheckWritesOneText};
 
 use stl_syntax::Formula;
 
@@ -74,7 +74,18 @@ pub fn texts_are_of_units()
     ensures { LawOfUnits }
 {}
 
-/// So for every formula and each trace that is read for it, whatever its bytes: `check`, `robust` and `table` write the same in all ticks.
+/// Nor do they of `explain`.
+pub fn explain_is_of_units()
+    ensures { ExplainIsOfUnits }
+{}
+
+/// Nor of `json`.
+pub fn json_is_of_units()
+    ensures { JsonIsOfUnits }
+{}
+
+/// So for every formula and each trace that is read for it, whatever its bytes, each command that holds the whole trace writes the same in
+/// all ticks.
 pub fn read_texts_are_of_units(formula: &Formula)
     ensures { ReadTextsAreOfUnits formula.now }
 {
