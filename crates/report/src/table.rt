@@ -166,7 +166,13 @@ fn put_records(
     ensures { OnOk result (AreEach (IsStepRow scale) (between from to (steps_of (knots_of margin_shape s.now))) (rows_text rows.new)) }
 {
     for i in from..to {
-        put_step(rows, fields, &s.knot(i), &s.knot(i + 1), scale)?;
+        put_step(
+            rows,
+            fields,
+            s.knot_in_place(i),
+            s.knot_in_place(i + 1),
+            scale,
+        )?;
     }
     Ok(())
 }

@@ -12,11 +12,11 @@ use Rattle.report.proofs.table.put_records.Goals as goal
 
 pub put_step-requires-clause-from : goal.put_step-requires-clause-from
 put_step-requires-clause-from c =
-    knot_within margin_shape _ c.args.s.now c.loop-i.i c.knot.result c.requires.signal c.knot.ensures c.requires.begins c.requires.ends
+    knot_within margin_shape _ c.args.s.now c.loop-i.i c.knot_in_place.result.now c.requires.signal c.knot_in_place.ensures c.requires.begins c.requires.ends
 
 pub put_step-requires-clause-to : goal.put_step-requires-clause-to
 put_step-requires-clause-to c =
-    knot_within margin_shape _ c.args.s.now (c.loop-i.i + 1) c.knot-in-loop-i.result c.requires.signal c.knot-in-loop-i.ensures c.requires.begins
+    knot_within margin_shape _ c.args.s.now (c.loop-i.i + 1) c.knot_in_place-in-loop-i.result.now c.requires.signal c.knot_in_place-in-loop-i.ensures c.requires.begins
     c.requires.ends
 
 pub loop-i-init : goal.loop-i-init
@@ -34,9 +34,9 @@ loop-i-preserved c =
     let there : suc i ≡ i + 1 = omega arith in
     let order = c.loop-i.auto.i in
     let steps = steps_of (knots_of margin_shape c.args.s.now) in
-    let x = step (plain_knot margin_shape c.knot.result) (plain_piece margin_shape c.knot.result c.knot-in-loop-i.result) in
-    let at = step_at margin_shape c.args.s.now i c.knot.result c.knot-in-loop-i.result c.knot.ensures
-    (subst (λ n. slice_get c.args.s.now n ≡ Some c.knot-in-loop-i.result) (sym there) c.knot-in-loop-i.ensures) in
+    let x = step (plain_knot margin_shape c.knot_in_place.result.now) (plain_piece margin_shape c.knot_in_place.result.now c.knot_in_place-in-loop-i.result.now) in
+    let at = step_at margin_shape c.args.s.now i c.knot_in_place.result.now c.knot_in_place-in-loop-i.result.now c.knot_in_place.ensures
+    (subst (λ n. slice_get c.args.s.now n ≡ Some c.knot_in_place-in-loop-i.result.now) (sym there) c.knot_in_place-in-loop-i.ensures) in
     let (t, p, e) = c.in_ok-put_step.ensures.text in
     let old = rows_text c.loop-i.rows in
     let more : AreEach P (between from i steps ++ x ∷ []) (old ++ t) =
