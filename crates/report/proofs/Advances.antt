@@ -43,10 +43,10 @@ room_after_gap o inside at next truth ended h rising g =
     from_before (Some w) g = rw g.from rising
 
 -- what there is past a time with a truth
-record Going (o : OpenSpan) (at : Frac) (at_in truth : Bool) : Type 0 where
-  ended : Option Verdict
-  new : OpenSpan
-  goes : GoesTo o at at_in truth ended new
+pub record Going (o : OpenSpan) (at : Frac) (at_in truth : Bool) : Type 0 where
+  pub ended : Option Verdict
+  pub new : OpenSpan
+  pub goes : GoesTo o at at_in truth ended new
 
 differ : (b c : Bool) → (b ≡ c) ⊎ (b ≢ c)
 differ true true = inl refl
@@ -54,7 +54,8 @@ differ true false = inr true≢false
 differ false true = inr (λ e. true≢false (sym e))
 differ false false = inl refl
 
-going : (o : OpenSpan) (at : Frac) (at_in truth : Bool) → HasTimeBetween (value o.from) (value at) (o.from_in && at_in) → Going o at at_in truth
+-- from each open span there is one
+pub going : (o : OpenSpan) (at : Frac) (at_in truth : Bool) → HasTimeBetween (value o.from) (value at) (o.from_in && at_in) → Going o at at_in truth
 going o at at_in truth h = by_truth (differ o.holds truth)
   where
     by_truth : (o.holds ≡ truth) ⊎ (o.holds ≢ truth) → Going o at at_in truth

@@ -57,6 +57,22 @@ module _ {X : Type 0} (P : X → List ℕ → Type 0) where
   pub each_grow : (xs ys : List X) (old mid new : List ℕ) → Grew (AreEach P xs) old mid → Grew (AreEach P ys) mid new → Grew (AreEach P (xs ++ ys)) old new
   each_grow xs ys old mid new (t, h, e) (u, k, f) = (t ++ u, each_join xs ys t u h k, f ∙ ap (λ w. w ++ u) e ∙ append_assoc old t u)
 
+  -- a cut in the texts of the first list is one in those of both, where the second has texts
+  pub each_cut_first : (xs ys : List X) (old new : List ℕ) → GrewInPart (AreEach P xs) old new → growth.Some (AreEach P ys)
+      → GrewInPart (AreEach P (xs ++ ys)) old new
+  each_cut_first xs ys old new (a, rest, h, e) (more, k) =
+      (a, rest ++ more, subst (AreEach P (xs ++ ys)) (append_assoc a rest more) (each_join xs ys (a ++ rest) more h k), e)
+
+  -- and so is one in the texts of the second, where those of the first are written
+  pub each_cut_second : (xs ys : List X) (old mid new : List ℕ) → Grew (AreEach P xs) old mid → GrewInPart (AreEach P ys) mid new
+      → GrewInPart (AreEach P (xs ++ ys)) old new
+  each_cut_second xs ys old mid new (t, h, e) (a, rest, k, f) = (
+    t ++ a,
+    rest,
+    subst (AreEach P (xs ++ ys)) (sym (append_assoc t a rest)) (each_join xs ys t (a ++ rest) h k),
+    f ∙ ap (λ w. w ++ a) e ∙ append_assoc old t a,
+  )
+
   -- by the items before a place, and by those between it and another
   pub each_between : (from to : ℕ) (xs : List X) (old mid new : List ℕ) → from ≤ to → Grew (AreEach P (take from xs)) old mid
       → Grew (AreEach P (between from to xs)) mid new → Grew (AreEach P (take to xs)) old new

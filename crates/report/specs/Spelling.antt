@@ -36,3 +36,10 @@ pub record IsAdvanced (o : OpenSpan) (before next : Knot Truth) (by_gap by_point
 abbrev pub listed : Option Verdict → List Verdict
 listed None = []
 listed (Some w) = w ∷ []
+
+-- how an open span goes past the gap between two knots and the second knot, with the verdicts that end there
+pub record Past (o : OpenSpan) (before next : Knot Truth) : Type 0 where
+  pub by_gap : Option Verdict
+  pub by_point : Option Verdict
+  pub new : OpenSpan
+  pub advanced : IsAdvanced o before next by_gap by_point new

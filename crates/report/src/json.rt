@@ -118,7 +118,14 @@ fn put_step_entries(
 {
     let last = s.len() - 1;
     for i in 0..last {
-        put_step_entry(alloc, text, room, &s.knot(i), &s.knot(i + 1), scale)?;
+        put_step_entry(
+            alloc,
+            text,
+            room,
+            s.knot_in_place(i),
+            s.knot_in_place(i + 1),
+            scale,
+        )?;
     }
     Ok(())
 }

@@ -231,8 +231,8 @@ fn put_later(text: &mut Text, s: &Signal<Margin>, scale: Scale) -> Result<(), Me
             &mut buf,
             &mut texts,
             i,
-            &s.knot(i - 1),
-            &s.knot(i),
+            s.knot_in_place(i - 1),
+            s.knot_in_place(i),
             scale,
         )?;
     }

@@ -13,10 +13,10 @@ pub(crate) struct OpenSpan {
 }
 
 impl OpenSpan {
-    ghost use Rattle.std.specs.Prelude.{◌≡◌, ◌&&◌, true};
+    ghost use Rattle.std.specs.Prelude.{◌≡◌, ◌≢◌, ◌&&◌, true};
     ghost use Rattle.rational.specs.Time.{HasTimeBetween, ◌<ʳ◌};
     ghost use Rattle.frac128.specs.Value.{value};
-    ghost use Rattle.report.specs.Spelling.{Closes, GoesTo, IsAdvanced};
+    ghost use Rattle.report.specs.Spelling.{Closes, IsTurned, GoesTo, IsAdvanced};
 
     /// The span that begins at the first knot.
     pub(crate) fn start(first: &Knot<Truth>) -> OpenSpan
@@ -48,6 +48,30 @@ impl OpenSpan {
         }
     }
 
+    /// The truth of the span.
+    #[inline(always)]
+    pub(crate) fn holds(&self) -> bool
+        ensures { result ≡ self.now.holds }
+    {
+        self.holds
+    }
+
+    /// Ends at the time, which is in it or out, and begins anew there with the other truth. The verdict that ended.
+    #[inline(always)]
+    pub(crate) fn turn(&mut self, at: Frac, at_in: bool, truth: bool) -> Verdict
+        requires begun { HasTimeBetween (value self.old.from) (value at) (self.old.from_in && at_in) }
+        requires other { self.old.holds ≢ truth }
+        ensures { IsTurned self.old at at_in truth result self.new }
+    {
+        let ended = self.close(at, at_in);
+        *self = OpenSpan {
+            from: at,
+            from_in: !at_in,
+            holds: truth,
+        };
+        ended
+    }
+
     /// Goes on with this truth: from the time on, or after it where it is in the span. What ended there, if the truth is new.
     fn go_to(&mut self, at: Frac, at_in: bool, truth: bool) -> Option<Verdict>
         requires { HasTimeBetween (value self.old.from) (value at) (self.old.from_in && at_in) }
@@ -56,13 +80,7 @@ impl OpenSpan {
         if self.holds == truth {
             return None;
         }
-        let ended = self.close(at, at_in);
-        *self = OpenSpan {
-            from: at,
-            from_in: !at_in,
-            holds: truth,
-        };
-        Some(ended)
+        Some(self.turn(at, at_in, truth))
     }
 
     /// Goes on past the gap between two knots and the second knot. What ended with the gap, and what ended with the knot.

@@ -1,5 +1,5 @@
 //! The robustness as a table of comma-separated values.
-ghost use Rattle.std.specs.Prelude.{◌≡◌, ◌≤◌, ◌<◌, ◌+◌, ◌^◌, ◌++◌, [], length, map, OnOk, OnErr};
+ghost use Rattle.std.specs.Prelude.{◌≡◌, ◌≤◌, ◌<◌, ◌+◌, ◌^◌, ◌++◌, [], length, map, IfOk, OnOk, OnErr};
 ghost use Rattle.csv.specs.Writing.{row_text, default_writer};
 ghost use Rattle.rational.specs.Rational.{IsWithin};
 ghost use Rattle.frac128.specs.Value.{value};
@@ -121,18 +121,65 @@ fn put_step(
     put_record(rows, fields)
 }
 
-/// Appends what was written to the text.
-fn hand_over(text: &mut Text, rows: Writer<Vec<u8>>) -> Result<(), Memory>
-    ensures ok { OnOk result (text.new ≡ text.old ++ rows_text rows) }
-    ensures err { OnErr result (text.new ≡ text.old) }
+/// A writer with nothing written yet. It has room for 8 KB in itself. So it is made apart and stands on the heap: a function takes a place
+/// on the stack for each move of it.
+#[inline(never)]
+fn new_rows(alloc: Global) -> Result<Box<Writer<Vec<u8>>>, Memory>
+    ensures ready { IfOk result (λ rows. IsReady rows.value) }
+    ensures text { IfOk result (λ rows. rows_text rows.value ≡ []) }
 {
-    match rows.into_inner() {
-        Ok(bytes) => text.push(&bytes),
+    match Box::new(alloc, Writer::from_writer(Vec::new(alloc))) {
+        Ok(rows) => Ok(rows),
         Err(_) => Err(Memory),
     }
 }
 
-/// Appends the records of the knots from one place up to another, each with the piece after it.
+/// Appends what was written to the text.
+fn hand_over(text: &mut Text, rows: &mut Writer<Vec<u8>>) -> Result<(), Memory>
+    ensures ok { OnOk result (text.new ≡ text.old ++ rows_text rows.old) }
+    ensures err { OnErr result (text.new ≡ text.old) }
+{
+    match rows.flush() {
+        Ok(()) => text.push(rows.get_ref()),
+        Err(_) => Err(Memory),
+    }
+}
+
+/// Writes the records of the knots from one place up to another, each with the piece after it.
+fn put_records(
+    rows: &mut Writer<Vec<u8>>,
+    fields: &mut Fields,
+    s: &Signal<Margin>,
+    from: usize,
+    to: usize,
+    scale: Scale,
+) -> Result<(), Memory>
+    requires ready { IsReady rows.old }
+    requires empty { rows_text rows.old ≡ [] }
+    requires time { scale.time ≤ 6 }
+    requires value { scale.value ≤ 6 }
+    requires begins { IsWithin (2 ^ 34) (start s.now) }
+    requires ends { IsWithin (2 ^ 34) (stop s.now) }
+    requires signal { IsSignal margin_shape s.now }
+    requires order { from ≤ to }
+    requires inside { to < length s.now }
+    ensures { OnOk result (AreEach (IsStepRow scale) (between from to (steps_of (knots_of margin_shape s.now))) (rows_text rows.new)) }
+{
+    for i in from..to {
+        put_step(
+            rows,
+            fields,
+            s.knot_in_place(i),
+            s.knot_in_place(i + 1),
+            scale,
+        )?;
+    }
+    Ok(())
+}
+
+/// Appends the records of the knots from one place up to another, each with the piece after it. It is no part of its caller, since to let
+/// a writer go takes places on the stack for it.
+#[inline(never)]
 fn put_block(
     text: &mut Text,
     fields: &mut Fields,
@@ -151,10 +198,9 @@ fn put_block(
     ensures ok { OnOk result (Grew (AreEach (IsStepRow scale) (between from to (steps_of (knots_of margin_shape s.now)))) text.old text.new) }
     ensures err { OnErr result (text.new ≡ text.old) }
 {
-    let mut rows = Writer::from_writer(Vec::new(s.alloc()));
-    for i in from..to {
-        put_step(&mut rows, fields, &s.knot(i), &s.knot(i + 1), scale)?;
-    }
+    let mut made = new_rows(s.alloc())?;
+    let rows: &mut Writer<Vec<u8>> = &mut made;
+    put_records(rows, fields, s, from, to, scale)?;
     hand_over(text, rows)
 }
 
@@ -163,9 +209,9 @@ fn put_row(alloc: Global, text: &mut Text, fields: &[&[u8]]) -> Result<(), Memor
     ensures ok { OnOk result (text.new ≡ text.old ++ row_text default_writer (map (λ f. f.now) fields.now)) }
     ensures err { OnErr result (text.new ≡ text.old) }
 {
-    let mut rows = Writer::from_writer(Vec::new(alloc));
+    let mut rows = new_rows(alloc)?;
     match rows.write_fields(fields) {
-        Ok(()) => hand_over(text, rows),
+        Ok(()) => hand_over(text, &mut rows),
         Err(_) => Err(Memory),
     }
 }

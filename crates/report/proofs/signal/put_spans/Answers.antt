@@ -1,4 +1,4 @@
-use Rattle.std.proofs.Common.{◌≡◌, ℕ, suc, false, ◌+◌, ◌-◌, Some, List, [], ◌∷◌, ◌++◌, length, append-nil, append_assoc, refl, sym, subst, arith}
+use Rattle.std.proofs.Common.{◌≡◌, ℕ, suc, false, ◌+◌, ◌-◌, Some, List, [], ◌∷◌, ◌++◌, length, append-nil, append_assoc, refl, sym, subst, arith, ◌≤◌, ◌∙◌}
 use Rattle.std.specs.Prelude.{slice_get}
 use Rattle.std.proofs.lemmas.List.{length-replicate}
 use Rattle.std.proofs.lemmas.Result.{on_ok_weaker, on_err_weaker}
@@ -9,98 +9,102 @@ use Rattle.pl_signal.specs.Knots.{start, stop, IsWorth}
 use Rattle.pl_signal.proofs.Values.{next_rises}
 use Rattle.stl_syntax.specs.declared.items.Verdict.{Verdict}
 use Rattle.report.specs.SignalVerdicts.{DescribesFunction}
-use Rattle.report.specs.Spelling.{listed}
-use Rattle.report.specs.VerdictForms.{IsEntry}
+use Rattle.report.specs.Spelling.{Past, listed}
+use Rattle.report.specs.VerdictForms.{IsEntry, WrittenPast, CutPast}
+use Rattle.report.specs.declared.following.Style.{Style}
+use Rattle.report.specs.declared.spelling.OpenSpan.{OpenSpan}
+use Rattle.pl_signal.specs.declared.knot.Knot.{Knot}
+use Rattle.value_laws.specs.declared.truth.Truth.{Truth}
 use Rattle.report.proofs.Lines.{entries_all, entries_part, entries_part_last}
 use Rattle.report.proofs.Sequences.{each_grow}
 use Rattle.report.proofs.Advances.{IsSpelledTo, spelled_start, room_to, spelled_advance, spelled_stop, stop_room, told_to_end}
 use Rattle.report.proofs.signal.put_spans.Goals as goal
-use Rattle.report.proofs.signal.put_spans.Goals.{After-advance-by_gap, After-close-end}
+use Rattle.report.proofs.signal.put_spans.Goals.{After-put_past, After-close-end}
 
 pub loop-i-init : goal.loop-i-init
 loop-i-init c = (
   [],
-  spelled_start c.args.s.now c.knot-first.result c.start-span.result c.knot-first.ensures c.start-span.ensures.from c.start-span.ensures.from_in
+  spelled_start c.args.s.now c.knot_in_place.result.now c.start-span.result c.knot_in_place.ensures c.start-span.ensures.from c.start-span.ensures.from_in
       c.start-span.ensures.holds,
   ([], refl, sym (append-nil c.args.text.now)),
   omega (arith, length-replicate {A = ℕ} 256 0),
+  refl,
 )
 
-pub advance-by_gap-requires-clause-begun : goal.advance-by_gap-requires-clause-begun
-advance-by_gap-requires-clause-begun c =
-    room_to c.args.s.now (c.loop-i.i - 1) c.loop-i.invariant.0 c.loop-i.span c.knot.result c.knot.ensures c.loop-i.invariant.1
+pub put_past-requires-clause-begun : goal.put_past-requires-clause-begun
+put_past-requires-clause-begun c =
+    room_to c.args.s.now (c.loop-i.i - 1) c.loop-i.invariant.0 c.loop-i.span c.knot_in_place-in-loop-i.result.now c.knot_in_place-in-loop-i.ensures
+    c.loop-i.invariant.1
 
-pub advance-by_gap-requires-clause-rising : goal.advance-by_gap-requires-clause-rising
-advance-by_gap-requires-clause-rising c =
+pub put_past-requires-clause-rising : goal.put_past-requires-clause-rising
+put_past-requires-clause-rising c =
     let next : c.loop-i.i ≡ (c.loop-i.i - 1) + 1 = omega arith in
-    next_rises truth_shape c.args.s.now (c.loop-i.i - 1) c.knot.result c.knot-in-loop-i.result c.len-knots.ensures.signal.each c.knot.ensures
-    (subst (λ n. slice_get c.args.s.now n ≡ Some c.knot-in-loop-i.result) next c.knot-in-loop-i.ensures)
+    next_rises truth_shape c.args.s.now (c.loop-i.i - 1) c.knot_in_place-in-loop-i.result.now c.knot_in_place-in-loop-i-2.result.now
+    c.len-knots.ensures.signal.each c.knot_in_place-in-loop-i.ensures
+    (subst (λ n. slice_get c.args.s.now n ≡ Some c.knot_in_place-in-loop-i-2.result.now) next c.knot_in_place-in-loop-i-2.ensures)
 
-module _ (c : After-advance-by_gap) where
+pub put_past-requires-clause-digits : goal.put_past-requires-clause-digits
+put_past-requires-clause-digits c = subst (λ (y : Style). y.scale.time ≤ 6) (sym c.loop-i.invariant.4) c.requires
+
+module _ (c : After-put_past) where
   abbrev vs : List Verdict
   vs = c.loop-i.invariant.0
 
-  abbrev gap : List Verdict
-  gap = listed c.advance-by_gap.result.0
+  abbrev E : Verdict → List ℕ → Type 0
+  E = IsEntry c.args.style.json false c.args.style.scale
 
-  abbrev point : List Verdict
-  point = listed c.advance-by_gap.result.1
+  abbrev k : Knot Truth
+  k = c.knot_in_place-in-loop-i.result.now
+
+  abbrev n : Knot Truth
+  n = c.knot_in_place-in-loop-i-2.result.now
 
   next : c.loop-i.i ≡ (c.loop-i.i - 1) + 1
   next = omega arith
 
-  advanced : IsSpelledTo c.args.s.now ((c.loop-i.i - 1) + 1) ((vs ++ gap) ++ point) c.advance-by_gap.new.self
-  advanced =
-      spelled_advance c.args.s.now (c.loop-i.i - 1) c.advance-by_gap.new.self c.knot.result c.knot-in-loop-i.result c.advance-by_gap.result.0
-      c.advance-by_gap.result.1
-      c.len-knots.ensures.signal c.knot.ensures (subst (λ n. slice_get c.args.s.now n
-      ≡ Some c.knot-in-loop-i.result) next c.knot-in-loop-i.ensures) c.loop-i.invariant.1 c.advance-by_gap.ensures
+  -- past the next knot the signal is spelled
+  advanced : (p : Past c.loop-i.span k n) → IsSpelledTo c.args.s.now ((c.loop-i.i - 1) + 1) (vs ++ (listed p.by_gap ++ listed p.by_point)) p.new
+  advanced p =
+      subst (λ ws. IsSpelledTo c.args.s.now ((c.loop-i.i - 1) + 1) ws p.new) (append_assoc vs (listed p.by_gap) (listed p.by_point))
+      (spelled_advance c.args.s.now (c.loop-i.i - 1) p.new k n p.by_gap p.by_point c.len-knots.ensures.signal c.knot_in_place-in-loop-i.ensures
+      (subst (λ m. slice_get c.args.s.now m ≡ Some n) next c.knot_in_place-in-loop-i-2.ensures) c.loop-i.invariant.1 p.advanced)
 
-  to_end : (later : List Verdict) × (end : Verdict)
-      × DescribesFunction (IsWorth truth_shape c.args.s.now) (((vs ++ gap) ++ point) ++ (later ++ end ∷ [])) (closed (start c.args.s.now) (stop c.args.s.now))
-  to_end =
-      told_to_end c.args.s.now (length c.args.s.now - suc c.loop-i.i) ((c.loop-i.i - 1) + 1)
-      ((vs ++ gap) ++ point) c.advance-by_gap.new.self c.len-knots.ensures.signal (omega arith) advanced
+  -- and can be told to the end
+  to_end : (p : Past c.loop-i.span k n) → (later : List Verdict) × (end : Verdict) × DescribesFunction (IsWorth truth_shape c.args.s.now)
+      ((vs ++ (listed p.by_gap ++ listed p.by_point)) ++ (later ++ end ∷ [])) (closed (start c.args.s.now) (stop c.args.s.now))
+  to_end p =
+      told_to_end c.args.s.now (length c.args.s.now - suc c.loop-i.i) ((c.loop-i.i - 1) + 1) (vs ++ (listed p.by_gap ++ listed p.by_point)) p.new
+      c.len-knots.ensures.signal (omega arith) (advanced p)
 
-abbrev Entry : (c : After-advance-by_gap) → Verdict → List ℕ → Type 0
-Entry c = IsEntry c.args.style.json false c.args.style.scale
-
-together : (a b c d e : List Verdict) → ((a ++ b) ++ c) ++ (d ++ e) ≡ a ++ (b ++ ((c ++ d) ++ e))
-together a b c d e = simp append_assoc
-
-pub returns-in_err-put_ended-clause-err : goal.returns-in_err-put_ended-clause-err
-returns-in_err-put_ended-clause-err c =
-    let f = (goal.at.returns-in_err-put_ended-clause-err c).After-advance-by_gap in
-    let end = to_end f in
-    on_err_anyway c.from_residual.result
-    (entries_part truth_shape c.args.style.json c.args.style.scale c.args.s.now (vs f) (gap f)
-    (point f ++ end.0) end.1 c.args.text.now c.loop-i.text c.put_ended.new.text
-    (subst (λ ws. DescribesFunction (IsWorth truth_shape c.args.s.now) ws (closed (start c.args.s.now) (stop c.args.s.now)))
-    (together (vs f) (gap f) (point f) end.0 (end.1 ∷ [])) end.2)
-    c.loop-i.invariant.2 c.in_err-put_ended.ensures.err)
-
-pub returns-in_err-put_ended-2-clause-err : goal.returns-in_err-put_ended-2-clause-err
-returns-in_err-put_ended-2-clause-err c =
-    let f = (goal.at.returns-in_err-put_ended-2-clause-err c).After-advance-by_gap in
-    let end = to_end f in
-    on_err_anyway c.from_residual-in_err-put_ended-2.result
-    (entries_part truth_shape c.args.style.json c.args.style.scale c.args.s.now (vs f ++ gap f)
-    (point f) end.0 end.1 c.args.text.now c.put_ended.new.text c.put_ended-in-loop-i.new.text
-    (subst (λ ws. DescribesFunction (IsWorth truth_shape c.args.s.now) ws (closed (start c.args.s.now) (stop c.args.s.now)))
-    (append_assoc (vs f ++ gap f) (point f) (end.0 ++ end.1 ∷ [])) end.2)
-    (each_grow (Entry f) (vs f) (gap f) c.args.text.now c.loop-i.text c.put_ended.new.text c.loop-i.invariant.2 c.in_ok-put_ended.ensures.ok)
-    c.in_err-put_ended-2.ensures.err)
+pub returns-in_err-put_past-clause-err : goal.returns-in_err-put_past-clause-err
+returns-in_err-put_past-clause-err c =
+    let f = (goal.at.returns-in_err-put_past-clause-err c).After-put_past in
+    let cut : CutPast c.args.style.json c.args.style.scale c.loop-i.span (k f) (n f) c.loop-i.text c.put_past.new.text =
+    subst (λ (y : Style). CutPast y.json y.scale c.loop-i.span (k f) (n f) c.loop-i.text c.put_past.new.text) c.loop-i.invariant.4
+    c.in_err-put_past.ensures.err in
+    let p = cut.past in
+    let ws = listed p.by_gap ++ listed p.by_point in
+    let end = to_end f p in
+    on_err_anyway _
+    (entries_part truth_shape c.args.style.json c.args.style.scale c.args.s.now (vs f) ws end.0 end.1 c.args.text.now c.loop-i.text c.put_past.new.text
+    (subst (λ xs. DescribesFunction (IsWorth truth_shape c.args.s.now) xs (closed (start c.args.s.now) (stop c.args.s.now)))
+    (append_assoc (vs f) ws (end.0 ++ end.1 ∷ [])) end.2) c.loop-i.invariant.2 cut.part)
 
 pub loop-i-preserved : goal.loop-i-preserved
 loop-i-preserved c =
-    let f = (goal.at.loop-i-preserved c).After-advance-by_gap in
-    let there : (c.loop-i.i - 1) + 1 ≡ c.loop-i.i + 1 - 1 = omega arith in (
-      (vs f ++ gap f) ++ point f,
-      subst (λ i. IsSpelledTo c.args.s.now i ((vs f ++ gap f) ++ point f) c.advance-by_gap.new.self) there (advanced f),
-      each_grow (Entry f) (vs f ++ gap f) (point f) c.args.text.now c.put_ended.new.text c.put_ended-in-loop-i.new.text
-          (each_grow (Entry f) (vs f) (gap f) c.args.text.now c.loop-i.text c.put_ended.new.text c.loop-i.invariant.2 c.in_ok-put_ended.ensures.ok)
-          c.in_ok-put_ended-2.ensures.ok,
-      omega (arith, c.put_ended.ensures.room, c.put_ended-in-loop-i.ensures.room, c.loop-i.invariant.3),
+    let f = (goal.at.loop-i-preserved c).After-put_past in
+    let there : (c.loop-i.i - 1) + 1 ≡ c.loop-i.i + 1 - 1 = omega arith in
+    let w : WrittenPast c.args.style.json c.args.style.scale c.loop-i.span (k f) (n f) c.put_past.new.span c.loop-i.text c.put_past.new.text =
+    subst (λ (y : Style). WrittenPast y.json y.scale c.loop-i.span (k f) (n f) c.put_past.new.span c.loop-i.text c.put_past.new.text) c.loop-i.invariant.4
+    c.in_ok-put_past.ensures.ok in
+    let p = w.past in
+    let ws = listed p.by_gap ++ listed p.by_point in (
+      vs f ++ ws,
+      subst (λ (o : OpenSpan). IsSpelledTo c.args.s.now (c.loop-i.i + 1 - 1) (vs f ++ ws) o) w.is
+          (subst (λ i. IsSpelledTo c.args.s.now i (vs f ++ ws) p.new) there (advanced f p)),
+      each_grow (E f) (vs f) ws c.args.text.now c.loop-i.text c.put_past.new.text c.loop-i.invariant.2 w.grew,
+      omega (arith, c.put_past.ensures.room, c.loop-i.invariant.3),
+      c.put_past.ensures.style ∙ c.loop-i.invariant.4,
     )
 
 pub close-end-requires : goal.close-end-requires

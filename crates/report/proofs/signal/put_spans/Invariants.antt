@@ -1,4 +1,4 @@
-use Rattle.std.proofs.Common.{◌-◌, ◌≤◌, false, List, length}
+use Rattle.std.proofs.Common.{◌≡◌, ◌-◌, ◌≤◌, false, List, length}
 use Rattle.stl_syntax.specs.declared.items.Verdict.{Verdict}
 use Rattle.report.specs.Appended.{Grew, AreEach}
 use Rattle.report.specs.VerdictForms.{IsEntry}
@@ -9,4 +9,4 @@ abbrev pub invariant-loop-i : goal.invariant-loop-i
 invariant-loop-i l =
     (verdicts : List Verdict) × IsSpelledTo l.s (l.i - 1) verdicts l.span × Grew
     (AreEach (IsEntry l.style.json false l.style.scale) verdicts) l.initial.text l.text
-    × (256 ≤ length l.buf)
+    × (256 ≤ length l.buf) × (l.pen.style ≡ l.style)

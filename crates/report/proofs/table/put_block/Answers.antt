@@ -1,61 +1,7 @@
-use Rattle.std.proofs.Common.{◌≡◌, ◌+◌, ◌++◌, [], ◌∷◌, suc, Some, sym, ap, ◌∙◌, subst, arith}
-use Rattle.std.specs.Prelude.{slice_get}
 use Rattle.std.proofs.lemmas.Result.{on_ok_weaker}
-use Rattle.csv.specs.Writing.{writer_pending}
-use Rattle.value_laws.specs.Kinds.{margin_shape}
-use Rattle.pl_signal.specs.Plain.{knots_of, plain_knot, plain_piece}
-use Rattle.report.specs.Appended.{AreEach}
-use Rattle.report.specs.Steps.{steps_of, step, between}
-use Rattle.report.specs.TableRows.{IsStepRow, rows_text}
-use Rattle.report.proofs.MarginTexts.{knot_within}
-use Rattle.report.proofs.Sequences.{between_none, between_more, each_join, each_one}
-use Rattle.report.proofs.StepLemmas.{step_at}
+use Rattle.report.specs.TableRows.{rows_text}
 use Rattle.report.proofs.table.put_block.Goals as goal
-
-pub put_step-requires-clause-from : goal.put_step-requires-clause-from
-put_step-requires-clause-from c =
-    knot_within margin_shape _ c.args.s.now c.loop-i.i c.knot.result c.requires.signal c.knot.ensures c.requires.begins c.requires.ends
-
-pub put_step-requires-clause-to : goal.put_step-requires-clause-to
-put_step-requires-clause-to c =
-    knot_within margin_shape _ c.args.s.now (c.loop-i.i + 1) c.knot-in-loop-i.result c.requires.signal c.knot-in-loop-i.ensures c.requires.begins
-    c.requires.ends
-
-pub loop-i-init : goal.loop-i-init
-loop-i-init c =
-    let w = c.from_writer-rows.ensures in
-    let rows = c.from_writer-rows.result in
-    let nothing : rows_text rows ≡ [] =
-    ap (λ v. v.items ++ writer_pending rows) w.wtr ∙ ap (λ xs. xs ++ writer_pending rows) c.new.ensures.items ∙ w.empty in (
-      record { setup = w.cfg; fields = w.fields; wrote = w.wrote },
-      subst (λ xs. AreEach (IsStepRow c.args.scale) xs (rows_text rows))
-          (sym (between_none c.args.from (steps_of (knots_of margin_shape c.args.s.now)))) nothing,
-    )
-
-pub loop-i-preserved : goal.loop-i-preserved
-loop-i-preserved c =
-    let P = IsStepRow c.args.scale in
-    let i = c.loop-i.i in
-    let from = c.args.from in
-    let there : suc i ≡ i + 1 = omega arith in
-    let order = c.loop-i.auto.i in
-    let steps = steps_of (knots_of margin_shape c.args.s.now) in
-    let x = step (plain_knot margin_shape c.knot.result) (plain_piece margin_shape c.knot.result c.knot-in-loop-i.result) in
-    let at = step_at margin_shape c.args.s.now i c.knot.result c.knot-in-loop-i.result c.knot.ensures
-    (subst (λ n. slice_get c.args.s.now n ≡ Some c.knot-in-loop-i.result) (sym there) c.knot-in-loop-i.ensures) in
-    let (t, p, e) = c.in_ok-put_step.ensures.text in
-    let old = rows_text c.loop-i.rows in
-    let more : AreEach P (between from i steps ++ x ∷ []) (old ++ t) =
-    each_join P (between from i steps) (x ∷ []) old t c.loop-i.invariant.1 (each_one P x t p) in
-    let next : AreEach P (between from (suc i) steps) (old ++ t) = subst (λ xs. AreEach P xs (old ++ t)) (sym (between_more from i steps x order at)) more in (
-      c.in_ok-put_step.ensures.ready,
-      subst (λ n. AreEach P (between from n steps) (rows_text c.put_step.new.rows)) there
-          (subst (AreEach P (between from (suc i) steps)) (sym e) next),
-    )
 
 pub returns-clause-ok : goal.returns-clause-ok
 returns-clause-ok c =
-    let end : c.loop-i.i ≡ c.args.to = let t = c.loop-i-test.false in let m = c.loop-i.auto.i-end c.requires.order in omega arith in
-    let steps = steps_of (knots_of margin_shape c.args.s.now) in
-    let all = subst (λ n. AreEach (IsStepRow c.args.scale) (between c.args.from n steps) (rows_text c.loop-i.rows)) end c.loop-i.invariant.1 in
-    on_ok_weaker c.hand_over.result (λ e. (rows_text c.loop-i.rows, all, e)) c.hand_over.ensures.ok
+    on_ok_weaker c.hand_over.result (λ e. (rows_text c.put_records.new.rows, c.in_ok-put_records.ensures, e)) c.hand_over.ensures.ok
