@@ -8,3 +8,4 @@ pub mod Adding
 pub mod Readings
 pub mod Limited
 pub mod GrowingLemmas
+pub mod WayLemmas

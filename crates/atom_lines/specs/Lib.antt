@@ -9,3 +9,5 @@ pub mod Points
 pub mod Growing
 pub mod AtomSignals
 pub mod Signs
+pub mod Passages
+pub mod Steps

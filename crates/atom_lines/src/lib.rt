@@ -7,14 +7,18 @@ mod bound_atom;
 mod cells;
 mod gap;
 mod margin;
+mod passage;
 mod piecewise;
 mod points;
 mod signal;
 mod sum;
 mod truth;
+mod way;
 
 pub use binding::{BindFault, bind};
 pub use bound::Bound;
+pub use passage::{Crossing, Passage, Way};
 pub use points::{margin_piece, margin_point, truth_piece, truth_point, truth_step};
 pub use signal::{AtomShape, atom_signal};
 pub use truth::TruthPiece;
+pub use way::{standing, way_from};

@@ -1,0 +1,41 @@
+//! How truths go over gaps and rows, as values.
+ghost use Rattle.std.specs.Prelude.{◌<◌};
+
+/// A time in ticks, `floor + rest / den`, in no lowest terms.
+#[derive(Clone, Copy, Debug)]
+pub struct Crossing {
+    /// The whole ticks.
+    pub floor: u32,
+    /// How many parts of a tick the time lies above them.
+    pub rest: u32,
+    /// How many parts a tick has.
+    pub den: u32,
+    pub ghost below: { rest < den },
+}
+
+/// How an atom's truth goes over the open gap between two rows.
+#[derive(Clone, Copy, Debug)]
+pub enum Passage {
+    /// One truth on the whole gap.
+    Steady(bool),
+    /// The truth is `before` up to the time `at`, and the other one from there on. At that time it is `before` where `after` is true.
+    Turns {
+        before: bool,
+        at: Crossing,
+        after: bool,
+    },
+}
+
+/// How an atom's truth goes from a row of a trace to a later one: it stays what it is at the first up to the row before the last, and
+/// then takes the last gap.
+#[derive(Clone, Copy, Debug)]
+pub struct Way {
+    /// The row at which the way ends.
+    pub row: usize,
+    /// How far the atom's sum lies above its constant there.
+    pub sum: i64,
+    /// How its truth goes over the gap before that row.
+    pub passage: Passage,
+    /// Its truth at that row.
+    pub last: bool,
+}

@@ -1,0 +1,147 @@
+//! How an atom's truth goes over the rows of a trace, gap by gap. The times at which it turns are in no lowest terms.
+ghost use Rattle.std.specs.Prelude.{◌≡◌, ◌<◌, ◌≤◌, ◌^◌, ◌+◌, ◌/◌, ◌%◌, pos, length, IsTrue};
+ghost use Rattle.rational.specs.Rational.{Rational, ◌≈◌, whole};
+ghost use Rattle.rational.specs.Line.{at};
+ghost use Rattle.stl_syntax.specs.Truth.{compares, holds_at};
+ghost use Rattle.stl_syntax.specs.Trace.{Trace as Recorded, row_time};
+ghost use Rattle.stl_syntax.specs.declared.atom.Atom.{Atom};
+ghost use Rattle.atom_lines.specs.Binding.{IsAtomNode, IsFor};
+ghost use Rattle.atom_lines.specs.Gaps.{along, AreOfSign, Passes};
+ghost use Rattle.atom_lines.specs.Growing.{IsReach, IsReachAt};
+ghost use Rattle.atom_lines.specs.Passages.{HasBlock, IsWay, TellsPassage, crossing_time};
+ghost use Rattle.atom_lines.specs.Rows.{row_of};
+ghost use Rattle.atom_lines.specs.Steps.{IsStep};
+ghost use Rattle.atom_lines.specs.Sums.{IsAtomSound};
+
+use crate::bound::Bound;
+use crate::bound_atom::BoundAtom;
+use crate::cells::row_at;
+use crate::gap::Gap;
+use crate::passage::{Crossing, Passage, Way};
+use crate::points::gap_on;
+use crate::sum::reach_of;
+use crate::truth::{changes_sign, keeps_sign, truth_at};
+use stl_syntax::Rel;
+use trace_reader::Trace;
+
+/// The gap behind a row, and the sum at the next row.
+#[derive(Clone, Copy)]
+struct Step {
+    gap: Gap,
+    next: i64,
+}
+
+/// The time `first + past / rise`.
+#[inline(always)]
+fn crossing_at(first: u32, past: u64, rise: u64) -> Crossing
+    requires some { 0 < rise }
+    requires few { rise < 2 ^ 32 }
+    requires fits { first + past / rise < 2 ^ 32 }
+    ensures floor { result.floor ≡ first + past / rise }
+    ensures rest { result.rest ≡ past % rise }
+    ensures den { result.den ≡ rise }
+{
+    Crossing {
+        floor: first + (past / rise) as u32,
+        rest: (past % rise) as u32,
+        den: rise as u32,
+    }
+}
+
+/// The time inside the gap at which a sum that changes its sign is 0.
+#[inline(always)]
+fn turning(gap: &Gap) -> Crossing
+    requires { Passes gap.now }
+    ensures { at (along gap.now) (crossing_time result) ≈ whole (pos 0) }
+{
+    let before = gap.from.unsigned_abs();
+    let rise = before + gap.to.unsigned_abs();
+    let past = before * u64::from(gap.second - gap.first);
+    crossing_at(gap.first, past, rise)
+}
+
+/// How the truth of a comparison goes over the gap.
+#[inline(always)]
+fn passage_over(rel: Rel, gap: &Gap) -> Passage
+    ensures { TellsPassage (whole (pos gap.now.first)) (whole (pos gap.now.second)) (λ t. compares rel (at (along gap.now) t)) result }
+{
+    if changes_sign(gap) {
+        let before = truth_at(rel, gap.from).holds();
+        let point = truth_at(rel, 0).holds();
+        return Passage::Turns {
+            before,
+            at: turning(gap),
+            after: point == before,
+        };
+    }
+    Passage::Steady(truth_at(rel, gap.from + gap.to).holds())
+}
+
+/// The gap from row `r`, where the sum is `from`, to the next.
+#[inline(always)]
+fn step_from(atom: &BoundAtom, trace: &Trace, r: usize, next: usize, from: i64) -> Step
+    requires sound { IsAtomSound (length trace.now.header.columns) atom.now }
+    requires next { next ≡ r + 1 }
+    requires within { next < length trace.now.rows }
+    requires from { IsReach atom.now trace.now r from }
+    ensures { IsStep atom.now trace.now r result.gap result.next }
+{
+    let first = row_at(trace, r);
+    let second = row_at(trace, next);
+    let (gap, after) = gap_on(atom, trace.time(r), from, &first, trace.time(next), &second);
+    Step { gap, next: after }
+}
+
+/// Whether the truth stays what it is over a step that is not the last.
+#[inline(always)]
+fn stays(at: usize, last: usize, step: &Step) -> bool
+    requires { at < last }
+    ensures more { IsTrue result → at + 1 < last }
+    ensures sign { IsTrue result → AreOfSign step.now.gap step.now.next }
+{
+    if at + 1 >= last {
+        return false;
+    }
+    keeps_sign(&step.gap, step.next)
+}
+
+/// How the atom's truth goes from row `r` on, where its sum is `from`: to the first row with a gap before it over which it may turn, or to the
+/// last row.
+#[inline(never)]
+pub fn way_from(bound: &Bound, node: u32, trace: &Trace, r: usize, from: i64) -> Way
+    requires atom { IsAtomNode bound.now node }
+    requires columns { length trace.now.header.columns ≡ bound.now.width }
+    requires within { r + 1 < length trace.now.rows }
+    requires from { IsReachAt bound.now node trace.now r from }
+    ensures { IsWay bound.now node trace.now r result }
+{
+    let atom = bound.atom(node);
+    let last = trace.rows() - 1;
+    let mut at = r;
+    let mut step = step_from(atom, trace, r, r + 1, from);
+    while stays(at, last, &step) {
+        at += 1;
+        step = step_from(atom, trace, at, at + 1, step.next);
+    }
+    Way {
+        row: at + 1,
+        sum: step.next,
+        passage: passage_over(atom.rel, &step.gap),
+        last: truth_at(atom.rel, step.next).holds(),
+    }
+}
+
+/// How far an atom's sum lies above its constant at a row, and whether the atom holds there.
+pub fn standing(bound: &Bound, node: u32, trace: &Trace, r: usize) -> (i64, bool)
+    requires atom { IsAtomNode bound.now node }
+    requires columns { length trace.now.header.columns ≡ bound.now.width }
+    requires within { r < length trace.now.rows }
+    ensures sum { IsReachAt bound.now node trace.now r result.0 }
+    ensures holds { (a : Atom) (tr : Recorded) (t : Rational) → IsFor bound.now node a tr → HasBlock tr trace.now → t ≈ row_time (row_of trace.now r)
+        → holds_at a tr t ≡ result.1 }
+{
+    let atom = bound.atom(node);
+    let row = row_at(trace, r);
+    let sum = reach_of(atom, &row, &row);
+    (sum, truth_at(atom.rel, sum).holds())
+}

@@ -1,0 +1,6 @@
+mod MovingLemmas
+mod GrowingLemmas
+mod SeeingLemmas
+mod TellingLemmas
+mod ReadyLemmas
+mod StandingLemmas

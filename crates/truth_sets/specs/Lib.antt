@@ -1,0 +1,6 @@
+pub mod Telling
+pub mod Growing
+pub mod Windows
+pub mod Nodes
+pub mod Rows
+pub mod Standing
