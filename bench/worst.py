@@ -90,6 +90,9 @@ def formulas(rows):
         "kept beside": f"always[0,{5 * rows}] ((a >= 0 or b >= 0) and (true until[0,{5 * rows}] ({both})))",
         "kept twice": f"always[0,{5 * rows}] (true until[0,{5 * rows}] (not (a >= 0 implies b < 0) or {both}))",
         "kept after all": f"eventually[{5 * rows},{10 * rows}] (a >= 0 until[0,20] (true until[0,{5 * rows}] always[0,{5 * rows}] once{long} ({both})))",
+        "gained within": f"eventually{long} (a >= 0 until{long} always{long} a >= -99999999)",
+        "gained between": f"eventually{long} ((once[{5 * rows},{5 * rows}] a >= 0 or c >= 0) until{long} always{long} a >= -99999999)",
+        "gained in places": f"eventually{long} ((once[{5 * rows},{5 * rows}] a >= 0 or once[{3 * rows},{3 * rows}] b >= 0 or c >= 0) until{long} always{long} a >= -99999999)",
     }
     return {name: text for name, text in some.items() if len(text) <= 8192}
 

@@ -17,6 +17,10 @@ one_more : (front : List Stretch) (last : Stretch) → length (front ++ last ∷
 one_more [] last = refl
 one_more (x ∷ xs) last = ap (λ n. suc n) (one_more xs last)
 
+-- a list with a last is not empty
+pub none_last : (xs front : List Stretch) (last : Stretch) → length xs ≡ 0 → xs ≡ front ++ last ∷ [] → ⊥
+none_last xs front last n e = let m : length xs ≡ suc (length front) = ap (λ l. length l) e ∙ one_more front last in omega arith
+
 set_at : (front : List Stretch) (last s : Stretch) (n : ℕ) → n ≡ length front → slice_set (front ++ last ∷ []) n s ≡ front ++ s ∷ []
 set_at [] last s n e = subst (λ k. slice_set (last ∷ []) k s ≡ s ∷ []) (sym e) refl
 set_at (x ∷ xs) last s n e =

@@ -1,6 +1,7 @@
 pub mod MakingLemmas
 pub mod StretchLemmas
 pub mod SpanLemmas
+mod BlockLemmas
 pub mod Absorbing
 pub mod GrowingLemmas
 mod EndingLemmas

@@ -1,7 +1,7 @@
 -- Lists of stretches that rise: taking one out, putting one in, and what the places before and after it hold.
 use Rattle.std.proofs.Common.{◌≡◌, ◌⊎◌, inl, inr, refl, ap, subst, sym, ℕ, zero, suc, ◌≤◌, List, [], ◌∷◌, ◌++◌, Some, None, length, take}
 use Rattle.std.proofs.Common.{drop, arith}
-use Rattle.std.specs.Prelude.{slice_get, slice_set}
+use Rattle.std.specs.Prelude.{slice_get, slice_index_or, slice_set}
 use Rattle.std.proofs.lemmas.Option.{same_Some}
 use Rattle.rational.specs.Time.{Rational}
 use Rattle.rational.specs.Places.{Place, After, Upto, Before}
@@ -111,6 +111,33 @@ pub within_without : (xs : List Stretch) (at : ℕ) (n : Stretch) → slice_get 
 within_without [] at n e = absurd (no_stretch n e)
 within_without (x ∷ xs) zero n e = omega arith
 within_without (x ∷ xs) (suc at) n e = let k = within_without xs at n e in omega arith
+
+-- behind a list nothing begins
+pub nothing_from : (c : Place) (xs : List Stretch) (at : ℕ) → None ≡ slice_get xs at → BeginsAfter c (drop at xs)
+nothing_from c [] zero e = tt
+nothing_from c [] (suc at) e = tt
+nothing_from c (x ∷ xs) zero e = absurd (no_stretch x e)
+nothing_from c (x ∷ xs) (suc at) e = nothing_from c xs at e
+
+-- where one begins after a place, those from there on do
+pub begins_from : (c : Place) (xs : List Stretch) (at : ℕ) (n : Stretch) → Some n ≡ slice_get xs at → Before c (place n.from) → BeginsAfter c (drop at xs)
+begins_from c [] at n e b = absurd (no_stretch n (sym e))
+begins_from c (x ∷ xs) zero n e b = subst (λ s. Before c (place s.from)) (same_Some n x e) b
+begins_from c (x ∷ xs) (suc at) n e b = begins_from c xs at n e b
+
+-- with no first there is none
+pub nothing_first : (xs : List Stretch) → None ≡ slice_get xs 0 → xs ≡ []
+nothing_first [] e = refl
+nothing_first (x ∷ xs) e = absurd (no_stretch x e)
+
+-- the first of a list is there, and read there
+pub first_within : (xs : List Stretch) (s : Stretch) → slice_get xs 0 ≡ Some s → suc zero ≤ length xs
+first_within [] s e = absurd (no_stretch s e)
+first_within (x ∷ xs) s e = omega arith
+
+pub first_read : (xs : List Stretch) (s : Stretch) → slice_get xs 0 ≡ Some s → s ≡ slice_index_or xs 0 s
+first_read [] s e = refl
+first_read (x ∷ xs) s e = sym (same_Some x s e)
 
 -- a stretch put in the place of one is put in where that one was taken out
 pub set_is : (xs : List Stretch) (at : ℕ) (s : Stretch) → suc at ≤ length xs → slice_set xs at s ≡ with_one (without xs at) at s

@@ -1,6 +1,7 @@
 pub mod Spans
 pub mod Joining
 pub mod Ending
+pub mod Listed
 pub mod Bounds
 pub mod Windows
 pub mod Steps

@@ -15,11 +15,11 @@ use crate::sets::Sets;
 use crate::shared::last_end;
 use crate::showing::{cut_front, front};
 use crate::stretch::Stretch;
+use crate::stretches::Stretches;
 use frac128::Cut;
-use std::collections::VecDeque;
 
 /// The last time that the spans have in the part, if there is a last one.
-fn last_time(spans: &VecDeque<Stretch>, part: &Stretch) -> Option<Cut>
+fn last_time(spans: &Stretches, part: &Stretch) -> Option<Cut>
     requires { AreTidy spans.now.items }
     ensures { IfSome result (λ c. IsOn spans.now.items (value c.time) × Lies part.now (value c.time) × (c.side ≡ 0)) }
 {
@@ -74,7 +74,7 @@ pub(crate) fn decisive(own: &Sets, left: &Sets, right: &Sets, low: u32, cut: &Cu
 }
 
 /// Lets go of the times that see none of the spans so far before them.
-fn keep_seeing(own: &mut Grown, spans: &VecDeque<Stretch>, low: u32)
+fn keep_seeing(own: &mut Grown, spans: &Stretches, low: u32)
     requires tidy { AreTidy own.old.spans.items }
     requires inside { IsGrownInside own.old }
     requires spans { AreTidy spans.now.items }
@@ -93,7 +93,7 @@ fn keep_seeing(own: &mut Grown, spans: &VecDeque<Stretch>, low: u32)
 }
 
 /// What a since without a bound has of windows that reach to the start, once its operands are let go from there.
-fn cut_endless(own: &mut Sets, spans: &VecDeque<Stretch>, low: u32)
+fn cut_endless(own: &mut Sets, spans: &Stretches, low: u32)
     requires tidy { AreSetsTidy own.old }
     requires inside { MatchOption own.old.parts (Unit {0}) (λ x. IsGrownInside x.holding.some) }
     requires spans { AreTidy spans.now.items }
@@ -109,7 +109,7 @@ fn cut_endless(own: &mut Sets, spans: &VecDeque<Stretch>, low: u32)
 }
 
 /// So of the since at a place.
-pub(crate) fn cut_endless_at(live: &mut [Sets], i: usize, spans: &VecDeque<Stretch>, low: u32)
+pub(crate) fn cut_endless_at(live: &mut [Sets], i: usize, spans: &Stretches, low: u32)
     requires within { i < length live.old }
     requires tidy { AllTidy live.old }
     requires inside { (s : ASets) → slice_get live.old i ≡ Some s → MatchOption s.parts (Unit {0}) (λ x. IsGrownInside x.holding.some) }

@@ -7,8 +7,8 @@ ghost use Rattle.early_verdict.specs.Ending.{BelongsAt, IsLast};
 ghost use Rattle.early_verdict.specs.declared.stretch.Stretch.{Stretch as AStretch};
 
 use crate::stretch::Stretch;
+use crate::stretches::Stretches;
 use frac128::{Cut, Memory};
-use std::collections::VecDeque;
 
 /// Where in a list a stretch belongs, as far as that is seen at the list's end.
 #[derive(Clone, Copy)]
@@ -21,21 +21,12 @@ pub(crate) enum End {
     Anywhere,
 }
 
-/// The last of the stretches.
-fn last_of(spans: &VecDeque<Stretch>) -> Option<Stretch>
-    ensures some { IfSome result (λ s. IsLast s spans.now.items) }
-    ensures none { IfNone result (spans.now.items ≡ []) }
-{
-    let last = *spans.back()?;
-    Some(last)
-}
-
 /// Where a stretch belongs that begins at the cut.
-pub(crate) fn end_for(spans: &VecDeque<Stretch>, cut: &Cut) -> End
+pub(crate) fn end_for(spans: &Stretches, cut: &Cut) -> End
     requires { AreTidy spans.now.items }
     ensures { BelongsAt (place cut.now) spans.now.items result }
 {
-    let Some(last) = last_of(spans) else {
+    let Some(last) = spans.last() else {
         return End::Behind;
     };
     if last.to.precedes(cut) {
@@ -49,7 +40,7 @@ pub(crate) fn end_for(spans: &VecDeque<Stretch>, cut: &Cut) -> End
 
 /// Puts the part behind all stretches of the list.
 pub(crate) fn put_last(
-    spans: &mut VecDeque<Stretch>,
+    spans: &mut Stretches,
     part: &Stretch,
     fresh: &mut Vec<Stretch>,
 ) -> Result<(), Memory>
@@ -68,17 +59,19 @@ pub(crate) fn put_last(
 }
 
 /// Puts a stretch in the place of the last one.
-fn set_last(spans: &mut VecDeque<Stretch>, stretch: Stretch)
+fn set_last(spans: &mut Stretches, stretch: Stretch)
     ensures { (front : List AStretch) (last : AStretch) → spans.old.items ≡ front ++ last ∷ [] → spans.new.items ≡ front ++ stretch ∷ [] }
 {
-    if let Some(last) = spans.back_mut() {
-        *last = stretch;
+    let count = spans.len();
+    if count == 0 {
+        return;
     }
+    spans.set(count - 1, stretch);
 }
 
 /// Lengthens the last stretch up to where the part ends, which begins in it or at its end.
 pub(crate) fn lengthen(
-    spans: &mut VecDeque<Stretch>,
+    spans: &mut Stretches,
     last: &Stretch,
     part: &Stretch,
     fresh: &mut Vec<Stretch>,

@@ -1,16 +1,16 @@
 //! Sets of times that only grow, as stretches that rise and do not touch, with what they gained of late.
 use crate::ending::{End, end_for, lengthen, put_last};
 use crate::stretch::Stretch;
+use crate::stretches::Stretches;
 use crate::touching::{holding, put_in};
 use frac128::{Cut, Memory};
 use std::alloc::Global;
-use std::collections::VecDeque;
 
 /// A set of times within bounds that only grows, and the stretches that it gained since they were last cleared.
 #[derive(Drop)]
 pub struct Grown {
     pub(crate) bounds: Stretch,
-    pub(crate) spans: VecDeque<Stretch>,
+    pub(crate) spans: Stretches,
     pub(crate) fresh: Vec<Stretch>,
 }
 
@@ -30,7 +30,7 @@ impl Grown {
     {
         Grown {
             bounds,
-            spans: VecDeque::new(alloc),
+            spans: Stretches::new(alloc),
             fresh: Vec::new(alloc),
         }
     }

@@ -8,10 +8,10 @@ ghost use Rattle.early_verdict.specs.Steps.{BySome, HeldAt};
 use crate::grown::Grown;
 use crate::seeing::{add_held, add_seeing};
 use crate::stretch::Stretch;
+use crate::stretches::Stretches;
 use crate::touching::holding;
 use crate::window::Window;
 use frac128::{Cut, Memory};
-use std::collections::VecDeque;
 
 /// Adds the times from which some time of one of the parts lies in the window.
 pub(crate) fn add_all_seeing(own: &mut Grown, parts: &[Stretch], w: &Window) -> Result<(), Memory>
@@ -31,7 +31,7 @@ pub(crate) fn add_all_seeing(own: &mut Grown, parts: &[Stretch], w: &Window) -> 
 fn add_held_by(
     own: &mut Grown,
     part: &Stretch,
-    spans: &VecDeque<Stretch>,
+    spans: &Stretches,
     start: &Cut,
     w: &Window,
 ) -> Result<(), Memory>
@@ -52,7 +52,7 @@ fn add_held_by(
 pub(crate) fn add_all_held(
     own: &mut Grown,
     parts: &[Stretch],
-    spans: &VecDeque<Stretch>,
+    spans: &Stretches,
     start: &Cut,
     w: &Window,
 ) -> Result<(), Memory>

@@ -8,10 +8,10 @@ ghost use Rattle.early_verdict.specs.Lasting.{BeginsFrom, IsRunTo, SeesNone};
 
 use crate::grown::Grown;
 use crate::stretch::Stretch;
-use crate::touching::{begins_by, first_reaching};
+use crate::stretches::Stretches;
+use crate::touching::begins_by;
 use crate::window::Window;
 use frac128::{Cut, Memory};
-use std::collections::VecDeque;
 
 /// Adds the times whose window has no time from the start on.
 pub(crate) fn add_unseeing(own: &mut Grown, start: &Cut, w: &Window) -> Result<(), Memory>
@@ -54,13 +54,13 @@ pub(crate) fn add_beginning(
 }
 
 /// Where the stretch begins that reaches the cut; the cut itself, where none does.
-pub(crate) fn run_to(spans: &VecDeque<Stretch>, last: &Cut) -> Cut
+pub(crate) fn run_to(spans: &Stretches, last: &Cut) -> Cut
     requires tidy { AreTidy spans.now.items }
     requires near { IsWithin (2 ^ 34) (value last.now.time) }
     ensures run { IsRunTo spans.now.items (place last.now) (place result) }
     ensures near { IsWithin (2 ^ 34) (value result.time) }
 {
-    match begins_by(spans, first_reaching(spans, last), last) {
+    match begins_by(spans, spans.reaching(last), last) {
         Some(next) => next.from,
         None => *last,
     }

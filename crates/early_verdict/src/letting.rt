@@ -24,13 +24,13 @@ use crate::operators::ticks_before;
 use crate::sets::{Failing, Holding, Net, Sets};
 use crate::showing::{bounds_from, cut_to, front, narrow};
 use crate::stretch::Stretch;
+use crate::stretches::Stretches;
 use crate::touching::holding;
 use frac128::Cut;
-use std::collections::VecDeque;
 use stl_syntax::{Formula, Node};
 
 /// Where the stretch ends that holds the times just after the cut; the cut itself, where none does.
-fn past(spans: &VecDeque<Stretch>, cut: Cut) -> Cut
+fn past(spans: &Stretches, cut: Cut) -> Cut
     requires { AreTidy spans.now.items }
     ensures { (t : Rational) → After (place cut) t → Upto (place result) t → IsOn spans.now.items t }
 {
@@ -141,7 +141,7 @@ fn show_first(own: &mut Grown, other: &mut Grown, cut: &Cut)
     if !first.from.precedes(cut) {
         return;
     }
-    own.spans.truncate(1);
+    own.spans.keep_first();
     other.spans.clear();
     own.bounds = first;
     other.bounds = first;

@@ -29,6 +29,7 @@ mod shared;
 mod showing;
 mod steps;
 mod stretch;
+mod stretches;
 mod sure;
 mod tops;
 mod touching;

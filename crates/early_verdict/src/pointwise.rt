@@ -5,9 +5,9 @@ ghost use Rattle.early_verdict.specs.Steps.{BySome, Common};
 
 use crate::grown::Grown;
 use crate::stretch::Stretch;
-use crate::touching::{begins_by, first_reaching};
+use crate::stretches::Stretches;
+use crate::touching::begins_by;
 use frac128::Memory;
-use std::collections::VecDeque;
 
 /// Adds each of the stretches.
 pub(crate) fn add_all(own: &mut Grown, parts: &[Stretch]) -> Result<(), Memory>
@@ -24,11 +24,7 @@ pub(crate) fn add_all(own: &mut Grown, parts: &[Stretch]) -> Result<(), Memory>
 }
 
 /// Adds what the part and the spans have in common.
-pub(crate) fn add_common(
-    own: &mut Grown,
-    part: &Stretch,
-    spans: &VecDeque<Stretch>,
-) -> Result<(), Memory>
+pub(crate) fn add_common(own: &mut Grown, part: &Stretch, spans: &Stretches) -> Result<(), Memory>
     requires own { AreTidy own.old.spans.items }
     requires spans { AreTidy spans.now.items }
     ensures tidy { OnOk result (AreTidy own.new.spans.items) }
@@ -36,7 +32,7 @@ pub(crate) fn add_common(
     ensures ok { OnOk result (Grows own.old.bounds own.old.spans.items own.new.spans.items own.old.fresh.items own.new.fresh.items
         (Common spans.now.items part.now)) }
 {
-    let mut at = first_reaching(spans, &part.from);
+    let mut at = spans.reaching(&part.from);
     while let Some(next) = begins_by(spans, at, &part.to) {
         own.add(part.from.later(next.from), part.to.earlier(next.to))?;
         at += 1;
@@ -48,7 +44,7 @@ pub(crate) fn add_common(
 pub(crate) fn add_all_common(
     own: &mut Grown,
     parts: &[Stretch],
-    spans: &VecDeque<Stretch>,
+    spans: &Stretches,
 ) -> Result<(), Memory>
     requires own { AreTidy own.old.spans.items }
     requires spans { AreTidy spans.now.items }

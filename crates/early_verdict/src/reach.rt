@@ -8,17 +8,12 @@ ghost use Rattle.early_verdict.specs.Reaching.{IsCarried, ReachedAt, ReachesAt, 
 use crate::grown::Grown;
 use crate::shared::{first_begin, last_end};
 use crate::stretch::Stretch;
-use crate::touching::{begins_by, first_reaching, holding};
+use crate::stretches::Stretches;
+use crate::touching::{begins_by, holding};
 use frac128::{Cut, Memory};
-use std::collections::VecDeque;
 
 /// Adds the times of the run from which on it has a sure time of the spans.
-fn add_reaching(
-    own: &mut Grown,
-    run: &Stretch,
-    spans: &VecDeque<Stretch>,
-    sure: &Cut,
-) -> Result<(), Memory>
+fn add_reaching(own: &mut Grown, run: &Stretch, spans: &Stretches, sure: &Cut) -> Result<(), Memory>
     requires own { AreTidy own.old.spans.items }
     requires spans { AreTidy spans.now.items }
     ensures tidy { OnOk result (AreTidy own.new.spans.items) }
@@ -39,8 +34,8 @@ fn add_reaching(
 fn add_reaching_at(
     own: &mut Grown,
     part: &Stretch,
-    runs: &VecDeque<Stretch>,
-    spans: &VecDeque<Stretch>,
+    runs: &Stretches,
+    spans: &Stretches,
     sure: &Cut,
 ) -> Result<(), Memory>
     requires own { AreTidy own.old.spans.items }
@@ -61,8 +56,8 @@ fn add_reaching_at(
 pub(crate) fn add_all_reaching(
     own: &mut Grown,
     parts: &[Stretch],
-    runs: &VecDeque<Stretch>,
-    spans: &VecDeque<Stretch>,
+    runs: &Stretches,
+    spans: &Stretches,
     sure: &Cut,
 ) -> Result<(), Memory>
     requires own { AreTidy own.old.spans.items }
@@ -83,8 +78,8 @@ pub(crate) fn add_all_reaching(
 fn add_reaching_by(
     own: &mut Grown,
     part: &Stretch,
-    runs: &VecDeque<Stretch>,
-    spans: &VecDeque<Stretch>,
+    runs: &Stretches,
+    spans: &Stretches,
     before: &Cut,
     sure: &Cut,
 ) -> Result<(), Memory>
@@ -105,8 +100,8 @@ fn add_reaching_by(
 /// So for each stretch of the spans.
 pub(crate) fn add_reaching_between(
     own: &mut Grown,
-    runs: &VecDeque<Stretch>,
-    spans: &VecDeque<Stretch>,
+    runs: &Stretches,
+    spans: &Stretches,
     before: &Cut,
     sure: &Cut,
 ) -> Result<(), Memory>
@@ -118,7 +113,7 @@ pub(crate) fn add_reaching_between(
     ensures ok { OnOk result (Grows own.old.bounds own.old.spans.items own.new.spans.items own.old.fresh.items own.new.fresh.items
         (BySome (ReachesBy runs.now.items spans.now.items (place before.now) (place sure.now)) spans.now.items)) }
 {
-    let mut at = first_reaching(spans, before);
+    let mut at = spans.reaching(before);
     while let Some(next) = begins_by(spans, at, sure) {
         add_reaching_by(own, &next, runs, spans, before, sure)?;
         at += 1;
@@ -130,8 +125,8 @@ pub(crate) fn add_reaching_between(
 fn add_reached_at(
     own: &mut Grown,
     part: &Stretch,
-    runs: &VecDeque<Stretch>,
-    spans: &VecDeque<Stretch>,
+    runs: &Stretches,
+    spans: &Stretches,
 ) -> Result<(), Memory>
     requires own { AreTidy own.old.spans.items }
     requires runs { AreTidy runs.now.items }
@@ -154,8 +149,8 @@ fn add_reached_at(
 pub(crate) fn add_all_reached(
     own: &mut Grown,
     parts: &[Stretch],
-    runs: &VecDeque<Stretch>,
-    spans: &VecDeque<Stretch>,
+    runs: &Stretches,
+    spans: &Stretches,
 ) -> Result<(), Memory>
     requires own { AreTidy own.old.spans.items }
     requires runs { AreTidy runs.now.items }
@@ -172,11 +167,7 @@ pub(crate) fn add_all_reached(
 }
 
 /// Adds the first times of the runs, from the bounds of the set on without a break, where they are carried on from before these.
-pub(crate) fn add_carried(
-    own: &mut Grown,
-    runs: &VecDeque<Stretch>,
-    carried: bool,
-) -> Result<(), Memory>
+pub(crate) fn add_carried(own: &mut Grown, runs: &Stretches, carried: bool) -> Result<(), Memory>
     requires own { AreTidy own.old.spans.items }
     requires runs { AreTidy runs.now.items }
     ensures tidy { OnOk result (AreTidy own.new.spans.items) }

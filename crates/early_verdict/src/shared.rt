@@ -7,12 +7,12 @@ ghost use Rattle.early_verdict.specs.Reaching.{IsFirstBegin, IsLastEnd};
 ghost use Rattle.early_verdict.specs.declared.stretch.Stretch.{Stretch};
 
 use crate::stretch::Stretch;
-use crate::touching::{begins_by, first_reaching};
+use crate::stretches::Stretches;
+use crate::touching::begins_by;
 use frac128::Cut;
-use std::collections::VecDeque;
 
 /// What the stretch at the place has within the part.
-fn shared_at(spans: &VecDeque<Stretch>, at: usize, part: &Stretch) -> Option<Stretch>
+fn shared_at(spans: &Stretches, at: usize, part: &Stretch) -> Option<Stretch>
     ensures some { IfSome result (λ s. (n : Stretch) × (slice_get spans.now.items at ≡ Some n) × ((t : Rational) → Lies s t ↔ (Lies n t × Lies part.now t))) }
     ensures none { IfNone result ((n : Stretch) → slice_get spans.now.items at ≡ Some n → (t : Rational) → Lies n t → ¬ (Lies part.now t)) }
 {
@@ -21,12 +21,12 @@ fn shared_at(spans: &VecDeque<Stretch>, at: usize, part: &Stretch) -> Option<Str
 }
 
 /// Where what the spans have within the part ends.
-pub(crate) fn last_end(spans: &VecDeque<Stretch>, part: &Stretch) -> Option<Cut>
+pub(crate) fn last_end(spans: &Stretches, part: &Stretch) -> Option<Cut>
     requires { AreTidy spans.now.items }
     ensures some { IfSome result (λ c. IsLastEnd spans.now.items part.now (place c)) }
     ensures none { IfNone result ((u : Rational) → Lies part.now u → ¬ (IsOn spans.now.items u)) }
 {
-    let at = first_reaching(spans, &part.to);
+    let at = spans.reaching(&part.to);
     if let Some(last) = shared_at(spans, at, part) {
         return Some(last.to);
     }
@@ -38,12 +38,12 @@ pub(crate) fn last_end(spans: &VecDeque<Stretch>, part: &Stretch) -> Option<Cut>
 }
 
 /// Where what the spans have within the part begins.
-pub(crate) fn first_begin(spans: &VecDeque<Stretch>, part: &Stretch) -> Option<Cut>
+pub(crate) fn first_begin(spans: &Stretches, part: &Stretch) -> Option<Cut>
     requires { AreTidy spans.now.items }
     ensures some { IfSome result (λ c. IsFirstBegin spans.now.items part.now (place c)) }
     ensures none { IfNone result ((u : Rational) → Lies part.now u → ¬ (IsOn spans.now.items u)) }
 {
-    let at = first_reaching(spans, &part.from);
+    let at = spans.reaching(&part.from);
     if let Some(first) = shared_at(spans, at, part) {
         return Some(first.from);
     }

@@ -13,8 +13,8 @@ ghost use Rattle.early_verdict.specs.Letting.{IsCutAt, IsGrownInside};
 use crate::grown::Grown;
 use crate::pointwise::add_all;
 use crate::stretch::Stretch;
+use crate::stretches::Stretches;
 use frac128::{Cut, Memory};
-use std::collections::VecDeque;
 
 /// Takes in what the other set gained, as far as it lies in the bounds, and notes what is new of it.
 pub(crate) fn take_in(own: &mut Grown, x: &Grown) -> Result<(), Memory>
@@ -29,16 +29,18 @@ pub(crate) fn take_in(own: &mut Grown, x: &Grown) -> Result<(), Memory>
 }
 
 /// The first of the stretches.
-pub(crate) fn front(spans: &VecDeque<Stretch>) -> Option<Stretch>
+pub(crate) fn front(spans: &Stretches) -> Option<Stretch>
     ensures some { IfSome result (λ s. slice_get spans.now.items 0 ≡ Some s) }
     ensures none { IfNone result (spans.now.items ≡ []) }
 {
-    let first = *spans.get(0)?;
+    let Some(first) = spans.get(0) else {
+        return None;
+    };
     Some(first)
 }
 
 /// Lets go of the stretches that end before the cut or at it.
-fn drop_before(spans: &mut VecDeque<Stretch>, cut: &Cut)
+fn drop_before(spans: &mut Stretches, cut: &Cut)
     requires { AreTidy spans.old.items }
     ensures tidy { AreTidy spans.new.items }
     ensures kept { (t : Rational) → IsOn spans.new.items t → IsOn spans.old.items t }
@@ -49,12 +51,12 @@ fn drop_before(spans: &mut VecDeque<Stretch>, cut: &Cut)
         if cut.precedes(&first.to) {
             return;
         }
-        let _ = spans.pop_front();
+        spans.pop_front();
     }
 }
 
 /// Lets go of the times before the cut.
-pub(crate) fn cut_front(spans: &mut VecDeque<Stretch>, cut: &Cut)
+pub(crate) fn cut_front(spans: &mut Stretches, cut: &Cut)
     requires tidy { AreTidy spans.old.items }
     requires near { IsWithin (2 ^ 34) (value cut.now.time) }
     ensures tidy { AreTidy spans.new.items }
@@ -62,11 +64,12 @@ pub(crate) fn cut_front(spans: &mut VecDeque<Stretch>, cut: &Cut)
     ensures left { (t : Rational) → IsOn spans.old.items t → After (place cut.now) t → IsOn spans.new.items t }
 {
     drop_before(spans, cut);
-    if let Some(first) = spans.front_mut() {
-        *first = Stretch {
+    if let Some(first) = front(spans) {
+        let rest = Stretch {
             from: first.from.later(*cut),
             to: first.to,
         };
+        spans.set(0, rest);
     }
 }
 

@@ -9,10 +9,10 @@ use crate::grown::Grown;
 use crate::pointwise::add_all;
 use crate::seeing::add_seeing;
 use crate::stretch::Stretch;
-use crate::touching::{begins_by, first_reaching};
+use crate::stretches::Stretches;
+use crate::touching::begins_by;
 use crate::window::Window;
 use frac128::{Cut, Memory};
-use std::collections::VecDeque;
 
 /// Adds the times from which some time of the part between the two cuts lies in the window.
 fn add_seeing_within(
@@ -56,7 +56,7 @@ pub(crate) fn add_all_sure(
 /// Adds the times from which some time of the spans between the two cuts lies in the window.
 pub(crate) fn add_seeing_between(
     own: &mut Grown,
-    spans: &VecDeque<Stretch>,
+    spans: &Stretches,
     from: &Cut,
     to: &Cut,
     w: &Window,
@@ -68,7 +68,7 @@ pub(crate) fn add_seeing_between(
     ensures ok { OnOk result (Grows own.old.bounds own.old.spans.items own.new.spans.items own.old.fresh.items own.new.fresh.items
         (BySome (SeesWithin w.now (place from.now) (place to.now)) spans.now.items)) }
 {
-    let mut at = first_reaching(spans, from);
+    let mut at = spans.reaching(from);
     while let Some(next) = begins_by(spans, at, to) {
         add_seeing_within(own, &next, from, to, w)?;
         at += 1;

@@ -1,5 +1,5 @@
 //! The stretches of a list that another one touches.
-ghost use Rattle.std.specs.Prelude.{◌≡◌, ◌≤◌, ◌<◌, ◌++◌, ◌∷◌, ◌↔◌, List, length, take, drop, slice_get, slice_set, Some, IfOk, OnOk, IfSome, IfNone};
+ghost use Rattle.std.specs.Prelude.{◌≡◌, ◌≤◌, ◌<◌, ◌^◌, length, take, drop, slice_get, Some, OnOk, IfSome, IfNone};
 ghost use Rattle.rational.specs.Time.{Rational};
 ghost use Rattle.rational.specs.Places.{After, Upto, Before};
 ghost use Rattle.frac128.specs.Cuts.{place};
@@ -9,35 +9,18 @@ ghost use Rattle.early_verdict.specs.declared.stretch.Stretch.{Stretch};
 ghost use Rattle.early_verdict.specs.Joining.{Notes};
 
 use crate::stretch::Stretch;
+use crate::stretches::Stretches;
 use frac128::{Cut, Memory};
-use std::collections::VecDeque;
-
-/// The place of the first stretch that does not end before the cut.
-pub(crate) fn first_reaching(spans: &VecDeque<Stretch>, cut: &Cut) -> usize
-    requires { AreTidy spans.now.items }
-    ensures within { result ≤ length spans.now.items }
-    ensures front { EndBefore (place cut.now) (take result spans.now.items) }
-    ensures rest { NoneEndsBefore (place cut.now) (drop result spans.now.items) }
-{
-    let mut low = 0;
-    let mut high = spans.len();
-    while low < high {
-        let middle = low + (high - low) / 2;
-        if spans[middle].to.precedes(cut) {
-            low = middle + 1;
-        } else {
-            high = middle;
-        }
-    }
-    low
-}
 
 /// The stretch at the place, if it does not begin after the cut.
-pub(crate) fn begins_by(spans: &VecDeque<Stretch>, at: usize, cut: &Cut) -> Option<Stretch>
+pub(crate) fn begins_by(spans: &Stretches, at: usize, cut: &Cut) -> Option<Stretch>
     ensures some { IfSome result (λ s. (slice_get spans.now.items at ≡ Some s) × ¬ (Before (place cut.now) (place s.from))) }
     ensures none { IfNone result (BeginsAfter (place cut.now) (drop at spans.now.items)) }
+    ensures few { IfSome result (λ s. at < 2 ^ 62) }
 {
-    let next = *spans.get(at)?;
+    let Some(next) = spans.get(at) else {
+        return None;
+    };
     if cut.precedes(&next.from) {
         return None;
     }
@@ -45,12 +28,12 @@ pub(crate) fn begins_by(spans: &VecDeque<Stretch>, at: usize, cut: &Cut) -> Opti
 }
 
 /// The stretch that holds the times just after the cut.
-pub(crate) fn holding(spans: &VecDeque<Stretch>, cut: &Cut) -> Option<Stretch>
+pub(crate) fn holding(spans: &Stretches, cut: &Cut) -> Option<Stretch>
     requires { AreTidy spans.now.items }
     ensures some { IfSome result (λ s. IsAmong s spans.now.items × HoldsFrom s (place cut.now)) }
     ensures none { IfNone result ((s : Stretch) → IsAmong s spans.now.items → ¬ (HoldsFrom s (place cut.now))) }
 {
-    let at = first_reaching(spans, cut);
+    let at = spans.reaching(cut);
     let next = begins_by(spans, at, cut)?;
     if !cut.precedes(&next.to) {
         return None;
@@ -71,20 +54,10 @@ fn note(fresh: &mut Vec<Stretch>, from: &Cut, to: &Cut, part: &Stretch) -> Resul
     }
 }
 
-/// Puts a stretch in the place of the one that stands there.
-fn set_at(spans: &mut VecDeque<Stretch>, at: usize, stretch: Stretch)
-    requires { at < length spans.old.items }
-    ensures { spans.new.items ≡ slice_set spans.old.items at stretch }
-{
-    if let Some(one) = spans.get_mut(at) {
-        *one = stretch;
-    }
-}
-
 /// Joins the part with the stretch at the place, which it touches, and with those after it that it touches too, and notes the times of
 /// the part that were in none of them. A stretch that is joined with the part alone stays where it is: nothing slides.
 fn join(
-    spans: &mut VecDeque<Stretch>,
+    spans: &mut Stretches,
     at: usize,
     first: &Stretch,
     part: &Stretch,
@@ -92,6 +65,7 @@ fn join(
 ) -> Result<(), Memory>
     requires tidy { AreTidy spans.old.items }
     requires within { at ≤ length spans.old.items }
+    requires few { at < 2 ^ 62 }
     requires front { EndBefore (place part.now.from) (take at spans.old.items) }
     requires rest { NoneEndsBefore (place part.now.from) (drop at spans.old.items) }
     requires first { slice_get spans.old.items at ≡ Some first.now }
@@ -106,16 +80,16 @@ fn join(
         note(fresh, &seen, &next.from, part)?;
         seen = next.to;
         joined = joined.hull(&next);
-        let _ = spans.remove(at + 1);
+        spans.remove(at + 1)?;
     }
     note(fresh, &seen, &part.to, part)?;
-    set_at(spans, at, joined);
+    spans.set(at, joined);
     Ok(())
 }
 
 /// Puts the part in at the place, where it touches no stretch.
 fn put_at(
-    spans: &mut VecDeque<Stretch>,
+    spans: &mut Stretches,
     at: usize,
     part: &Stretch,
     fresh: &mut Vec<Stretch>,
@@ -138,7 +112,7 @@ fn put_at(
 
 /// Puts the part in where it belongs, joined with the stretches that it touches.
 pub(crate) fn put_in(
-    spans: &mut VecDeque<Stretch>,
+    spans: &mut Stretches,
     part: &Stretch,
     fresh: &mut Vec<Stretch>,
 ) -> Result<(), Memory>
@@ -146,7 +120,7 @@ pub(crate) fn put_in(
     ensures tidy { OnOk result (AreTidy spans.new.items) }
     ensures ok { OnOk result (Grows part.now spans.old.items spans.new.items fresh.old.items fresh.new.items (Lies part.now)) }
 {
-    let at = first_reaching(spans, &part.from);
+    let at = spans.reaching(&part.from);
     match begins_by(spans, at, &part.to) {
         None => put_at(spans, at, part, fresh),
         Some(first) => join(spans, at, &first, part, fresh),

@@ -21,9 +21,9 @@ shift_begin-from-requires c =
 
 pub returns-in_default : goal.returns-in_default
 returns-in_default c = record {
-  tidy = subst AreTidy (sym c.clear.ensures.items) tt;
+  tidy = subst AreTidy (sym c.clear.ensures) tt;
   bounds = refl;
-  kept = λ t o. absurd (none_of c.clear.new.self.items t c.clear.ensures.items o);
+  kept = λ t o. absurd (none_of c.clear.new.self.items t c.clear.ensures o);
   left = λ t o u w m. absurd (none_of c.args.spans.now.items u c.in_default.ensures.none w);
 }
 
@@ -64,9 +64,9 @@ returns-in-None c =
     let moved : Same from (moved_begin (pos c.args.low) true (place first.from)) =
     subst (λ k. Same from (moved_begin k true (place first.from))) by c.shift_begin-from.ensures in
     record {
-      tidy = subst AreTidy (sym c.clear-in-None.ensures.items) tt;
+      tidy = subst AreTidy (sym c.clear-in-None.ensures) tt;
       bounds = refl;
-      kept = λ t o. absurd (none_of c.clear-in-None.new.self.items t c.clear-in-None.ensures.items o);
+      kept = λ t o. absurd (none_of c.clear-in-None.new.self.items t c.clear-in-None.ensures o);
       left = λ t o u w m.
           let a = after_moved (place first.from) c.args.low t u (first_begins xs first u c.requires.spans e w) m in
           let l = subst (λ b. Lies b t) (sym c.bounds-bounds.ensures) (c.requires.inside t o) in

@@ -5,9 +5,9 @@ use Rattle.early_verdict.proofs.ending.put_last.Goals as goal
 
 pub returns-clause-tidy : goal.returns-clause-tidy
 returns-clause-tidy c =
-    subst AreTidy (sym c.in-Ok.ensures.items) (tidy_behind c.args.spans.now.items c.args.part.now c.requires.tidy c.requires.behind)
+    subst AreTidy (sym c.in-Ok.ensures) (tidy_behind c.args.spans.now.items c.args.part.now c.requires.tidy c.requires.behind)
 
 pub returns-clause-ok : goal.returns-clause-ok
 returns-clause-ok c =
     grows_behind c.args.part.now c.args.spans.now.items c.push_back.new.self.items c.args.fresh.now.items c.push.new.self.items c.requires.behind
-    c.in-Ok.ensures.items c.in-Ok-push.ensures.items
+    c.in-Ok.ensures c.in-Ok-push.ensures.items

@@ -1,8 +1,10 @@
-use Rattle.std.proofs.Common.{rules, ◌≡◌, length, deque_len}
-use Rattle.early_verdict.proofs.EndingLemmas.{set_last_is}
+use Rattle.std.proofs.Common.{◌∙◌, length, arith}
+use Rattle.early_verdict.proofs.EndingLemmas.{set_last_is, none_last}
 use Rattle.early_verdict.proofs.ending.set_last.Goals as goal
 
-pub returns-in-Some : goal.returns-in-Some
-returns-in-Some c = λ front last e.
-    let n : deque_len c.args.spans.now ≡ length c.args.spans.now.items = search rules in
-    set_last_is c.args.spans.now.items front last c.args.stretch (deque_len c.args.spans.now) n e
+pub returns-then-count-eq0 : goal.returns-then-count-eq0
+returns-then-count-eq0 c = λ front last e. let n = c.len-count.ensures.len in absurd (none_last c.args.spans.now.items front last (omega arith) e)
+
+pub returns : goal.returns
+returns c = λ front last e.
+    c.set.ensures ∙ set_last_is c.args.spans.now.items front last c.args.stretch c.len-count.result c.len-count.ensures.len e

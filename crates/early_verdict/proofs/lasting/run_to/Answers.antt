@@ -10,13 +10,13 @@ pub returns-in-Some-clause-run : goal.returns-in-Some-clause-run
 returns-in-Some-clause-run c =
     let spans = c.args.spans.now.items in
     let last = place c.args.last.now in
-    let at = c.first_reaching.result in
+    let at = c.reaching.result in
     let next = c.in-Some.next in
     let e = c.in-Some.ensures.some.0 in
     record {
       at_most = at_most_of_not_before (place next.from) last c.in-Some.ensures.some.1;
       holds = λ t a u.
-          on_at spans at next t e (a, at_most_of_not_before last (place next.to) (reaches_at last spans at next c.first_reaching.ensures.rest e) t u);
+          on_at spans at next t e (a, at_most_of_not_before last (place next.to) (reaches_at last spans at next c.reaching.ensures.rest e) t u);
       gap = λ d b. gap_before spans next d c.requires.tidy (among_at spans at next e) b;
     }
 
@@ -24,9 +24,9 @@ pub returns-in-None-clause-run : goal.returns-in-None-clause-run
 returns-in-None-clause-run c =
     let spans = c.args.spans.now.items in
     let last = place c.args.last.now in
-    let at = c.first_reaching.result in
+    let at = c.reaching.result in
     record {
       at_most = λ t u. u;
       holds = λ t a u. absurd (not_both last t u a);
-      gap = λ d b. gap_at spans at d last c.requires.tidy c.first_reaching.ensures.front c.in-None.ensures.none b;
+      gap = λ d b. gap_at spans at d last c.requires.tidy c.reaching.ensures.front c.in-None.ensures.none b;
     }

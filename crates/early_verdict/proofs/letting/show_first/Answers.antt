@@ -16,8 +16,8 @@ returns c =
       part = c.in-Some.first;
       among = among_at c.args.own.now.spans.items 0 c.in-Some.first e;
       begins = c.precedes.ensures.0 c.if-not-precedes.false;
-      left = c.truncate.ensures.items ∙ take_one c.args.own.now.spans.items c.in-Some.first e;
-      none = c.clear.ensures.items;
+      left = c.keep_first.ensures ∙ take_one c.args.own.now.spans.items c.in-Some.first e;
+      none = c.clear.ensures;
       bounds = refl;
       other_bounds = refl;
     })

@@ -8,11 +8,11 @@ use Rattle.early_verdict.proofs.pointwise.add_common.Goals as goal
 
 pub loop-next-init : goal.loop-next-init
 loop-next-init c = record {
-  within = c.first_reaching-at.ensures.within;
+  within = c.reaching-at.ensures.within;
   tidy = c.requires.own;
   bounds = refl;
   grows = common_first c.args.part.now c.args.spans.now.items
-      c.first_reaching-at.result c.first_reaching-at.ensures.front;
+      c.reaching-at.result c.reaching-at.ensures.front;
 }
 
 pub loop-next-preserved : goal.loop-next-preserved

@@ -10,12 +10,12 @@ pub loop-next-init : goal.loop-next-init
 loop-next-init c =
     let own = c.args.own.now in
     record {
-      within = c.first_reaching-at.ensures.within;
+      within = c.reaching-at.ensures.within;
       tidy = c.requires.own;
       bounds = refl;
       grows = between_first (ReachesBy c.args.runs.now.items c.args.spans.now.items (place c.args.before.now) (place c.args.sure.now))
           (place c.args.before.now) (place c.args.sure.now) own.bounds
-          c.args.spans.now.items c.first_reaching-at.result (λ s t h. (h.3.0, h.3.1)) own.spans.items own.fresh.items c.first_reaching-at.ensures.front;
+          c.args.spans.now.items c.reaching-at.result (λ s t h. (h.3.0, h.3.1)) own.spans.items own.fresh.items c.reaching-at.ensures.front;
     }
 
 pub loop-next-preserved : goal.loop-next-preserved

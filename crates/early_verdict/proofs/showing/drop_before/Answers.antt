@@ -19,12 +19,12 @@ returns-then-precedes-clause-first c =
     ends_after (place c.args.cut.now) c.loop-first.spans.items c.in-Some.first c.in-Some.ensures.some (c.precedes.ensures.0 c.if-precedes.true)
 
 pub loop-first-smaller : goal.loop-first-smaller
-loop-first-smaller c = fewer c.loop-first.spans.items c.pop_front.new.self.items c.in-Some.first c.in-Some.ensures.some c.pop_front.ensures.rest
+loop-first-smaller c = fewer c.loop-first.spans.items c.pop_front.new.self.items c.in-Some.first c.in-Some.ensures.some c.pop_front.ensures
 
 pub loop-first-preserved : goal.loop-first-preserved
 loop-first-preserved c =
     one_dropped (place c.args.cut.now) c.args.spans.now.items c.loop-first.spans.items c.pop_front.new.self.items c.in-Some.first c.in-Some.ensures.some
-    c.pop_front.ensures.rest (λ b. let x = c.precedes.ensures.1 b in let y = c.if-precedes.false in cc) c.loop-first.invariant
+    c.pop_front.ensures (λ b. let x = c.precedes.ensures.1 b in let y = c.if-precedes.false in cc) c.loop-first.invariant
 
 pub returns-clause-tidy : goal.returns-clause-tidy
 returns-clause-tidy c = c.loop-first.invariant.tidy

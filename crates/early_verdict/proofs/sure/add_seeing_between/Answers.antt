@@ -10,11 +10,11 @@ pub loop-next-init : goal.loop-next-init
 loop-next-init c =
     let own = c.args.own.now in
     record {
-      within = c.first_reaching-at.ensures.within;
+      within = c.reaching-at.ensures.within;
       tidy = c.requires.own;
       bounds = refl;
       grows = between_first (SeesWithin c.args.w.now (place c.args.from.now) (place c.args.to.now)) (place c.args.from.now) (place c.args.to.now) own.bounds
-          c.args.spans.now.items c.first_reaching-at.result (λ s t h. (h.0, h.1)) own.spans.items own.fresh.items c.first_reaching-at.ensures.front;
+          c.args.spans.now.items c.reaching-at.result (λ s t h. (h.0, h.1)) own.spans.items own.fresh.items c.reaching-at.ensures.front;
     }
 
 pub loop-next-preserved : goal.loop-next-preserved

@@ -1,6 +1,5 @@
 use Rattle.std.proofs.Common.{rules, ℕ, List, ◌≡◌, ◌+◌, ◌<◌, refl, sym, ap, subst, ◌∙◌, length, suc, drop, add-one, arith}
-use Rattle.std.specs.Prelude.{OnSome, Some, slice_get}
-use Rattle.std.specs.VecDeque.{deque_len}
+use Rattle.std.specs.Prelude.{Some, slice_get}
 use Rattle.std.proofs.lemmas.Option.{slice_get_within}
 use Rattle.rational.specs.Places.{Place}
 use Rattle.frac128.specs.Cuts.{place}
@@ -8,6 +7,7 @@ use Rattle.early_verdict.specs.Spans.{BeginsAfter}
 use Rattle.early_verdict.specs.declared.stretch.Stretch.{Stretch}
 use Rattle.early_verdict.proofs.Absorbing.{Absorbing, absorb_first, absorb_next, absorb_last, touches_first, touches_second}
 use Rattle.early_verdict.proofs.SpanLemmas.{without, reaches_at, set_is, get_next, drop_next, without_next, within_without}
+use Rattle.early_verdict.proofs.BlockLemmas.{length_remove}
 use Rattle.early_verdict.proofs.GrowingLemmas.{grows_by, tidy_by}
 use Rattle.early_verdict.proofs.touching.join.Goals as goal
 
@@ -46,11 +46,11 @@ pub loop-next-smaller : goal.loop-next-smaller
 loop-next-smaller c =
     let below : c.args.at + 1 < length c.loop-next.spans.items =
     slice_get_within c.loop-next.spans.items (c.args.at + 1) c.in-Some.next c.in-Some.ensures.some.0 in
-    let in_it : c.args.at + 1 < deque_len c.loop-next.spans = search rules in
-    let got = c.remove.ensures.succeeds c.in-Some.next in_it in
-    let less = subst (λ r. OnSome r (deque_len c.remove.new.self + 1 ≡ deque_len c.loop-next.spans)) got c.remove.ensures.len in
-    let x : length c.remove.new.self.items < length c.loop-next.spans.items = search rules in
-    x
+    let n = length_remove c.loop-next.spans.items (c.args.at + 1) below in
+    subst (λ ys. length ys < length c.loop-next.spans.items) (sym c.in_ok-remove.ensures) (omega arith)
+
+pub remove-requires : goal.remove-requires
+remove-requires c = slice_get_within c.loop-next.spans.items (c.args.at + 1) c.in-Some.next c.in-Some.ensures.some.0
 
 pub loop-next-preserved : goal.loop-next-preserved
 loop-next-preserved c =
@@ -59,9 +59,7 @@ loop-next-preserved c =
     let next = c.in-Some.next in
     let there : slice_get xs (suc at) ≡ Some next = subst (λ k. slice_get xs k ≡ Some next) (add-one at) c.in-Some.ensures.some.0 in
     let below : at + 1 < length xs = slice_get_within xs (at + 1) next c.in-Some.ensures.some.0 in
-    let in_it : at + 1 < deque_len c.loop-next.spans = search rules in
-    let got = c.remove.ensures.succeeds next in_it in
-    let items = subst (λ r. OnSome r (c.remove.new.self.items ≡ without xs (at + 1))) got c.remove.ensures.items in
+    let items = c.in_ok-remove.ensures in
     let left : c.remove.new.self.items ≡ without xs (suc at) = items ∙ ap (λ k. without xs k) (add-one at) in
     record {
       joins = subst (λ ys. Absorbing at c.args.part.now c.hull-joined-in-Some.result next.to c.args.spans.now.items ys c.args.fresh.now.items c.note-in-Some.new.fresh.items)
@@ -80,7 +78,7 @@ returns-clause-tidy c =
     (absorb_last c.args.at c.args.part.now c.loop-next.joined c.loop-next.seen c.args.spans.now.items (without c.loop-next.spans.items c.args.at)
     c.args.fresh.now.items c.loop-next.fresh.items c.loop-next.invariant.joins c.note-2.new.fresh.items c.args.part.now.to c.in_ok-note-3.ensures
     (last_begins (place c.args.part.now.to) c.loop-next.spans.items c.args.at c.in_default.ensures.none) refl)
-    (c.set_at.ensures ∙ set_is c.loop-next.spans.items c.args.at c.loop-next.joined (omega arith))
+    (c.set.ensures ∙ set_is c.loop-next.spans.items c.args.at c.loop-next.joined (omega arith))
 
 pub returns-clause-ok : goal.returns-clause-ok
 returns-clause-ok c =
@@ -89,4 +87,4 @@ returns-clause-ok c =
     (absorb_last c.args.at c.args.part.now c.loop-next.joined c.loop-next.seen c.args.spans.now.items (without c.loop-next.spans.items c.args.at)
     c.args.fresh.now.items c.loop-next.fresh.items c.loop-next.invariant.joins c.note-2.new.fresh.items c.args.part.now.to c.in_ok-note-3.ensures
     (last_begins (place c.args.part.now.to) c.loop-next.spans.items c.args.at c.in_default.ensures.none) refl)
-    (c.set_at.ensures ∙ set_is c.loop-next.spans.items c.args.at c.loop-next.joined (omega arith))
+    (c.set.ensures ∙ set_is c.loop-next.spans.items c.args.at c.loop-next.joined (omega arith))

@@ -1,14 +1,14 @@
 use Rattle.std.proofs.Common.{◌≤◌, ◌-◌, length, take, drop}
 use Rattle.frac128.specs.Cuts.{place}
 use Rattle.early_verdict.specs.Spans.{EndBefore, NoneEndsBefore}
-use Rattle.early_verdict.proofs.touching.first_reaching.Given as goal
+use Rattle.early_verdict.proofs.stretches.Block.reaching.Given as goal
 
 abbrev pub invariant-loop-low : goal.invariant-loop-low
 invariant-loop-low l = record {
   order : l.low ≤ l.high;
-  within : l.high ≤ length l.spans.items;
-  front : EndBefore (place l.cut) (take l.low l.spans.items);
-  rest : NoneEndsBefore (place l.cut) (drop l.high l.spans.items);
+  within : l.high ≤ length l.self.ring.items;
+  front : EndBefore (place l.cut) (take l.low l.self.ring.items);
+  rest : NoneEndsBefore (place l.cut) (drop l.high l.self.ring.items);
 }
 
 abbrev pub decreases-loop-low : goal.decreases-loop-low
