@@ -2,7 +2,7 @@
 //! nothing is claimed of it.
 ghost use Rattle.offline_eval.specs.Making.{IsFit};
 
-use crate::runs::{Run, add_short, has_begin, has_end, run_at};
+use crate::runs::{Run, add_short, has_begin, has_end, run_at, run_for};
 use frac128::{Frac, Memory, Span};
 use pl_signal::Signal;
 use std::alloc::Global;
@@ -15,9 +15,9 @@ pub(crate) struct Region {
     pub(crate) to: Frac,
 }
 
-/// From when on the piece is none of the runs of the node at place `k`; none where one run has all of it.
+/// From when on the piece is none of the runs; none where one run has all of it.
 fn lost_from(runs: &[Run], piece: &Span) -> Option<Frac> {
-    let j = run_at(runs, &piece.from);
+    let j = run_for(runs, piece);
     if j >= runs.len() {
         return Some(piece.from);
     }

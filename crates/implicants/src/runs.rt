@@ -246,6 +246,15 @@ pub(crate) fn has_end(on: &Span, piece: &Span) -> bool {
     piece.to.cmp(&on.to).is_lt() || (piece.to.cmp(&on.to).is_eq() && (on.to_in || !piece.to_in))
 }
 
+/// The run that has a piece, if one has it: the first that does not end before it, or the next one, where that begins no later.
+pub(crate) fn run_for(runs: &[Run], piece: &Span) -> usize {
+    let at = run_at(runs, &piece.from);
+    if at < runs.len() && at + 1 < runs.len() && has_begin(&runs[at + 1].on, piece) {
+        return at + 1;
+    }
+    at
+}
+
 /// Whether the piece lies in the span.
 fn lies_in(piece: &Span, on: &Span) -> bool {
     has_begin(on, piece) && has_end(on, piece)
@@ -265,7 +274,7 @@ fn take_out(at: usize, run: &Run, runs: &mut Vec<Run>)
 
 /// Whether the run lies in one of the others, as far as these are in order.
 fn is_held(run: &Run, runs: &[Run]) -> bool {
-    let at = run_at(runs, &run.on.from);
+    let at = run_for(runs, &run.on);
     at < runs.len() && lies_in(&run.on, &runs[at].on)
 }
 
