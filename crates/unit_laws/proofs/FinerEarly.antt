@@ -7,7 +7,7 @@ use Rattle.rational.specs.Time.{Rational, ◌≈◌}
 use Rattle.rational.proofs.Order.{same_sym, same_trans}
 use Rattle.stl_syntax.specs.Trace.{Header, Row, AreRows, row_time, start}
 use Rattle.stl_syntax.specs.Formula.{Subformula}
-use Rattle.stl_syntax.specs.Early.{Decides, NoneDecides}
+use Rattle.stl_syntax.specs.Early.{Decides, NoneDecides, FirstDecides}
 use Rattle.stl_syntax.specs.EarlyText.{IsEarlyText, at_row, at_end, not_yet}
 use Rattle.stl_syntax.specs.Texts.{IsNumberText}
 use Rattle.stl_syntax.specs.declared.scale.Scale.{Scale}
@@ -45,8 +45,7 @@ parted f (x ∷ xs) (z ∷ ys) y zs e =
       here = r.here;
     }
 
-module _ (K o M : ℕ) (kp : 0 < K) (mp : 0 < M) (p : Subformula) (header : Header) (scale : Scale)
-    (times : (t : Rational) (text : List ℕ) → IsNumberText header.scale.time t text → IsNumberText scale.time (clock K (ahead o) t) text) where
+module _ (K o M : ℕ) (kp : 0 < K) (mp : 0 < M) (p : Subformula) (header : Header) (scale : Scale) where
   abbrev r : Subformula
   r = q K o M kp mp p header scale
 
@@ -56,7 +55,8 @@ module _ (K o M : ℕ) (kp : 0 < K) (mp : 0 < M) (p : Subformula) (header : Head
   abbrev moved : List Row → List Row
   moved rows = rows_by K o M kp mp p header scale rows
 
-  row_same : (x : Row) → clock K (ahead o) (row_time x) ≈ row_time (row_by K o M kp mp x)
+  -- a row's time by the clock
+  pub row_same : (x : Row) → clock K (ahead o) (row_time x) ≈ row_time (row_by K o M kp mp x)
   row_same x = record { same = omega arith }
 
   -- the rows decide by the clock where they decide
@@ -82,7 +82,8 @@ module _ (K o M : ℕ) (kp : 0 < K) (mp : 0 < M) (p : Subformula) (header : Head
   pushed : (before : List Row) (x : Row) → moved (before ++ x ∷ []) ≡ moved before ++ row_by K o M kp mp x ∷ []
   pushed before x = map-append (row_by K o M kp mp) before (x ∷ [])
 
-  front_rows : (before after : List Row) (x : Row) → AreRows (length header.columns) (before ++ x ∷ after) → AreRows (length header.columns) (before ++ x ∷ [])
+  front_rows : (before after : List Row) (x : Row) → AreRows (length header.columns) (before ++ x ∷ after)
+      → AreRows (length header.columns) (before ++ x ∷ [])
   front_rows before after x ok =
       rows_front (length header.columns) before x after (subst (λ xs. AreRows (length header.columns) xs) (sym (append_assoc before (x ∷ []) after)) ok)
 
@@ -100,29 +101,65 @@ module _ (K o M : ℕ) (kp : 0 < K) (mp : 0 < M) (p : Subformula) (header : Head
       none c.before c.after c.at b c.is
       ((decides_by (c.before ++ c.at ∷ []) b fine_ok).1 (subst (λ xs. Decides r (record { header = fine; rows = xs }) b) same h))
 
-  -- the text of a stream of the early verdict
-  pub early_by : (rows : List Row) (ended : Bool) (text : List ℕ) → AreRows (length header.columns) rows → IsEarlyText p header rows ended text
-      → IsEarlyText r fine (moved rows) ended text
-  early_by rows ended text ok (at_row before after x holds time e first written is) =
-      at_row (moved before) (moved after) (row_by K o M kp mp x) holds time (ap moved e ∙ map-append (row_by K o M kp mp) before (x ∷ after)) (record {
-        decides = subst (λ xs. Decides r (record { header = fine; rows = xs }) holds) (pushed before x)
-            ((decides_by (before ++ x ∷ []) holds (front_rows before after x (subst (λ xs. AreRows (length header.columns) xs) e ok))).0 first.decides);
-        not_before = none_by rows before (x ∷ after) e ok first.not_before;
-      })
-      (number_of_same scale.time (clock K (ahead o) (row_time x)) (row_time (row_by K o M kp mp x)) time (row_same x) (times (row_time x) time written)) is
-  early_by rows ended text ok (at_end line end all none line_is is) =
-      at_end line end (rows_counted K o M kp mp (length header.columns) rows ok) (none_by rows rows [] (sym (append-nil rows)) ok none)
-      (start_line_by K (ahead o) M kp mp (so_far K o M kp mp p header scale rows ok) p line line_is) is
-  early_by rows ended text ok (not_yet end none is) = not_yet end (none_by rows rows [] (sym (append-nil rows)) ok none) is
-
   -- where none of the rows decides by the clock, none does
-  none_back : (all rows beyond : List Row) → all ≡ rows ++ beyond → AreRows (length header.columns) all → NoneDecides r fine (moved rows)
+  pub none_back : (all rows beyond : List Row) → all ≡ rows ++ beyond → AreRows (length header.columns) all → NoneDecides r fine (moved rows)
       → NoneDecides p header rows
   none_back all rows beyond whole ok none before after x b e h =
       let here : all ≡ before ++ x ∷ (after ++ beyond) = whole ∙ ap (λ xs. xs ++ beyond) e ∙ append_assoc before (x ∷ after) beyond in
       let fine_ok = front_rows before (after ++ beyond) x (subst (λ xs. AreRows (length header.columns) xs) here ok) in
       none (moved before) (moved after) (row_by K o M kp mp x) b (ap moved e ∙ map-append (row_by K o M kp mp) before (x ∷ after))
       (subst (λ xs. Decides r (record { header = fine; rows = xs }) b) (pushed before x) ((decides_by (before ++ x ∷ []) b fine_ok).0 h))
+
+  -- the first row at which the rows decide
+  pub record FirstBack (rows : List Row) (x : Row) (holds : Bool) : Type 0 where
+    -- what stands before it
+    pub before : List Row
+    -- the row
+    pub at : Row
+    -- and what stands behind it
+    pub after : List Row
+    -- they are the rows
+    pub is : rows ≡ before ++ at ∷ after
+    -- it is the first
+    pub first : FirstDecides p header before at holds
+    -- and by the clock that row
+    pub here : x ≡ row_by K o M kp mp at
+
+  -- the first row that decides by the clock is the first
+  pub first_back : (rows before after : List Row) (x : Row) (holds : Bool) → AreRows (length header.columns) rows → moved rows ≡ before ++ x ∷ after
+      → FirstDecides r fine before x holds → FirstBack rows x holds
+  first_back rows before after x holds ok e first =
+      let c = parted (row_by K o M kp mp) rows before x after e in
+      let front_ok = front_rows c.before c.after c.at (subst (λ xs. AreRows (length header.columns) xs) c.is ok) in
+      let same : before ++ x ∷ [] ≡ moved (c.before ++ c.at ∷ []) =
+      ap (λ xs. xs ++ x ∷ []) c.front ∙ ap (λ y. moved c.before ++ y ∷ []) c.here ∙ sym (pushed c.before c.at) in record {
+        before = c.before;
+        at = c.at;
+        after = c.after;
+        is = c.is;
+        first = record {
+          decides = (decides_by (c.before ++ c.at ∷ []) holds front_ok).1
+              (subst (λ xs. Decides r (record { header = fine; rows = xs }) holds) same first.decides);
+          not_before = none_back rows c.before (c.at ∷ c.after) c.is ok (subst (λ xs. NoneDecides r fine xs) c.front first.not_before);
+        };
+        here = c.here;
+      }
+
+  module _ (times : (t : Rational) (text : List ℕ) → IsNumberText header.scale.time t text → IsNumberText scale.time (clock K (ahead o) t) text) where
+    -- the text of a stream of the early verdict
+    pub early_by : (rows : List Row) (ended : Bool) (text : List ℕ) → AreRows (length header.columns) rows → IsEarlyText p header rows ended text
+        → IsEarlyText r fine (moved rows) ended text
+    early_by rows ended text ok (at_row before after x holds time e first written is) =
+        at_row (moved before) (moved after) (row_by K o M kp mp x) holds time (ap moved e ∙ map-append (row_by K o M kp mp) before (x ∷ after)) (record {
+          decides = subst (λ xs. Decides r (record { header = fine; rows = xs }) holds) (pushed before x)
+              ((decides_by (before ++ x ∷ []) holds (front_rows before after x (subst (λ xs. AreRows (length header.columns) xs) e ok))).0 first.decides);
+          not_before = none_by rows before (x ∷ after) e ok first.not_before;
+        })
+        (number_of_same scale.time (clock K (ahead o) (row_time x)) (row_time (row_by K o M kp mp x)) time (row_same x) (times (row_time x) time written)) is
+    early_by rows ended text ok (at_end line end all none line_is is) =
+        at_end line end (rows_counted K o M kp mp (length header.columns) rows ok) (none_by rows rows [] (sym (append-nil rows)) ok none)
+        (start_line_by K (ahead o) M kp mp (so_far K o M kp mp p header scale rows ok) p line line_is) is
+    early_by rows ended text ok (not_yet end none is) = not_yet end (none_by rows rows [] (sym (append-nil rows)) ok none) is
 
   module _ (times_back : (t : Rational) (text : List ℕ) → IsNumberText scale.time t text → IsNumberText header.scale.time (unclock K (ahead o) kp t) text) where
     row_back : (x : Row) → unclock K (ahead o) kp (row_time (row_by K o M kp mp x)) ≈ row_time x
@@ -132,16 +169,8 @@ module _ (K o M : ℕ) (kp : 0 < K) (mp : 0 < M) (p : Subformula) (header : Head
     pub early_back : (rows : List Row) (ended : Bool) (text : List ℕ) → AreRows (length header.columns) rows
         → IsEarlyText r fine (moved rows) ended text → IsEarlyText p header rows ended text
     early_back rows ended text ok (at_row before after x holds time e first written is) =
-        let c = parted (row_by K o M kp mp) rows before x after e in
-        let n = length header.columns in
-        let front_ok = front_rows c.before c.after c.at (subst (λ xs. AreRows n xs) c.is ok) in
-        let same : before ++ x ∷ [] ≡ moved (c.before ++ c.at ∷ []) =
-        ap (λ xs. xs ++ x ∷ []) c.front ∙ ap (λ y. moved c.before ++ y ∷ []) c.here ∙ sym (pushed c.before c.at) in
-        at_row c.before c.after c.at holds time c.is (record {
-          decides = (decides_by (c.before ++ c.at ∷ []) holds front_ok).1
-              (subst (λ xs. Decides r (record { header = fine; rows = xs }) holds) same first.decides);
-          not_before = none_back rows c.before (c.at ∷ c.after) c.is ok (subst (λ xs. NoneDecides r fine xs) c.front first.not_before);
-        })
+        let c = first_back rows before after x holds ok e first in
+        at_row c.before c.after c.at holds time c.is c.first
         (number_of_same header.scale.time (unclock K (ahead o) kp (row_time (row_by K o M kp mp c.at))) (row_time c.at) time (row_back c.at)
         (times_back (row_time (row_by K o M kp mp c.at)) time (subst (λ y. IsNumberText scale.time (row_time y) time) c.here written))) is
     early_back rows ended text ok (at_end line end all none line_is is) =

@@ -49,3 +49,4 @@ pub mod OriginTexts
 pub mod CutFractions
 pub mod ShownItems
 pub mod ExplainBack
+pub mod OriginStreams

@@ -69,7 +69,8 @@ row_delayed d r =
     ap (λ x. let row : Row = record { time = x + d; values = r.values } in row) (sym (one_time r.time))
     ∙ ap (λ vs. let row : Row = record { time = 1 * r.time + d; values = vs } in row) (sym (values_one r.values))
 
-rows_delayed : (d : ℕ) (rows : List Row) → map (delayed_row d) rows ≡ map (row_by 1 d 1 some_one some_one) rows
+-- the rows d ticks later are the rows by a clock that shows d at 0
+pub rows_delayed : (d : ℕ) (rows : List Row) → map (delayed_row d) rows ≡ map (row_by 1 d 1 some_one some_one) rows
 rows_delayed d [] = refl
 rows_delayed d (r ∷ rows) =
     ap (λ x. x ∷ map (delayed_row d) rows) (row_delayed d r) ∙ ap (λ rs. row_by 1 d 1 some_one some_one r ∷ rs) (rows_delayed d rows)
@@ -87,31 +88,35 @@ clock_later d t = record { same = omega arith }
 same_atom : (a : Atom) → scaled_atom 1 a ≡ a
 same_atom a = ap (λ z. let other : Atom = record { terms = a.terms; rel = a.rel; limit = z } in other) (one_value a.limit)
 
-one_multiple : (x : Rational) → stretch 1 x ≈ x
+-- one time a number is the number
+pub one_multiple : (x : Rational) → stretch 1 x ≈ x
 one_multiple x = record { same = omega arith }
 
 -- a time is what the clock that shows d at 0 shows where the one that shows -d does
 pub later_behind : (d : ℕ) (t : Rational) → clock 1 (ahead d) (clock 1 (behind d) t) ≈ t
 later_behind d t = record { same = omega arith }
 
-behind_later : (d : ℕ) (t : Rational) → clock 1 (behind d) (clock 1 (ahead d) t) ≈ t
+-- and the other way round
+pub behind_later : (d : ℕ) (t : Rational) → clock 1 (behind d) (clock 1 (ahead d) t) ≈ t
 behind_later d t = record { same = omega arith }
 
--- and the trace is the delayed one by a clock that shows -d at 0
+-- where one trace is another by a clock that shows d at 0, the other is the one by a clock that shows -d
+pub counts_back : (d : ℕ) {tr ur : Trace} → IsRecount 1 (ahead d) 1 tr ur → IsRecount 1 (behind d) 1 ur tr
+counts_back d {tr} {ur} c = record {
+  expressions = λ a t.
+      let u = clock 1 (behind d) t in
+      let back = same_expression a ur (later_behind d t) in
+      let there = subst (λ b. expression b ur (clock 1 (ahead d) u) ≈ stretch 1 (expression a tr u)) (same_atom a) (c.expressions a u) in
+      subst (λ b. expression b tr u ≈ stretch 1 (expression a ur t)) (sym (same_atom a))
+      (same_trans (same_sym (one_multiple (expression a tr u))) (same_trans (same_sym there)
+      (same_trans back (same_sym (one_multiple (expression a ur t))))));
+  starts = same_sym (same_trans (clock_same 1 (behind d) c.starts) (behind_later d (start tr)));
+  stops = same_sym (same_trans (clock_same 1 (behind d) c.stops) (behind_later d (stop tr)));
+}
+
+-- so the trace is the delayed one by such a clock
 pub trace_counts : (d : ℕ) (tr : Trace) → IsTrace tr → IsRecount 1 (behind d) 1 (delayed d tr) tr
-trace_counts d tr ok =
-    let ur = delayed d tr in
-    let c = delayed_counts d tr ok in record {
-      expressions = λ a t.
-          let u = clock 1 (behind d) t in
-          let back = same_expression a ur (later_behind d t) in
-          let there = subst (λ b. expression b ur (clock 1 (ahead d) u) ≈ stretch 1 (expression a tr u)) (same_atom a) (c.expressions a u) in
-          subst (λ b. expression b tr u ≈ stretch 1 (expression a ur t)) (sym (same_atom a))
-          (same_trans (same_sym (one_multiple (expression a tr u))) (same_trans (same_sym there)
-          (same_trans back (same_sym (one_multiple (expression a ur t))))));
-      starts = same_sym (same_trans (clock_same 1 (behind d) c.starts) (behind_later d (start tr)));
-      stops = same_sym (same_trans (clock_same 1 (behind d) c.stops) (behind_later d (stop tr)));
-    }
+trace_counts d tr ok = counts_back d (delayed_counts d tr ok)
 
 -- a value is one time itself
 pub value_one : (v : Extended) → stretchᵉ 1 v ≈ᵉ v

@@ -36,7 +36,8 @@ later_back d f =
     same_sym (same_trans (same_later d (frac_same 1 (behind d) some_one f))
     (same_trans (same_sym (clock_later d (clock 1 (behind d) (value f)))) (later_behind d (value f))))
 
-were_delayed : (d : ℕ) (ws : List Verdict) → AreDelayed d (verdicts_by 1 (behind d) some_one ws) ws
+-- the verdicts are d ticks later than by the clock that shows -d at 0
+pub were_delayed : (d : ℕ) (ws : List Verdict) → AreDelayed d (verdicts_by 1 (behind d) some_one ws) ws
 were_delayed d [] = refl
 were_delayed d (w ∷ ws) = (
   w,

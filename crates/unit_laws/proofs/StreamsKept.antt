@@ -80,7 +80,7 @@ pub early_is_of_units : EarlyIsOfUnits
 early_is_of_units f tr k m ended ok ft fv text = (
   streams_are_kept early f tr k m ended ok ft fv text,
   λ h. early_back (10 ^ k) 0 (10 ^ m) (some_power k) (some_power m) (root (nodes_for f tr)) tr.header (finer k m tr).header.scale
-      (λ t x g. time_text_by tr.header.scale.time k t x g) (λ t x g. time_text_back tr.header.scale.time k (some_power k) t x g) tr.rows ended text
+      (λ t x g. time_text_back tr.header.scale.time k (some_power k) t x g) tr.rows ended text
       ok.rows (counted_back f tr k m IsEarlyText ended text (root_finer f tr.header.scale k m ft fv) h),
 )
 

@@ -1,3 +1,4 @@
 pub mod Units
 pub mod Streams
 pub mod Origins
+pub mod StreamOrigins

@@ -1,5 +1,6 @@
 //! Laws of units. Each is the contract of a call that does nothing, so that the gate proves it.
 ghost use Rattle.unit_laws.specs.Origins.{TruthMoves, RobustnessMoves, VerdictsMove, KnotsMove, TextsMove, ExplanationsMove};
+ghost use Rattle.unit_laws.specs.StreamOrigins.{StreamsMove};
 ghost use Rattle.unit_laws.specs.Streams.{StreamsAreKept, StreamsOweOneText, EarlyIsOfUnits, MarginsAreOfUnits, WatchIsOfUnits, ReadStreamsAreOfUnits};
 ghost use Rattle.unit_laws.specs.Units.{TruthIsOfUnits, RobustnessIsOfUnits, RobustIsOfUnits, TableIsOfUnits, TextsAreKept};
 ghost use Rattle.unit_laws.specs.Units.{TruthTurnsAtFractions, LawOfUnits, ExplainIsOfUnits, JsonIsOfUnits, ReadTextsAreOfUnits, CheckWritesOneText};
@@ -126,4 +127,10 @@ pub fn explanations_move()
 /// ticks later.
 pub fn texts_move()
     ensures { TextsMove }
+{}
+
+/// And what `watch`, `early` and `rwatch` owe for the rows of the later trace is what they owe for those of the trace, with each time as
+/// many ticks later.
+pub fn streams_move()
+    ensures { StreamsMove }
 {}
