@@ -107,7 +107,7 @@ fn stays(at: usize, last: usize, step: &Step) -> bool
 
 /// How the atom's truth goes from row `r` on, where its sum is `from`: to the first row with a gap before it over which it may turn, or to the
 /// last row.
-#[inline(never)]
+#[inline(always)]
 pub fn way_from(bound: &Bound, node: u32, trace: &Trace, r: usize, from: i64) -> Way
     requires atom { IsAtomNode bound.now node }
     requires columns { length trace.now.header.columns ≡ bound.now.width }
