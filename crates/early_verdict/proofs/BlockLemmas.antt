@@ -1,13 +1,12 @@
 -- Lists that stand in blocks: where a stretch of one stands, and what becomes of the list as its blocks change.
-use Rattle.std.proofs.Common.{◌≡◌, ◌⊎◌, inl, inr, refl, sym, ap, subst, ◌∙◌, ℕ, zero, suc, ◌+◌, ◌-◌, ◌<◌, ◌≤◌, List, [], ◌∷◌, ◌++◌, Some, None, length, take}
+use Rattle.std.proofs.Common.{◌≡◌, refl, sym, ap, subst, ◌∙◌, ℕ, zero, suc, ◌+◌, ◌-◌, ◌<◌, ◌≤◌, List, [], ◌∷◌, ◌++◌, Some, None, length, take}
 use Rattle.std.proofs.Common.{drop, append_assoc, arith}
 use Rattle.std.specs.Prelude.{slice_get, slice_set, slice_index_or, insert, remove}
 use Rattle.std.specs.Prelude.{◌^◌}
 use Rattle.std.proofs.lemmas.List.{append-nil, length-append, length-set}
 use Rattle.std.proofs.lemmas.Option.{same_Some, slice_get_read, slice_get_within}
-use Rattle.rational.specs.Places.{Place, Before}
-use Rattle.frac128.specs.Cuts.{place}
-use Rattle.early_verdict.specs.Spans.{AreTidy, BeginsAfter, EndBefore, NoneEndsBefore}
+use Rattle.rational.specs.Places.{Place}
+use Rattle.early_verdict.specs.Spans.{AreTidy, EndBefore, NoneEndsBefore}
 use Rattle.early_verdict.specs.Listed.{joined, IsSpot, IsCounted}
 use Rattle.early_verdict.specs.declared.stretch.Stretch.{Stretch}
 use Rattle.early_verdict.specs.declared.stretches.Block.{Block}
@@ -53,11 +52,12 @@ dropped [] k p e = absurd (no_block p e)
 dropped (q ∷ qs) zero p e = ap (λ (r : Block). r.ring.items ++ joined qs) (same_Some q p e)
 dropped (q ∷ qs) (suc k) p e = dropped qs k p e
 
--- as many as before it and its own, and as its own and behind it
+-- those up to a block are as many as those before it and its own
 pub taken_count : (ps : List Block) (k : ℕ) (p : Block) → slice_get ps k ≡ Some p
     → length (joined (take (suc k) ps)) ≡ length (joined (take k ps)) + length p.ring.items
 taken_count ps k p e = ap (λ xs. length xs) (taken ps k p e) ∙ length-append (joined (take k ps)) p.ring.items
 
+-- those from a block on are as many as its own and those behind it
 pub dropped_count : (ps : List Block) (k : ℕ) (p : Block) → slice_get ps k ≡ Some p
     → length (joined (drop k ps)) ≡ length p.ring.items + length (joined (drop (suc k) ps))
 dropped_count ps k p e = ap (λ xs. length xs) (dropped ps k p e) ∙ length-append p.ring.items (joined (drop (suc k) ps))
@@ -178,6 +178,7 @@ insert_behind (x ∷ xs) (suc n) s e = ap (λ r. x ∷ r) (insert_behind xs n s 
 
 -- the block of a spot is the one there
 module _ {ps : List Block} {at : ℕ} {s : Spot} (is : IsSpot ps at s) (p : Block) (value : p ≡ slice_index_or ps s.block p) where
+  -- the block is there
   pub there : slice_get ps s.block ≡ Some p
   there = slice_get_read ps (length ps) s.block p refl (slice_get_within ps s.block is.held is.there) value
 
@@ -246,12 +247,13 @@ kept_one (a ∷ rest) (suc k) o p r q e h n f g =
     ap (λ xs. xs ++ joined (slice_set (take (suc k) rest) k q)) none ∙ kept_one rest k o p r q e h (omega (arith, few, no)) f g
     ∙ ap (λ xs. take 1 (xs ++ joined rest)) (sym none)
 
--- of two tidy lists in one each is tidy
+-- of a tidy list in two the first is tidy
 pub tidy_first : (xs ys : List Stretch) → AreTidy (xs ++ ys) → AreTidy xs
 tidy_first [] ys h = tt
 tidy_first (x ∷ []) ys h = (tt, tt)
 tidy_first (x ∷ y ∷ rest) ys h = (h.0, tidy_first (y ∷ rest) ys h.1)
 
+-- and so is the second
 pub tidy_second : (xs ys : List Stretch) → AreTidy (xs ++ ys) → AreTidy ys
 tidy_second [] ys h = h
 tidy_second (x ∷ xs) ys h = tidy_second xs ys h.1
@@ -313,7 +315,8 @@ module _ (c : Place) (ps : List Block) (k : ℕ) (p : Block) (there : slice_get 
   module _ (before : EndBefore c (joined (take k ps))) (o : ℕ) (front : EndBefore c (take o p.ring.items)) where
     -- where all its own do too, those up to it do
     pub all_end_to : length p.ring.items ≤ o → EndBefore c (joined (take (suc k) ps))
-    all_end_to h = subst (λ xs. EndBefore c xs) (sym (taken ps k p there)) (ends_both c (joined (take k ps)) p.ring.items before (ends_all c p.ring.items o h front))
+    all_end_to h = subst (λ xs. EndBefore c xs) (sym (taken ps k p there))
+        (ends_both c (joined (take k ps)) p.ring.items before (ends_all c p.ring.items o h front))
 
     -- else those before the first of its own that does not
     pub front_in : (n : ℕ) → n ≡ length (joined (take k ps)) + o → o < length p.ring.items → EndBefore c (take n (joined ps))
@@ -351,7 +354,7 @@ counted_same {n} {ps} {qs} c e = record { all = c.all ∙ sym (ap (λ xs. length
 pub counted_none : {qs : List Block} → qs ≡ [] → IsCounted 0 qs
 counted_none {qs} e = record { all = sym (ap (λ xs. length (joined xs)) e); few = omega arith }
 
--- one more
+-- one more where one is put behind
 pub counted_behind : {n : ℕ} {ps qs : List Block} (s : Stretch) → IsCounted n ps → n < 2 ^ 62 → joined qs ≡ joined ps ++ s ∷ [] → IsCounted (n + 1) qs
 counted_behind {n} {ps} {qs} s c h e =
     let l : length (joined qs) ≡ length (joined ps) + 1 = ap (λ xs. length xs) e ∙ length-append (joined ps) (s ∷ []) in
@@ -369,6 +372,7 @@ length_remove [] k h = absurd (omega (arith, h))
 length_remove (x ∷ xs) zero h = refl
 length_remove (x ∷ xs) (suc k) h = ap (λ n. suc n) (length_remove xs k (omega arith))
 
+-- one more where one is put in
 pub counted_insert : {n : ℕ} {ps qs : List Block} (at : ℕ) (s : Stretch) → IsCounted n ps → n < 2 ^ 62 → at ≤ length (joined ps)
     → joined qs ≡ insert (joined ps) at s → IsCounted (n + 1) qs
 counted_insert {n} {ps} {qs} at s c h w e =
@@ -376,7 +380,7 @@ counted_insert {n} {ps} {qs} at s c h w e =
     let a = c.all in
     record { all = omega arith; few = omega arith }
 
--- one fewer
+-- one fewer where one is taken out
 pub counted_remove : {n : ℕ} {ps qs : List Block} (at : ℕ) → IsCounted n ps → at < length (joined ps) → joined qs ≡ remove (joined ps) at → IsCounted (n - 1) qs
 counted_remove {n} {ps} {qs} at c w e =
     let l : suc (length (joined qs)) ≡ length (joined ps) = ap (λ xs. suc (length xs)) e ∙ length_remove (joined ps) at w in

@@ -1,5 +1,5 @@
 -- How nodes let go of times, one at a time.
-use Rattle.std.proofs.Common.{◌≡◌, ◌⊎◌, inl, inr, refl, sym, ap, subst, ◌∙◌, ℕ, ◌<◌, Bool, true}
+use Rattle.std.proofs.Common.{◌≡◌, ◌⊎◌, inl, inr, refl, sym, ap, subst, ◌∙◌, ℕ, Bool, true}
 use Rattle.std.proofs.Common.{false, Option, Some, None, List, [], ◌∷◌, ◌++◌, take, arith}
 use Rattle.std.specs.Prelude.{MatchBool, MatchOption, slice_get, slice_index_or, slice_set}
 use Rattle.std.proofs.lemmas.Option.{same_Some}

@@ -1,5 +1,5 @@
 -- A since whose sets between go on from a time on fits what its operands show from as far back as it looks from there.
-use Rattle.std.proofs.Common.{◌≡◌, inl, inr, sym, subst, ℕ, ◌≤◌, true, Option, Some, None, List, []}
+use Rattle.std.proofs.Common.{◌≡◌, inl, inr, sym, subst, ℕ, true, Option, Some, None, List, []}
 use Rattle.std.specs.Prelude.{MatchOption}
 use Rattle.rational.specs.Time.{Rational, later, ◌≤ʳ◌, ◌<ʳ◌}
 use Rattle.rational.proofs.Order.{le_of_lt, le_refl, le_trans, not_lt_of_le}

@@ -130,11 +130,12 @@ pub nothing_first : (xs : List Stretch) → None ≡ slice_get xs 0 → xs ≡ [
 nothing_first [] e = refl
 nothing_first (x ∷ xs) e = absurd (no_stretch x e)
 
--- the first of a list is there, and read there
+-- where one stands first there is one
 pub first_within : (xs : List Stretch) (s : Stretch) → slice_get xs 0 ≡ Some s → suc zero ≤ length xs
 first_within [] s e = absurd (no_stretch s e)
 first_within (x ∷ xs) s e = omega arith
 
+-- what stands first is read there
 pub first_read : (xs : List Stretch) (s : Stretch) → slice_get xs 0 ≡ Some s → s ≡ slice_index_or xs 0 s
 first_read [] s e = refl
 first_read (x ∷ xs) s e = sym (same_Some x s e)

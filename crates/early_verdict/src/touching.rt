@@ -1,7 +1,6 @@
 //! The stretches of a list that another one touches.
 ghost use Rattle.std.specs.Prelude.{◌≡◌, ◌≤◌, ◌<◌, ◌^◌, length, take, drop, slice_get, Some, OnOk, IfSome, IfNone};
-ghost use Rattle.rational.specs.Time.{Rational};
-ghost use Rattle.rational.specs.Places.{After, Upto, Before};
+ghost use Rattle.rational.specs.Places.{Before};
 ghost use Rattle.frac128.specs.Cuts.{place};
 ghost use Rattle.early_verdict.specs.Spans.{AreTidy, BeginsAfter, EndBefore, Grows, IsAmong, Lies, NoneEndsBefore};
 ghost use Rattle.early_verdict.specs.Steps.{HoldsFrom};

@@ -1,4 +1,4 @@
-use Rattle.std.proofs.Common.{◌∙◌, length, arith}
+use Rattle.std.proofs.Common.{◌∙◌, arith}
 use Rattle.early_verdict.proofs.EndingLemmas.{set_last_is, none_last}
 use Rattle.early_verdict.proofs.ending.set_last.Goals as goal
 

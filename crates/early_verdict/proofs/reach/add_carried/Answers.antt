@@ -1,4 +1,4 @@
-use Rattle.std.proofs.Common.{sym, subst, true, false}
+use Rattle.std.proofs.Common.{sym, subst}
 use Rattle.frac128.specs.Cuts.{place}
 use Rattle.early_verdict.specs.Reaching.{IsCarried}
 use Rattle.early_verdict.proofs.GrowingLemmas.{grows_not}

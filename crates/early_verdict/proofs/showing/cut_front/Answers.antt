@@ -1,4 +1,4 @@
-use Rattle.std.proofs.Common.{rules, ◌<◌, sym, subst, inl, inr, length}
+use Rattle.std.proofs.Common.{sym, subst, inl, inr}
 use Rattle.std.specs.Prelude.{◌^◌}
 use Rattle.rational.specs.Rational.{IsWithin}
 use Rattle.frac128.specs.Value.{value}
@@ -23,7 +23,8 @@ invariant_of-rest c =
       not_empty = room_of_before (place c.later.result) (place first.to) (elim c.later.ensures.one [
         | inl e ↦ subst (λ f. Before (place f) (place first.to)) (sym e) (rises first)
         | inr e ↦ subst (λ f. Before (place f) (place first.to)) (sym e)
-            (first_ends (place c.args.cut.now) c.drop_before.new.spans.items first some (first_read c.drop_before.new.spans.items first c.in-Some.ensures.some) c.drop_before.ensures.first)
+            (first_ends (place c.args.cut.now) c.drop_before.new.spans.items first some
+            (first_read c.drop_before.new.spans.items first c.in-Some.ensures.some) c.drop_before.ensures.first)
       ]);
       low = elim c.later.ensures.one [
         | inl e ↦ subst (λ f. Near f) (sym e) first.low
@@ -36,7 +37,8 @@ pub returns-in-Some-clause-kept : goal.returns-in-Some-clause-kept
 returns-in-Some-clause-kept c =
     let first = c.in-Some.first in
     let some = first_within c.drop_before.new.spans.items first c.in-Some.ensures.some in
-    λ t o. let k = cut_kept (place c.args.cut.now) c.drop_before.new.spans.items first _ some (first_read c.drop_before.new.spans.items first c.in-Some.ensures.some)
+    λ t o. let k = cut_kept (place c.args.cut.now) c.drop_before.new.spans.items first _ some
+    (first_read c.drop_before.new.spans.items first c.in-Some.ensures.some)
     c.drop_before.ensures.tidy c.drop_before.ensures.first
     (λ u l. (
       (after_at_most (place first.from) (place c.later.result) u c.later.ensures.first l.0, l.1),

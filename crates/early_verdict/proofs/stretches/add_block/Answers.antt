@@ -1,5 +1,4 @@
-use Rattle.std.proofs.Common.{◌≡◌, ◌∙◌, ap, [], ◌∷◌, ◌++◌, length, arith}
-use Rattle.std.proofs.lemmas.List.{length-append}
+use Rattle.std.proofs.Common.{◌∙◌, ap}
 use Rattle.early_verdict.specs.Listed.{joined}
 use Rattle.early_verdict.proofs.BlockLemmas.{joined_more}
 use Rattle.early_verdict.proofs.stretches.add_block.Goals as goal

@@ -1,4 +1,4 @@
-use Rattle.std.proofs.Common.{◌≡◌, ◌+◌, suc, sym, subst, ap, ◌∙◌, refl, length, take, add-one, arith}
+use Rattle.std.proofs.Common.{◌≡◌, suc, sym, subst, ap, ◌∙◌, refl, length, take, add-one}
 use Rattle.std.specs.Prelude.{Some, slice_get, slice_set, slice_index_or}
 use Rattle.std.proofs.lemmas.Option.{slice_get_read}
 use Rattle.early_verdict.specs.Listed.{joined}

@@ -1,17 +1,18 @@
-use Rattle.std.proofs.Common.{rules, ◌≡◌, ◌+◌, ◌-◌, ◌<◌, ◌≤◌, subst, sym, refl, ap, ◌∙◌, suc, length, take, drop, add-one, arith}
+use Rattle.std.proofs.Common.{rules, ◌≡◌, ◌+◌, subst, sym, ap, length, take, add-one, arith}
 use Rattle.std.specs.Prelude.{Some, slice_get}
 use Rattle.std.proofs.lemmas.Option.{slice_get_read}
 use Rattle.frac128.specs.Cuts.{place}
-use Rattle.early_verdict.specs.Spans.{EndBefore, NoneEndsBefore}
+use Rattle.early_verdict.specs.Spans.{EndBefore}
 use Rattle.early_verdict.specs.Listed.{joined}
-use Rattle.early_verdict.specs.declared.stretches.Block.{Block}
 use Rattle.early_verdict.proofs.BlockLemmas.{taken_count, all_before, tidy_block, counted, all_end_to, front_in, rest_in, ends_some, none_ends_behind}
 use Rattle.early_verdict.proofs.stretches.reaching_in.Goals as goal
 use Rattle.early_verdict.proofs.stretches.reaching_in.Goals.{After-index-one}
 
 -- the block is there
 there : (c : After-index-one) → slice_get c.args.blocks.now.items c.loop-block.block ≡ Some c.index-one.result.now
-there c = slice_get_read c.args.blocks.now.items (length c.args.blocks.now.items) c.loop-block.block c.index-one.result.now (search rules) (omega arith) c.index-one.ensures
+there c =
+    slice_get_read c.args.blocks.now.items (length c.args.blocks.now.items) c.loop-block.block c.index-one.result.now (search rules)
+    (omega arith) c.index-one.ensures
 
 pub reaching-here-requires : goal.reaching-here-requires
 reaching-here-requires c =

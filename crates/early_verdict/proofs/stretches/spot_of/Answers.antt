@@ -1,4 +1,4 @@
-use Rattle.std.proofs.Common.{rules, ◌≡◌, ◌+◌, ◌-◌, ◌<◌, ◌≤◌, subst, sym, suc, length, take, drop, add-one, arith}
+use Rattle.std.proofs.Common.{rules, ◌≡◌, ◌+◌, ◌-◌, ◌<◌, subst, sym, length, take, drop, add-one, arith}
 use Rattle.std.specs.Prelude.{Some, slice_get}
 use Rattle.std.proofs.lemmas.Option.{slice_get_read}
 use Rattle.early_verdict.specs.Listed.{joined}
@@ -8,7 +8,8 @@ use Rattle.early_verdict.proofs.stretches.spot_of.Goals.{After-index}
 
 -- the block is there
 there : (c : After-index) → slice_get c.args.blocks.now.items c.loop-block.block ≡ Some c.index.result.now
-there c = slice_get_read c.args.blocks.now.items (length c.args.blocks.now.items) c.loop-block.block c.index.result.now (search rules) (omega arith) c.index.ensures
+there c =
+    slice_get_read c.args.blocks.now.items (length c.args.blocks.now.items) c.loop-block.block c.index.result.now (search rules) (omega arith) c.index.ensures
 
 pub loop-block-init : goal.loop-block-init
 loop-block-init c = record { before = omega arith; left = c.requires }

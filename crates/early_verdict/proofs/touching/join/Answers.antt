@@ -1,4 +1,4 @@
-use Rattle.std.proofs.Common.{rules, ℕ, List, ◌≡◌, ◌+◌, ◌<◌, refl, sym, ap, subst, ◌∙◌, length, suc, drop, add-one, arith}
+use Rattle.std.proofs.Common.{ℕ, List, ◌≡◌, ◌+◌, ◌<◌, refl, sym, ap, subst, ◌∙◌, length, suc, drop, add-one, arith}
 use Rattle.std.specs.Prelude.{Some, slice_get}
 use Rattle.std.proofs.lemmas.Option.{slice_get_within}
 use Rattle.rational.specs.Places.{Place}
@@ -62,7 +62,8 @@ loop-next-preserved c =
     let items = c.in_ok-remove.ensures in
     let left : c.remove.new.self.items ≡ without xs (suc at) = items ∙ ap (λ k. without xs k) (add-one at) in
     record {
-      joins = subst (λ ys. Absorbing at c.args.part.now c.hull-joined-in-Some.result next.to c.args.spans.now.items ys c.args.fresh.now.items c.note-in-Some.new.fresh.items)
+      joins = subst (λ ys. Absorbing at c.args.part.now c.hull-joined-in-Some.result next.to c.args.spans.now.items ys c.args.fresh.now.items
+          c.note-in-Some.new.fresh.items)
           (sym (ap (λ ys. without ys at) left ∙ without_next xs at))
           (absorb_next at c.args.part.now c.loop-next.joined c.loop-next.seen c.args.spans.now.items (without xs at) c.args.fresh.now.items
           c.loop-next.fresh.items c.loop-next.invariant.joins c.note-in-Some.new.fresh.items next.from c.in_ok-note-2.ensures next c.hull-joined-in-Some.result

@@ -1,4 +1,4 @@
-use Rattle.std.proofs.Common.{length, ap, ◌≡◌, ◌∙◌, sym, arith}
+use Rattle.std.proofs.Common.{length, ap, ◌≡◌, ◌∙◌, arith}
 use Rattle.early_verdict.specs.Listed.{Listed}
 use Rattle.early_verdict.proofs.BlockLemmas.{counted_none, counted_insert, insert_behind}
 use Rattle.early_verdict.proofs.WindowLemmas.{on_good}

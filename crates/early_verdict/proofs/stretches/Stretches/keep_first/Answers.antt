@@ -1,4 +1,4 @@
-use Rattle.std.proofs.Common.{length, ap, ◌∙◌, ◌≡◌, [], take, sym, subst, refl, arith}
+use Rattle.std.proofs.Common.{length, ap, ◌∙◌, ◌≡◌, take, sym, subst, refl, arith}
 use Rattle.early_verdict.specs.Listed.{Listed}
 use Rattle.early_verdict.proofs.BlockLemmas.{counted_one, none_in}
 use Rattle.early_verdict.proofs.stretches.Stretches.keep_first.Goals as goal

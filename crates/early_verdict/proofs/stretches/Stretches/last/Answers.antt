@@ -1,4 +1,4 @@
-use Rattle.std.proofs.Common.{ap, ◌∙◌, ◌≡◌, ◌-◌, sym, length, suc, arith}
+use Rattle.std.proofs.Common.{ap, ◌∙◌, ◌≡◌, ◌-◌, length, arith}
 use Rattle.early_verdict.specs.Listed.{Listed}
 use Rattle.early_verdict.proofs.BlockLemmas.{last_is, none_in, some_at}
 use Rattle.early_verdict.proofs.stretches.Stretches.last.Goals as goal

@@ -1,4 +1,4 @@
-use Rattle.std.proofs.Common.{length, ap, ◌∙◌, ◌≡◌, [], drop, sym, subst, refl, arith}
+use Rattle.std.proofs.Common.{length, ap, ◌∙◌, ◌≡◌, drop, sym, subst, refl, arith}
 use Rattle.early_verdict.specs.Listed.{Listed}
 use Rattle.early_verdict.proofs.BlockLemmas.{counted_remove, none_in}
 use Rattle.early_verdict.proofs.stretches.Stretches.pop_front.Goals as goal

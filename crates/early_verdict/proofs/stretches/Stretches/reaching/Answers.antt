@@ -1,4 +1,4 @@
-use Rattle.std.proofs.Common.{◌∙◌, ap, length, arith}
+use Rattle.std.proofs.Common.{arith}
 use Rattle.early_verdict.proofs.stretches.Stretches.reaching.Goals as goal
 
 pub reaching_in-requires-clause-tidy : goal.reaching_in-requires-clause-tidy

@@ -1,6 +1,5 @@
-use Rattle.std.proofs.Common.{◌≡◌, ◌∙◌, ap, subst, sym, length, ◌<◌, arith}
+use Rattle.std.proofs.Common.{◌∙◌, ap, subst, sym, length, ◌<◌}
 use Rattle.std.specs.Prelude.{remove}
-use Rattle.early_verdict.specs.Listed.{joined}
 use Rattle.early_verdict.proofs.BlockLemmas.{counted_none, counted_same, counted_remove}
 use Rattle.early_verdict.proofs.stretches.Stretches.remove.Goals as goal
 
