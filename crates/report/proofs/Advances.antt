@@ -44,8 +44,11 @@ room_after_gap o inside at next truth ended h rising g =
 
 -- what there is past a time with a truth
 pub record Going (o : OpenSpan) (at : Frac) (at_in truth : Bool) : Type 0 where
+  -- what ended there
   pub ended : Option Verdict
+  -- the span from there on
   pub new : OpenSpan
+  -- they are what the truth leaves
   pub goes : GoesTo o at at_in truth ended new
 
 differ : (b c : Bool) → (b ≡ c) ⊎ (b ≢ c)

@@ -13,7 +13,12 @@ pub put_data-requires : goal.put_data-requires
 put_data-requires c = ap has_float c.in_ok-entry.ensures.2.4
 
 pub returns-in_err-entry-clause-err : goal.returns-in_err-entry-clause-err
-returns-in_err-entry-clause-err c = on_err_anyway _ (part_none (IsItemEntry c.args.lead.now c.args.scale c.args.formula.now c.args.item.now) c.args.text.now c.args.text.now (item_entry_exists c.args.scale c.args.lead.now c.args.formula.now c.args.item.now c.requires.atom) refl)
+returns-in_err-entry-clause-err c =
+    let s = c.args.scale in
+    let f = c.args.formula.now in
+    let e = c.args.item.now in
+    on_err_anyway _ (part_none (IsItemEntry c.args.lead.now s f e) c.args.text.now c.args.text.now
+    (item_entry_exists s c.args.lead.now f e c.requires.atom) refl)
 
 pub returns-clause-ok : goal.returns-clause-ok
 returns-clause-ok c =
@@ -22,6 +27,10 @@ returns-clause-ok c =
 
 pub returns-clause-err : goal.returns-clause-err
 returns-clause-err c =
+    let s = c.args.scale in
+    let f = c.args.formula.now in
+    let e = c.args.item.now in
     let d = view c.in_ok-entry.entry in
     on_err_weaker c.put_data.result
-    (part_as (Is (c.args.lead.now ++ compact_text d)) (IsItemEntry c.args.lead.now c.args.scale c.args.formula.now c.args.item.now) c.args.text.now c.put_data.new.text (λ w h. (d, c.in_ok-entry.ensures, h))) c.put_data.ensures.err
+    (part_as (Is (c.args.lead.now ++ compact_text d)) (IsItemEntry c.args.lead.now s f e) c.args.text.now c.put_data.new.text
+    (λ w h. (d, c.in_ok-entry.ensures, h))) c.put_data.ensures.err

@@ -15,7 +15,10 @@ pub put_data-requires : goal.put_data-requires
 put_data-requires c = ap has_float c.in_ok-knot.ensures.4
 
 pub returns-in_err-knot-clause-err : goal.returns-in_err-knot-clause-err
-returns-in_err-knot-clause-err c = on_err_anyway _ (part_none (IsKnotEntry c.args.lead.now c.args.scale (plain_knot margin_shape c.args.k.now)) c.args.text.now c.args.text.now (knot_entry_exists c.args.scale c.args.lead.now (plain_knot margin_shape c.args.k.now)) refl)
+returns-in_err-knot-clause-err c =
+    let k = plain_knot margin_shape c.args.k.now in
+    on_err_anyway _ (part_none (IsKnotEntry c.args.lead.now c.args.scale k) c.args.text.now c.args.text.now
+    (knot_entry_exists c.args.scale c.args.lead.now k) refl)
 
 pub returns-clause-ok : goal.returns-clause-ok
 returns-clause-ok c =
@@ -24,6 +27,8 @@ returns-clause-ok c =
 
 pub returns-clause-err : goal.returns-clause-err
 returns-clause-err c =
+    let k = plain_knot margin_shape c.args.k.now in
     let d = view c.in_ok-knot.knot in
     on_err_weaker c.put_data.result
-    (part_as (Is (c.args.lead.now ++ compact_text d)) (IsKnotEntry c.args.lead.now c.args.scale (plain_knot margin_shape c.args.k.now)) c.args.text.now c.put_data.new.text (λ w h. (d, c.in_ok-knot.ensures, h))) c.put_data.ensures.err
+    (part_as (Is (c.args.lead.now ++ compact_text d)) (IsKnotEntry c.args.lead.now c.args.scale k) c.args.text.now c.put_data.new.text
+    (λ w h. (d, c.in_ok-knot.ensures, h))) c.put_data.ensures.err

@@ -16,7 +16,9 @@ pub put_data-requires : goal.put_data-requires
 put_data-requires c = ap has_float c.in_ok-piece.ensures.8
 
 pub returns-in_err-piece-clause-err : goal.returns-in_err-piece-clause-err
-returns-in_err-piece-clause-err c = on_err_anyway _ (part_none (IsPieceEntry c.args.scale (step (plain_knot margin_shape c.args.k.now) (plain_piece margin_shape c.args.k.now c.args.n.now))) c.args.text.now c.args.text.now (piece_entry_exists c.args.scale (step (plain_knot margin_shape c.args.k.now) (plain_piece margin_shape c.args.k.now c.args.n.now))) refl)
+returns-in_err-piece-clause-err c =
+    let p = step (plain_knot margin_shape c.args.k.now) (plain_piece margin_shape c.args.k.now c.args.n.now) in
+    on_err_anyway _ (part_none (IsPieceEntry c.args.scale p) c.args.text.now c.args.text.now (piece_entry_exists c.args.scale p) refl)
 
 pub returns-clause-ok : goal.returns-clause-ok
 returns-clause-ok c =
@@ -25,6 +27,8 @@ returns-clause-ok c =
 
 pub returns-clause-err : goal.returns-clause-err
 returns-clause-err c =
+    let p = step (plain_knot margin_shape c.args.k.now) (plain_piece margin_shape c.args.k.now c.args.n.now) in
     let d = view c.in_ok-piece.piece in
     on_err_weaker c.put_data.result
-    (part_as (Is (codes "," ++ compact_text d)) (IsPieceEntry c.args.scale (step (plain_knot margin_shape c.args.k.now) (plain_piece margin_shape c.args.k.now c.args.n.now))) c.args.text.now c.put_data.new.text (λ w h. (d, c.in_ok-piece.ensures, h))) c.put_data.ensures.err
+    (part_as (Is (codes "," ++ compact_text d)) (IsPieceEntry c.args.scale p) c.args.text.now c.put_data.new.text
+    (λ w h. (d, c.in_ok-piece.ensures, h))) c.put_data.ensures.err

@@ -24,12 +24,13 @@ its_step c =
 
 pub put_step_entry-requires-clause-from : goal.put_step_entry-requires-clause-from
 put_step_entry-requires-clause-from c =
-    knot_within margin_shape _ c.args.s.now c.loop-i.i c.knot_in_place.result.now c.len-last.ensures.signal c.knot_in_place.ensures c.requires.begins c.requires.ends
+    knot_within margin_shape _ c.args.s.now c.loop-i.i c.knot_in_place.result.now c.len-last.ensures.signal c.knot_in_place.ensures
+    c.requires.begins c.requires.ends
 
 pub put_step_entry-requires-clause-to : goal.put_step_entry-requires-clause-to
 put_step_entry-requires-clause-to c =
-    knot_within margin_shape _ c.args.s.now (c.loop-i.i + 1) c.knot_in_place-in-loop-i.result.now c.len-last.ensures.signal c.knot_in_place-in-loop-i.ensures c.requires.begins
-    c.requires.ends
+    knot_within margin_shape _ c.args.s.now (c.loop-i.i + 1) c.knot_in_place-in-loop-i.result.now c.len-last.ensures.signal
+    c.knot_in_place-in-loop-i.ensures c.requires.begins c.requires.ends
 
 pub loop-i-init : goal.loop-i-init
 loop-i-init c = each_none (IsStepEntry c.args.scale) (steps_of (knots_of margin_shape c.args.s.now)) c.args.text.now
@@ -39,7 +40,8 @@ loop-i-preserved c =
     let P = IsStepEntry c.args.scale in
     let steps = steps_of (knots_of margin_shape c.args.s.now) in
     let there : suc c.loop-i.i ≡ c.loop-i.i + 1 = omega arith in
-    let x = step (plain_knot margin_shape c.knot_in_place.result.now) (plain_piece margin_shape c.knot_in_place.result.now c.knot_in_place-in-loop-i.result.now) in
+    let k = c.knot_in_place.result.now in
+    let x = step (plain_knot margin_shape k) (plain_piece margin_shape k c.knot_in_place-in-loop-i.result.now) in
     let at = its_step (goal.at.loop-i-preserved c).After-put_step_entry in
     subst (λ n. Grew (AreEach P (take n steps)) c.args.text.now c.put_step_entry.new.text) there
     (each_more P c.loop-i.i steps x c.args.text.now c.loop-i.text c.put_step_entry.new.text at c.loop-i.invariant c.in_ok-put_step_entry.ensures.ok)
@@ -48,7 +50,8 @@ pub returns-in_err-put_step_entry-clause-err : goal.returns-in_err-put_step_entr
 returns-in_err-put_step_entry-clause-err c =
     let P = IsStepEntry c.args.scale in
     let steps = steps_of (knots_of margin_shape c.args.s.now) in
-    let x = step (plain_knot margin_shape c.knot_in_place.result.now) (plain_piece margin_shape c.knot_in_place.result.now c.knot_in_place-in-loop-i.result.now) in
+    let k = c.knot_in_place.result.now in
+    let x = step (plain_knot margin_shape k) (plain_piece margin_shape k c.knot_in_place-in-loop-i.result.now) in
     let at = its_step (goal.at.returns-in_err-put_step_entry-clause-err c).After-put_step_entry in
     on_err_anyway _
     (each_part P (step_entry_exists c.args.scale) c.loop-i.i steps x c.args.text.now c.loop-i.text c.put_step_entry.new.text at c.loop-i.invariant

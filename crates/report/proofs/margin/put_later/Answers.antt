@@ -10,7 +10,8 @@ use Rattle.report.proofs.margin.put_later.Goals as goal
 
 pub put_next-requires-clause-from : goal.put_next-requires-clause-from
 put_next-requires-clause-from c =
-    knot_within margin_shape _ c.args.s.now (c.loop-i.i - 1) c.knot_in_place.result.now c.len-knots.ensures.signal c.knot_in_place.ensures c.requires.begins c.requires.ends
+    knot_within margin_shape _ c.args.s.now (c.loop-i.i - 1) c.knot_in_place.result.now c.len-knots.ensures.signal c.knot_in_place.ensures
+    c.requires.begins c.requires.ends
 
 pub put_next-requires-clause-to : goal.put_next-requires-clause-to
 put_next-requires-clause-to c =
@@ -23,8 +24,9 @@ loop-i-init c = ([], lines_begin margin_shape c.args.scale c.args.s.now, sym (ap
 pub returns-in_err-put_next-clause-err : goal.returns-in_err-put_next-clause-err
 returns-in_err-put_next-clause-err c =
     let next : c.loop-i.i ≡ suc (c.loop-i.i - 1) = omega arith in
-    on_err_anyway _ (lines_part margin_shape c.args.scale c.args.s.now (c.loop-i.i - 1) c.knot_in_place.result.now c.knot_in_place-in-loop-i.result.now c.args.text.now c.loop-i.text _
-    c.knot_in_place.ensures (subst (λ n. slice_get c.args.s.now n ≡ Some c.knot_in_place-in-loop-i.result.now) next c.knot_in_place-in-loop-i.ensures)
+    on_err_anyway _ (lines_part margin_shape c.args.scale c.args.s.now (c.loop-i.i - 1) c.knot_in_place.result.now
+    c.knot_in_place-in-loop-i.result.now c.args.text.now c.loop-i.text _ c.knot_in_place.ensures
+    (subst (λ n. slice_get c.args.s.now n ≡ Some c.knot_in_place-in-loop-i.result.now) next c.knot_in_place-in-loop-i.ensures)
     c.loop-i.invariant c.in_err-put_next.ensures.err)
 
 pub loop-i-preserved : goal.loop-i-preserved
@@ -35,7 +37,8 @@ loop-i-preserved c =
     let (more, is, f) = c.in_ok-put_next.ensures.ok in
     subst (λ n. Grew (AreLinesTo margin_shape c.args.scale c.args.s.now n) c.args.text.now c.put_next.new.text) there (
       text ++ more,
-      lines_more margin_shape c.args.scale c.args.s.now (c.loop-i.i - 1) c.knot_in_place.result.now c.knot_in_place-in-loop-i.result.now text more c.knot_in_place.ensures
+      lines_more margin_shape c.args.scale c.args.s.now (c.loop-i.i - 1) c.knot_in_place.result.now c.knot_in_place-in-loop-i.result.now text more
+          c.knot_in_place.ensures
           (subst (λ n. slice_get c.args.s.now n ≡ Some c.knot_in_place-in-loop-i.result.now) next c.knot_in_place-in-loop-i.ensures) before is,
       f ∙ ap (λ w. w ++ more) e ∙ append_assoc c.args.text.now text more,
     )

@@ -16,8 +16,8 @@ put_step-requires-clause-from c =
 
 pub put_step-requires-clause-to : goal.put_step-requires-clause-to
 put_step-requires-clause-to c =
-    knot_within margin_shape _ c.args.s.now (c.loop-i.i + 1) c.knot_in_place-in-loop-i.result.now c.requires.signal c.knot_in_place-in-loop-i.ensures c.requires.begins
-    c.requires.ends
+    knot_within margin_shape _ c.args.s.now (c.loop-i.i + 1) c.knot_in_place-in-loop-i.result.now c.requires.signal
+    c.knot_in_place-in-loop-i.ensures c.requires.begins c.requires.ends
 
 pub loop-i-init : goal.loop-i-init
 loop-i-init c = (
@@ -34,7 +34,8 @@ loop-i-preserved c =
     let there : suc i ≡ i + 1 = omega arith in
     let order = c.loop-i.auto.i in
     let steps = steps_of (knots_of margin_shape c.args.s.now) in
-    let x = step (plain_knot margin_shape c.knot_in_place.result.now) (plain_piece margin_shape c.knot_in_place.result.now c.knot_in_place-in-loop-i.result.now) in
+    let k = c.knot_in_place.result.now in
+    let x = step (plain_knot margin_shape k) (plain_piece margin_shape k c.knot_in_place-in-loop-i.result.now) in
     let at = step_at margin_shape c.args.s.now i c.knot_in_place.result.now c.knot_in_place-in-loop-i.result.now c.knot_in_place.ensures
     (subst (λ n. slice_get c.args.s.now n ≡ Some c.knot_in_place-in-loop-i.result.now) (sym there) c.knot_in_place-in-loop-i.ensures) in
     let (t, p, e) = c.in_ok-put_step.ensures.text in
