@@ -1,15 +1,15 @@
 -- What `check` writes in smaller ticks.
 use Rattle.std.proofs.Common.{◌^◌, refl}
 use Rattle.stl_syntax.specs.Formula.{root}
-use Rattle.report.specs.Report.{nodes_for}
-use Rattle.unit_laws.specs.Units.{finer, CheckKeepsItsText}
+use Rattle.report.specs.Report.{check, nodes_for}
+use Rattle.unit_laws.specs.Units.{finer, KeepsItsText}
 use Rattle.unit_laws.proofs.NearTimes.{ahead}
 use Rattle.unit_laws.proofs.FinerTrees.{root_finer}
 use Rattle.unit_laws.proofs.FinerRows.{some_power, finer_counts}
 use Rattle.unit_laws.proofs.FinerVerdicts.{verdicts_by, verdicts_describe, start_line_by, verdict_lines_by}
 
 -- `check` writes the same text in smaller ticks
-pub check_keeps_its_text : CheckKeepsItsText
+pub check_keeps_its_text : KeepsItsText check
 check_keeps_its_text f tr k m ok ft fv text (verdicts, body, line, d, l, s, e) =
     let p = root (nodes_for f tr) in
     let kp = some_power k in

@@ -30,20 +30,26 @@ record Parted {X Y : Type 0} (f : X → Y) (xs : List X) (ys : List Y) (y : Y) :
   front : ys ≡ map f before
   here : y ≡ f at
 
+parted_on :
+    {X Y : Type 0} (f : X → Y) (x : X) (z : Y) (xs : List X) (ys : List Y) (y : Y) →
+    f x ≡ z → Parted f xs ys y → Parted f (x ∷ xs) (z ∷ ys) y
+parted_on f x z xs ys y h r = record {
+  before = x ∷ r.before;
+  at = r.at;
+  after = r.after;
+  is = ap (λ l. x ∷ l) r.is;
+  front = ap (λ l. z ∷ l) r.front ∙ ap (λ w. w ∷ map f r.before) (sym h);
+  here = r.here;
+}
+
 parted : {X Y : Type 0} (f : X → Y) (xs : List X) (ys : List Y) (y : Y) (zs : List Y) → map f xs ≡ ys ++ y ∷ zs → Parted f xs ys y
 parted f [] [] y zs e = absurd (cc)
 parted f [] (z ∷ ys) y zs e = absurd (cc)
 parted f (x ∷ xs) [] y zs e = record { before = []; at = x; after = xs; is = refl; front = refl; here = let h : f x ≡ y = cc in sym h }
 parted f (x ∷ xs) (z ∷ ys) y zs e =
     let h : f x ≡ z = cc in
-    let r = parted f xs ys y zs (let k : map f xs ≡ ys ++ y ∷ zs = cc in k) in record {
-      before = x ∷ r.before;
-      at = r.at;
-      after = r.after;
-      is = ap (λ l. x ∷ l) r.is;
-      front = ap (λ l. z ∷ l) r.front ∙ ap (λ w. w ∷ map f r.before) (sym h);
-      here = r.here;
-    }
+    let k : map f xs ≡ ys ++ y ∷ zs = cc in
+    parted_on f x z xs ys y h (parted f xs ys y zs k)
 
 module _ (K o M : ℕ) (kp : 0 < K) (mp : 0 < M) (p : Subformula) (header : Header) (scale : Scale) where
   abbrev r : Subformula

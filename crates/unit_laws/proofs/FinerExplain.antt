@@ -11,8 +11,8 @@ use Rattle.stl_syntax.specs.Kept.{Kept}
 use Rattle.stl_syntax.specs.declared.scale.Scale.{Scale}
 use Rattle.stl_syntax.specs.declared.items.Item.{Item}
 use Rattle.stl_syntax.proofs.TruthLemmas.{Truth-same}
-use Rattle.report.specs.Report.{AreJoined, IsItemLines, AreItemLines, IsExplained, nodes_for}
-use Rattle.unit_laws.specs.Units.{finer, ExplainKeepsItsText}
+use Rattle.report.specs.Report.{AreJoined, IsItemLines, AreItemLines, IsExplained, explain, nodes_for}
+use Rattle.unit_laws.specs.Units.{finer, KeepsItsText}
 use Rattle.unit_laws.proofs.NearTimes.{Move, ahead}
 use Rattle.unit_laws.proofs.Clocks.{clock_same, same_of_clock}
 use Rattle.unit_laws.proofs.FinerTrees.{finer_tree, root_finer, nodes_finer}
@@ -112,7 +112,7 @@ module _ (f : Formula) (tr : Trace) (k m : ℕ) (ok : IsTrace tr) (ft : f.scale.
           (λ h. Truth-same q ur (same_sym c.starts) (s.0 h), λ h. s.1 (Truth-same q ur c.starts h))
 
 -- `explain` writes the same text in smaller ticks
-pub explain_keeps_its_text : ExplainKeepsItsText
+pub explain_keeps_its_text : KeepsItsText explain
 explain_keeps_its_text f tr k m ok ft fv text (items, line, body, explained, starts, lines, is) = (
   map (item_by (10 ^ k) (ahead 0) (some_power k)) items,
   line,

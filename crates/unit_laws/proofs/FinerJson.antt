@@ -6,9 +6,9 @@ use Rattle.stl_syntax.specs.Formula.{Formula, root}
 use Rattle.stl_syntax.specs.declared.scale.Scale.{Scale}
 use Rattle.stl_syntax.specs.declared.items.Verdict.{Verdict}
 use Rattle.stl_syntax.specs.declared.items.Item.{Item}
-use Rattle.report.specs.Report.{nodes_for}
+use Rattle.report.specs.Report.{json, nodes_for}
 use Rattle.report.specs.Json.{AreVerdictData, AreItemData}
-use Rattle.unit_laws.specs.Units.{finer, JsonKeepsItsText}
+use Rattle.unit_laws.specs.Units.{finer, KeepsItsText}
 use Rattle.unit_laws.proofs.NearTimes.{ahead}
 use Rattle.unit_laws.proofs.FinerTrees.{root_finer}
 use Rattle.unit_laws.proofs.FinerRows.{some_power, finer_counts}
@@ -33,7 +33,7 @@ module _ (k : ℕ) (p : 0 < 10 ^ k) (scale other : Scale) (is : other.time ≡ s
       (a, at, (name, on, later, named, span_text k p scale other is x.on on span, item_data_by f more later rest, e))
 
 -- `json` writes the same text in smaller ticks
-pub json_keeps_its_text : JsonKeepsItsText
+pub json_keeps_its_text : KeepsItsText json
 json_keeps_its_text f tr k m ok ft fv text (verdicts, knots, items, holds, report, told, margins, explained, truth, data_is, is) =
     let p = root (nodes_for f tr) in
     let kp = some_power k in

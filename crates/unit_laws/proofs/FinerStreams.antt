@@ -29,18 +29,23 @@ match_by A B C true f h = f h
 match_by A B C false f h = h
 
 module _ (K o M : ℕ) (kp : 0 < K) (mp : 0 < M) (p : Subformula) (header : Header) (scale : Scale) where
+  -- the formula counted anew
   abbrev pub q : Subformula
   q = finer_tree K M p
 
+  -- rows counted anew
   abbrev pub rows_by : List Row → List Row
   rows_by rows = map (row_by K o M kp mp) rows
 
+  -- a header of the same columns and other scales
   abbrev pub other : Header
   other = record { columns = header.columns; scale = scale }
 
+  -- the trace of these rows
   abbrev pub trace_of : List Row → Trace
   trace_of rows = record { header = header; rows = rows }
 
+  -- the trace of these rows counted anew
   abbrev pub other_of : List Row → Trace
   other_of rows = record { header = other; rows = rows_by rows }
 

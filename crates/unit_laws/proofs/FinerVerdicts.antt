@@ -140,6 +140,7 @@ module _ (K : ℕ) (o : Move) (p : 0 < K) where
   pub span_room : (on : Span) → Precedes (on.from_in && on.to_in) (value (frac_of on.from)) (value (frac_of on.to))
   span_room on = ends_by (on.from_in && on.to_in) on.from on.to (precedes_of_room (on.from_in && on.to_in) (value on.from) (value on.to) on.not_empty)
 
+  -- the span by the clock
   abbrev pub span_by : Span → Span
   span_by on = record {
     from = frac_of on.from;
@@ -149,9 +150,11 @@ module _ (K : ℕ) (o : Move) (p : 0 < K) where
     not_empty = room_of_precedes (on.from_in && on.to_in) (value (frac_of on.from)) (value (frac_of on.to)) (span_room on);
   }
 
+  -- the verdict by the clock
   abbrev pub verdict_by : Verdict → Verdict
   verdict_by v = record { on = span_by v.on; holds = v.holds }
 
+  -- each verdict by the clock
   abbrev pub verdicts_by : List Verdict → List Verdict
   verdicts_by [] = []
   verdicts_by (v ∷ verdicts) = verdict_by v ∷ verdicts_by verdicts

@@ -63,13 +63,16 @@ module _ {p : Subformula} {tr : Trace} {q : Subformula} {ur : Trace} (c : Change
   abbrev pub knot_by : Knot → Knot
   knot_by k = record { time = c.time k.time; value = c.value k.value }
 
+  -- the piece in the other times and values
   abbrev pub piece_by : Piece → Piece
   piece_by x = record { from = c.value x.from; to = c.value x.to; next = record { time = c.time x.next.time; value = c.value x.next.value } }
 
+  -- each piece
   abbrev pub pieces_by : List Piece → List Piece
   pieces_by [] = []
   pieces_by (x ∷ pieces) = piece_by x ∷ pieces_by pieces
 
+  -- all knots
   abbrev pub knots_by : Knots → Knots
   knots_by knots = record { first = knot_by knots.first; pieces = pieces_by knots.pieces }
 

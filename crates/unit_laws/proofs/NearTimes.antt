@@ -20,9 +20,11 @@ by t k = record { up = t.up + k.up * t.den; down = t.down + k.down * t.den; den 
 abbrev pub back : Move → Move
 back k = record { up = k.down; down = k.up }
 
+-- whole ticks forward
 abbrev pub ahead : ℕ → Move
 ahead a = record { up = a; down = 0 }
 
+-- whole ticks back
 abbrev pub behind : ℕ → Move
 behind a = record { up = 0; down = a }
 

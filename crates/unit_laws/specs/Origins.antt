@@ -65,13 +65,15 @@ VerdictsMove =
 abbrev pub earlier : Rational → ℕ → Rational
 earlier t d = record { up = t.up; down = t.down + d * t.den; den = t.den; positive = t.positive }
 
--- the knots at other times
+-- a knot at another time
 abbrev pub knot_at : (Rational → Rational) → Knot → Knot
 knot_at move k = record { time = move k.time; value = k.value }
 
+-- a piece at other times
 abbrev pub piece_at : (Rational → Rational) → Piece → Piece
 piece_at move p = record { from = p.from; to = p.to; next = knot_at move p.next }
 
+-- a signal's knots at other times
 abbrev pub knots_at : (Rational → Rational) → Knots → Knots
 knots_at move knots = record { first = knot_at move knots.first; pieces = map (piece_at move) knots.pieces }
 

@@ -62,9 +62,11 @@ IsOfUnitsWithin command =
     (f : Formula) (tr : Trace) (k m : ℕ) → IsWellFormed f → IsTrace tr → AreInRange tr.rows → f.scale.time ≤ tr.header.scale.time
     → f.scale.value ≤ tr.header.scale.value → WritesAlike command f tr (finer k m tr)
 
+-- what `explain` writes
 abbrev pub ExplainIsOfUnits : Type 0
 ExplainIsOfUnits = IsOfUnitsWithin explain
 
+-- what `json` writes
 abbrev pub JsonIsOfUnits : Type 0
 JsonIsOfUnits = IsOfUnitsWithin json
 
@@ -86,10 +88,11 @@ IsOfUnits command =
     (f : Formula) (tr : Trace) (k m : ℕ) → IsTrace tr → f.scale.time ≤ tr.header.scale.time → f.scale.value ≤ tr.header.scale.value
     → WritesAlike command f tr (finer k m tr)
 
--- what `robust` and `table` write: their knots are any rationals
+-- what `robust` writes: its knots are any rationals
 abbrev pub RobustIsOfUnits : Type 0
 RobustIsOfUnits = IsOfUnits robust
 
+-- what `table` writes
 abbrev pub TableIsOfUnits : Type 0
 TableIsOfUnits = IsOfUnits table
 
@@ -102,15 +105,6 @@ KeepsItsText command =
 -- each command does
 abbrev pub TextsAreKept : Type 0
 TextsAreKept = (command : Command) → KeepsItsText command
-
-abbrev pub CheckKeepsItsText : Type 0
-CheckKeepsItsText = KeepsItsText check
-
-abbrev pub ExplainKeepsItsText : Type 0
-ExplainKeepsItsText = KeepsItsText explain
-
-abbrev pub JsonKeepsItsText : Type 0
-JsonKeepsItsText = KeepsItsText json
 
 -- about t the formula has one truth
 abbrev pub IsOneTruthAbout : Subformula → Trace → Rational → Type 0
