@@ -1,0 +1,297 @@
+-- A formula's truth turns only at few times of a stretch: by its inputs' few times, moved.
+use Rattle.std.specs.Prelude.{max}
+use Rattle.std.proofs.Common.{◌≡◌, refl, ℕ, suc, ◌+◌, ◌*◌, ◌≤◌, Bool, true, List, [], ◌∷◌, ◌++◌, length, length-append, arith, inl, inr, Option, Some, None}
+use Rattle.std.proofs.Math.Nat.{mul-le-mul_right, mul-le-mul_left}
+use Rattle.rational.specs.Time.{Rational, ◌≤ʳ◌, ◌≈◌, later, Within}
+use Rattle.rational.proofs.Order.{le_trans}
+use Rattle.rational.proofs.TimeLemmas.{later_more}
+use Rattle.stl_syntax.specs.Trace.{Trace, start, stop}
+use Rattle.stl_syntax.specs.Formula.{Subformula, constant, atom, negation, conjunction, disjunction}
+use Rattle.stl_syntax.specs.Formula.{implication, until, eventually, always, since, once, historically}
+use Rattle.stl_syntax.specs.Cells.{IsAmong}
+use Rattle.stl_syntax.specs.declared.atom.Atom.{Atom}
+use Rattle.bounds.specs.Turns.{Turns, AreTurns, TurnsAreFew, rows_within, earlier, looks_ahead, looks_back, far, turns_for_a_row}
+use Rattle.bounds.proofs.NearTimes.{Move, by, back, ahead, behind}
+use Rattle.bounds.proofs.CalmWindows.{Calm, Edge, edge_of_calm, far_edge, low_of, calm_constant, calm_negation, calm_conjunction, calm_disjunction}
+use Rattle.bounds.proofs.CalmWindows.{calm_implication, calm_eventually, calm_always, calm_once, calm_historically, calm_until, calm_since}
+use Rattle.bounds.proofs.FewTimes.{among_or_not, among_left, among_right, moved_back, moved_count, among_moved, AreAmong, RisesFrom, rises, no_more}
+use Rattle.bounds.proofs.AtomTurns.{atom_times, wider}
+
+-- so many times at most are all at which the formula may turn in the stretch
+pub record Few (p : Subformula) (tr : Trace) (lo hi : Rational) (count : ℕ) : Type 0 where
+  -- the times
+  pub times_of : List Rational
+  -- they are few
+  pub few : length times_of ≤ count
+  -- about each other time of the stretch the formula has one truth
+  pub calm : (t : Rational) → Within lo hi t → ¬ (IsAmong times_of t) → Calm p tr t
+
+-- and about each other time, moved
+record Edged (p : Subformula) (tr : Trace) (lo hi : Rational) (k : Rational → Move) (count : ℕ) : Type 0 where
+  times_of : List Rational
+  few : length times_of ≤ count
+  edge : (t : Rational) → Within lo hi t → ¬ (IsAmong times_of t) → Edge p tr (by t (k t))
+
+moved_within : {lo hi t : Rational} (k : Move) → Within lo hi t → Within (by lo k) (by hi k) (by t k)
+moved_within {lo} {hi} {t} k w = record {
+  above = record { le = let p = w.above.le in omega (arith, p) };
+  below = record { le = let p = w.below.le in omega (arith, p) };
+}
+
+back_of : {t s : Rational} (k : Move) → by t k ≈ s → t ≈ by s (back k)
+back_of {t} {s} k e = record { same = let p = e.same in omega (arith, p) }
+
+-- the times of the moved stretch, moved back, and those that come to the start or the end
+edged : (p : Subformula) (tr : Trace) (lo hi : Rational) (k : Move) (count : ℕ) → Few p tr (by lo k) (by hi k) count
+    → Edged p tr lo hi (λ t. k) (count + 2)
+edged p tr lo hi k count f = record {
+  times_of = by (start tr) (back k) ∷ by (stop tr) (back k) ∷ moved_back k f.times_of;
+  few = let a = f.few in let b = moved_count k f.times_of in omega (arith, a, b);
+  edge = λ t w apart.
+      edge_of_calm p tr (by t k) (f.calm (by t k) (moved_within k w) (λ h. apart (inr (inr (among_moved k f.times_of t h)))))
+      (λ e. apart (inl (back_of k e))) (λ e. apart (inr (inl (back_of k e))));
+}
+
+-- the far end of a window behind
+far_edged : (p : Subformula) (tr : Trace) (lo hi : Rational) (b : Option ℕ) (count : ℕ)
+    → ((n : ℕ) → b ≡ Some n → Few p tr (by lo (behind n)) (by hi (behind n)) count) → Edged p tr lo hi (λ t. low_of t b) (count + 2)
+far_edged p tr lo hi None count f = record { times_of = []; few = omega arith; edge = λ t w apart. far_edge p tr t }
+far_edged p tr lo hi (Some n) count f =
+    let e = edged p tr lo hi (behind n) count (f n refl) in record { times_of = e.times_of; few = e.few; edge = e.edge }
+
+both_few : {n m : ℕ} (xs ys : List Rational) → length xs ≤ n → length ys ≤ m → length (xs ++ ys) ≤ n + m
+both_few xs ys a b = let e = length-append xs ys in omega (arith, e, a, b)
+
+-- of two formulas, where what has one truth about a time where both have
+joined : (p q r : Subformula) (tr : Trace) (lo hi : Rational) (n m : ℕ) → ((t : Rational) → Calm p tr t → Calm q tr t → Calm r tr t)
+    → Few p tr lo hi n → Few q tr lo hi m → Few r tr lo hi (n + m)
+joined p q r tr lo hi n m join f g = record {
+  times_of = f.times_of ++ g.times_of;
+  few = both_few f.times_of g.times_of f.few g.few;
+  calm = λ t w apart.
+      join t (f.calm t w (λ h. apart (among_left f.times_of g.times_of t h))) (g.calm t w (λ h. apart (among_right f.times_of g.times_of t h)));
+}
+
+-- of the ends of a window
+windowed : (p r : Subformula) (tr : Trace) (lo hi : Rational) (k l : Rational → Move) (n m : ℕ)
+    → ((t : Rational) → Edge p tr (by t (k t)) → Edge p tr (by t (l t)) → Calm r tr t)
+    → Edged p tr lo hi k n → Edged p tr lo hi l m → Few r tr lo hi (n + m)
+windowed p r tr lo hi k l n m join f g = record {
+  times_of = f.times_of ++ g.times_of;
+  few = both_few f.times_of g.times_of f.few g.few;
+  calm = λ t w apart.
+      join t (f.edge t w (λ h. apart (among_left f.times_of g.times_of t h))) (g.edge t w (λ h. apart (among_right f.times_of g.times_of t h)));
+}
+
+-- of the left input and of the ends of a window
+reached : (p c r : Subformula) (tr : Trace) (lo hi : Rational) (k l : Rational → Move) (n m o : ℕ)
+    → ((t : Rational) → Calm p tr t → Edge c tr (by t (k t)) → Edge c tr (by t (l t)) → Calm r tr t)
+    → Few p tr lo hi n → Edged c tr lo hi k m → Edged c tr lo hi l o → Few r tr lo hi (n + (m + o))
+reached p c r tr lo hi k l n m o join e f g = record {
+  times_of = e.times_of ++ (f.times_of ++ g.times_of);
+  few = both_few e.times_of (f.times_of ++ g.times_of) e.few (both_few f.times_of g.times_of f.few g.few);
+  calm = λ t w apart.
+      join t (e.calm t w (λ h. apart (among_left e.times_of (f.times_of ++ g.times_of) t h)))
+      (f.edge t w (λ h. apart (among_right e.times_of (f.times_of ++ g.times_of) t (among_left f.times_of g.times_of t h))))
+      (g.edge t w (λ h. apart (among_right e.times_of (f.times_of ++ g.times_of) t (among_right f.times_of g.times_of t h))));
+}
+
+more : {p : Subformula} {tr : Trace} {lo hi : Rational} (n m : ℕ) → n ≤ m → Few p tr lo hi n → Few p tr lo hi m
+more n m h f = record { times_of = f.times_of; few = let k = f.few in omega (arith, h, k); calm = f.calm }
+
+-- how the reach of a formula holds those of its inputs
+left_max : (n m : ℕ) → n ≤ max n m
+left_max n m = omega arith
+
+right_max : (n m : ℕ) → m ≤ max n m
+right_max n m = omega arith
+
+low_part : (low lo : Rational) (B m : ℕ) → B ≤ m → later low m ≤ʳ lo → later low B ≤ʳ lo
+low_part low lo B m h k = le_trans (later_more low B m h) k
+
+high_part : (hi high : Rational) (A m : ℕ) → A ≤ m → later hi m ≤ʳ high → later hi A ≤ʳ high
+high_part hi high A m h k = le_trans (later_more hi A m h) k
+
+low_ahead : (low lo : Rational) (a B : ℕ) → later low B ≤ʳ lo → later low B ≤ʳ by lo (ahead a)
+low_ahead low lo a B k = le_trans k (record { le = omega arith })
+
+high_ahead : (hi high : Rational) (a A m : ℕ) → a + A ≤ m → later hi m ≤ʳ high → later (by hi (ahead a)) A ≤ʳ high
+high_ahead hi high a A m h k = le_trans (record { le = let q = mul-le-mul_right (hi.den * hi.den) h in omega (arith, q) }) k
+
+low_behind : (low lo : Rational) (a B m : ℕ) → a + B ≤ m → later low m ≤ʳ lo → later low B ≤ʳ by lo (behind a)
+low_behind low lo a B m h k = record { le = let q = mul-le-mul_right (low.den * lo.den) h in let e = k.le in omega (arith, q, e) }
+
+high_behind : (hi high : Rational) (a A : ℕ) → later hi A ≤ʳ high → later (by hi (behind a)) A ≤ʳ high
+high_behind hi high a A k = le_trans (record { le = omega arith }) k
+
+-- how many there are
+two_ends : (c N : ℕ) → 1 ≤ N → c * N + 2 + (c * N + 2) ≤ (2 * c + 4) * N
+two_ends c N h = let q = mul-le-mul_left 4 h in omega (arith, q)
+
+with_left : (c d N : ℕ) → 1 ≤ N → c * N + (c * N + d * N + 2 + (c * N + d * N + 2)) ≤ (3 * c + 2 * d + 4) * N
+with_left c d N h = let q = mul-le-mul_left 4 h in omega (arith, q)
+
+sum_of : (c d N : ℕ) → c * N + d * N ≤ (c + d) * N
+sum_of c d N = omega arith
+
+atoms_few : (n N : ℕ) → n ≤ N → 2 * n + 1 ≤ 2 * suc N
+atoms_few n N h = omega (arith, h)
+
+module _ (tr : Trace) (low high : Rational) where
+  abbrev N : ℕ
+  N = suc (rows_within low high tr.rows)
+
+  some : 1 ≤ N
+  some = omega arith
+
+  -- the claim for a formula
+  abbrev IsFew : Subformula → Type 0
+  IsFew p = (lo hi : Rational) → later low (looks_back p) ≤ʳ lo → later hi (looks_ahead p) ≤ʳ high → Few p tr lo hi (turns_for_a_row p * N)
+
+  few_atom : (i : ℕ) (a : Atom) → IsFew (atom i a)
+  few_atom i a lo hi h k =
+      let f = atom_times tr i a lo hi in
+      let w = wider low lo hi high (le_trans (record { le = omega arith }) h) (le_trans (record { le = omega arith }) k) tr.rows in record {
+        times_of = f.0;
+        few = let b = f.1 in omega (arith, b, w);
+        calm = f.2;
+      }
+
+  -- two formulas
+  few_both : (p q r : Subformula) → ((t : Rational) → Calm p tr t → Calm q tr t → Calm r tr t) → IsFew p → IsFew q → (lo hi : Rational)
+      → later low (max (looks_back p) (looks_back q)) ≤ʳ lo → later hi (max (looks_ahead p) (looks_ahead q)) ≤ʳ high
+      → Few r tr lo hi (turns_for_a_row p * N + turns_for_a_row q * N)
+  few_both p q r join f g lo hi h k =
+      joined p q r tr lo hi (turns_for_a_row p * N) (turns_for_a_row q * N) join
+      (f lo hi (low_part low lo (looks_back p) _ (left_max (looks_back p) (looks_back q)) h)
+      (high_part hi high (looks_ahead p) _ (left_max (looks_ahead p) (looks_ahead q)) k))
+      (g lo hi (low_part low lo (looks_back q) _ (right_max (looks_back p) (looks_back q)) h)
+      (high_part hi high (looks_ahead q) _ (right_max (looks_ahead p) (looks_ahead q)) k))
+
+  -- a connective
+  few_joined : (p q r : Subformula) → ((t : Rational) → Calm p tr t → Calm q tr t → Calm r tr t) → IsFew p → IsFew q → (lo hi : Rational)
+      → later low (max (looks_back p) (looks_back q)) ≤ʳ lo → later hi (max (looks_ahead p) (looks_ahead q)) ≤ʳ high
+      → Few r tr lo hi ((turns_for_a_row p + turns_for_a_row q) * N)
+  few_joined p q r join f g lo hi h k =
+      more (turns_for_a_row p * N + turns_for_a_row q * N) _ (sum_of (turns_for_a_row p) (turns_for_a_row q) N) (few_both p q r join f g lo hi h k)
+
+  -- a formula at a bound of a window ahead, and at one of a window behind
+  at_bound_ahead : (c : Subformula) (count A B : ℕ)
+      → ((lo hi : Rational) → later low B ≤ʳ lo → later hi A ≤ʳ high → Few c tr lo hi count)
+      → (a m : ℕ) → a ≤ m → (lo hi : Rational) → later low B ≤ʳ lo → later hi (m + A) ≤ʳ high → Edged c tr lo hi (λ t. ahead a) (count + 2)
+  at_bound_ahead c count A B f a m h lo hi k l =
+      edged c tr lo hi (ahead a) count (f (by lo (ahead a)) (by hi (ahead a)) (low_ahead low lo a B k) (high_ahead hi high a A (m + A) (omega (arith, h)) l))
+
+  at_bound_behind : (c : Subformula) (count A B : ℕ)
+      → ((lo hi : Rational) → later low B ≤ʳ lo → later hi A ≤ʳ high → Few c tr lo hi count)
+      → (a m : ℕ) → a ≤ m → (lo hi : Rational) → later low (m + B) ≤ʳ lo → later hi A ≤ʳ high
+      → Few c tr (by lo (behind a)) (by hi (behind a)) count
+  at_bound_behind c count A B f a m h lo hi k l =
+      f (by lo (behind a)) (by hi (behind a)) (low_behind low lo a B (m + B) (omega (arith, h)) k) (high_behind hi high a A l)
+
+  near_far : (a : ℕ) (b : Option ℕ) → a ≤ far a b
+  near_far a None = omega arith
+  near_far a (Some b) = left_max a b
+
+  far_far : (a : ℕ) (b : Option ℕ) (n : ℕ) → b ≡ Some n → n ≤ far a b
+  far_far a b n e = rw e (right_max a n)
+
+  few_ahead : (p r : Subformula) (a b : ℕ) → ((t : Rational) → Edge p tr (by t (ahead a)) → Edge p tr (by t (ahead b)) → Calm r tr t) → IsFew p
+      → (lo hi : Rational) → later low (looks_back p) ≤ʳ lo → later hi (max a b + looks_ahead p) ≤ʳ high
+      → Few r tr lo hi ((2 * turns_for_a_row p + 4) * N)
+  few_ahead p r a b join f lo hi h k =
+      let c = turns_for_a_row p * N in
+      more (c + 2 + (c + 2)) _ (two_ends (turns_for_a_row p) N some)
+      (windowed p r tr lo hi (λ t. ahead a) (λ t. ahead b) (c + 2) (c + 2) join
+      (at_bound_ahead p c (looks_ahead p) (looks_back p) f a (max a b) (left_max a b) lo hi h k)
+      (at_bound_ahead p c (looks_ahead p) (looks_back p) f b (max a b) (right_max a b) lo hi h k))
+
+  few_behind : (p r : Subformula) (a : ℕ) (b : Option ℕ)
+      → ((t : Rational) → Edge p tr (by t (low_of t b)) → Edge p tr (by t (behind a)) → Calm r tr t) → IsFew p
+      → (lo hi : Rational) → later low (far a b + looks_back p) ≤ʳ lo → later hi (looks_ahead p) ≤ʳ high
+      → Few r tr lo hi ((2 * turns_for_a_row p + 4) * N)
+  few_behind p r a b join f lo hi h k =
+      let c = turns_for_a_row p * N in
+      more (c + 2 + (c + 2)) _ (two_ends (turns_for_a_row p) N some)
+      (windowed p r tr lo hi (λ t. low_of t b) (λ t. behind a) (c + 2) (c + 2) join
+      (far_edged p tr lo hi b c (λ n e. at_bound_behind p c (looks_ahead p) (looks_back p) f n (far a b) (far_far a b n e) lo hi h k))
+      (edged p tr lo hi (behind a) c (at_bound_behind p c (looks_ahead p) (looks_back p) f a (far a b) (near_far a b) lo hi h k)))
+
+  few_until : (a b : ℕ) (p q : Subformula) → IsFew p → IsFew q → IsFew (until a b p q)
+  few_until a b p q f g lo hi h k =
+      let c = turns_for_a_row p * N in
+      let d = c + turns_for_a_row q * N in
+      let A = max (looks_ahead p) (looks_ahead q) in
+      let B = max (looks_back p) (looks_back q) in
+      let e = few_both p q (conjunction p q) (calm_conjunction tr p q) f g in
+      more (c + (d + 2 + (d + 2))) _ (with_left (turns_for_a_row p) (turns_for_a_row q) N some)
+      (reached p (conjunction p q) (until a b p q) tr lo hi (λ t. ahead a) (λ t. ahead b) c (d + 2) (d + 2) (calm_until tr a b p q)
+      (f lo hi (low_part low lo (looks_back p) B (left_max (looks_back p) (looks_back q)) h)
+      (high_part hi high (looks_ahead p) (max a b + A) (let m = left_max (looks_ahead p) (looks_ahead q) in omega (arith, m)) k))
+      (at_bound_ahead (conjunction p q) d A B e a (max a b) (left_max a b) lo hi h k)
+      (at_bound_ahead (conjunction p q) d A B e b (max a b) (right_max a b) lo hi h k))
+
+  few_since : (a : ℕ) (b : Option ℕ) (p q : Subformula) → IsFew p → IsFew q → IsFew (since a b p q)
+  few_since a b p q f g lo hi h k =
+      let c = turns_for_a_row p * N in
+      let d = c + turns_for_a_row q * N in
+      let A = max (looks_ahead p) (looks_ahead q) in
+      let B = max (looks_back p) (looks_back q) in
+      let e = few_both p q (conjunction p q) (calm_conjunction tr p q) f g in
+      more (c + (d + 2 + (d + 2))) _ (with_left (turns_for_a_row p) (turns_for_a_row q) N some)
+      (reached p (conjunction p q) (since a b p q) tr lo hi (λ t. low_of t b) (λ t. behind a) c (d + 2) (d + 2) (calm_since tr a b p q)
+      (f lo hi (low_part low lo (looks_back p) (far a b + B) (let m = left_max (looks_back p) (looks_back q) in omega (arith, m)) h)
+      (high_part hi high (looks_ahead p) A (left_max (looks_ahead p) (looks_ahead q)) k))
+      (far_edged (conjunction p q) tr lo hi b d (λ n i. at_bound_behind (conjunction p q) d A B e n (far a b) (far_far a b n i) lo hi h k))
+      (edged (conjunction p q) tr lo hi (behind a) d (at_bound_behind (conjunction p q) d A B e a (far a b) (near_far a b) lo hi h k)))
+
+  -- each formula turns at few times
+  pub few_times : (p : Subformula) → IsFew p
+  few_times (constant b) lo hi h k = record { times_of = []; few = omega arith; calm = λ t w apart. calm_constant tr b t }
+  few_times (atom i a) lo hi h k = few_atom i a lo hi h k
+  few_times (negation p) lo hi h k =
+      let f = few_times p lo hi h k in record { times_of = f.times_of; few = f.few; calm = λ t w apart. calm_negation tr p t (f.calm t w apart) }
+  few_times (conjunction p q) lo hi h k = few_joined p q (conjunction p q) (calm_conjunction tr p q) (few_times p) (few_times q) lo hi h k
+  few_times (disjunction p q) lo hi h k = few_joined p q (disjunction p q) (calm_disjunction tr p q) (few_times p) (few_times q) lo hi h k
+  few_times (implication p q) lo hi h k = few_joined p q (implication p q) (calm_implication tr p q) (few_times p) (few_times q) lo hi h k
+  few_times (eventually a b i j p) lo hi h k = few_ahead p (eventually a b i j p) a b (calm_eventually tr a b i j p) (few_times p) lo hi h k
+  few_times (always a b i j p) lo hi h k = few_ahead p (always a b i j p) a b (calm_always tr a b i j p) (few_times p) lo hi h k
+  few_times (once a b i j p) lo hi h k = few_behind p (once a b i j p) a b (calm_once tr a b i j p) (few_times p) lo hi h k
+  few_times (historically a b i j p) lo hi h k = few_behind p (historically a b i j p) a b (calm_historically tr a b i j p) (few_times p) lo hi h k
+  few_times (until a b p q) lo hi h k = few_until a b p q (few_times p) (few_times q) lo hi h k
+  few_times (since a b p q) lo hi h k = few_since a b p q (few_times p) (few_times q) lo hi h k
+
+-- where a formula has one truth it does not turn
+pub not_turning : (p : Subformula) (tr : Trace) (t : Rational) → Calm p tr t → ¬ (Turns p tr t)
+not_turning p tr t c turning =
+    turning c.near.from c.near.to c.near.before c.near.after
+    (λ u v a b x y. c.alike u v (record { above = a; below = b }) (record { above = x; below = y }))
+
+-- the times from lo to hi at which it turns are among few
+pub turns_among : (p : Subformula) (tr : Trace) (lo hi : Rational) (count : ℕ) (f : Few p tr lo hi count) (times : List Rational)
+    → AreTurns p tr lo hi times → AreAmong times f.times_of
+turns_among p tr lo hi count f [] h = tt
+turns_among p tr lo hi count f (t ∷ times) h = (
+  elim (among_or_not f.times_of t) [ inl m ↦ m | inr apart ↦ absurd (not_turning p tr t (f.calm t h.1 apart) h.0) ],
+  turns_among p tr lo hi count f times h.2,
+)
+
+-- a stretch, with the reach of the formula about it
+pub few_about : (p : Subformula) (tr : Trace) (lo hi : Rational)
+    → Few p tr lo hi (turns_for_a_row p * suc (rows_within (earlier lo (looks_back p)) (later hi (looks_ahead p)) tr.rows))
+few_about p tr lo hi =
+    few_times tr (earlier lo (looks_back p)) (later hi (looks_ahead p)) p lo hi (record { le = omega arith }) (record { le = omega arith })
+
+-- rising times at which it turns are few
+pub few_turns : (p : Subformula) (tr : Trace) (lo hi : Rational) (inside : Bool) (from : Rational) (times : List Rational)
+    → RisesFrom inside from times → AreTurns p tr lo hi times
+    → length times ≤ turns_for_a_row p * suc (rows_within (earlier lo (looks_back p)) (later hi (looks_ahead p)) tr.rows)
+few_turns p tr lo hi inside from times r h =
+    let f = few_about p tr lo hi in
+    let n = no_more inside from times f.times_of r (turns_among p tr lo hi _ f times h) in
+    let k = f.few in
+    omega (arith, n, k)
+
+pub turns_are_few : TurnsAreFew
+turns_are_few p tr lo hi [] r h = omega arith
+turns_are_few p tr lo hi (t ∷ times) r h = few_turns p tr lo hi true t (t ∷ times) (rises t times r) h
