@@ -1,11 +1,15 @@
-use Rattle.std.proofs.Common.{to_z, of_z, subst, arith}
+use Rattle.std.proofs.Common.{ℤ, ◌+◌, ◌^◌, ◌≤◌, to_z, of_z, subst, arith, lit<}
 use Rattle.std.specs.Int.{w64}
+use Rattle.std.specs.Int.RustNames.{unsigned_abs}
 use Rattle.std.proofs.lemmas.Int.{ints}
-use Rattle.rational.specs.Rational.{add, whole, ◌≤ʳ◌}
+use Rattle.rational.specs.Rational.{Rational, IsWithin, FitsFloor, add, whole, ◌≤ʳ◌}
 use Rattle.rational.proofs.Order.{le_trans, le_of_same, ge_of_same}
+use Rattle.rational.proofs.Mixed.{fits_of_within, within_add, within_whole}
 use Rattle.frac128.specs.Value.{value}
-use Rattle.conformance_signals.proofs.Limits.{moved_fits}
-use Rattle.conformance_signals.proofs.operator_tests.moved.Goals as goal
+use Rattle.conformance_numbers.proofs.pl_signal_tests.moved.Goals as goal
+
+moved_fits : (t : Rational) (by : ℤ) → unsigned_abs by ≤ 2 ^ 31 → IsWithin (2 ^ 33) t → FitsFloor w64 (add t (whole by))
+moved_fits t by h k = fits_of_within w64 (2 ^ 33 + 2 ^ 31) (lit< tt) (within_add (2 ^ 33) (2 ^ 31) k (within_whole (2 ^ 31) by h))
 
 pub shift-requires : goal.shift-requires
 shift-requires g c = moved_fits (value c.at-first.result) (to_z w64 (of_z w64 c.from-ticks.result)) (omega (arith, ints)) c.at-first.ensures
@@ -14,7 +18,7 @@ pub shift-requires-2 : goal.shift-requires-2
 shift-requires-2 g c = moved_fits (value c.at-last.result) (to_z w64 (of_z w64 c.from-ticks.result)) (omega (arith, ints)) c.at-last.ensures
 
 pub shift_clip-requires-clause-bases : goal.shift_clip-requires-clause-bases
-shift_clip-requires-clause-bases g c = λ p h. let b = c.requires.bases p h in omega (arith, ints, b)
+shift_clip-requires-clause-bases g c = λ p h. omega (arith, ints)
 
 pub shift_clip-requires-clause-first : goal.shift_clip-requires-clause-first
 shift_clip-requires-clause-first g c =
