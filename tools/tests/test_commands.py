@@ -165,6 +165,58 @@ def test_rwatch_tells_the_margins_of_robust(bench):
     frame.holds(told > 20, f"only {told} cases were cut by a row")
 
 
+# `x` rises from 0 to 8, and `y` falls from 8 to 0
+RAMPS = "time,x,y\n0,0,8\n8,8,0\n"
+DOWN_AND_UP = "time,x:step\n0,3\n4,-2\n8,5\n"
+FROM_TWO = "time,x\n2,0\n6,4\n"
+AT_FIVE = "time,x\n5,7\n"
+
+# a formula, a recording, and the lines of its margin, each worked by hand from the definition
+MEASURED = [
+    ("not x >= 3", RAMPS, "[0] 3\n(0,8) 3 -> -5\n[8] -5\n"),
+    ("x >= 3 and y >= 2", RAMPS, "[0] -3\n(0,9/2) -3 -> 3/2\n[9/2] 3/2\n(9/2,8) 3/2 -> -2\n[8] -2\n"),
+    ("x >= 3 or y >= 2", RAMPS, "[0] 6\n(0,9/2) 6 -> 3/2\n[9/2] 3/2\n(9/2,8) 3/2 -> 5\n[8] 5\n"),
+    ("x <= 1 implies y >= 4", RAMPS, "[0] 4\n(0,5/2) 4 -> 3/2\n[5/2] 3/2\n(5/2,8) 3/2 -> 7\n[8] 7\n"),
+    ("eventually[1,3] x >= 3", RAMPS, "[0] 0\n(0,5) 0 -> 5\n[5] 5\n(5,7) 5 -> 5\n[7] 5\n(7,8) -inf -> -inf\n[8] -inf\n"),
+    ("always[1,3] x >= 3", RAMPS, "[0] -2\n(0,7) -2 -> 5\n[7] 5\n(7,8) inf -> inf\n[8] inf\n"),
+    ("once[1,3] x >= 3", RAMPS, "[0] -inf\n(0,1) -inf -> -inf\n[1] -3\n(1,8) -3 -> 4\n[8] 4\n"),
+    ("historically[1,3] x >= 3", RAMPS, "[0] inf\n(0,1) inf -> inf\n[1] -3\n(1,3) -3 -> -3\n[3] -3\n(3,8) -3 -> 2\n[8] 2\n"),
+    ("x >= 2 until[1,3] y >= 2", RAMPS, "[0] -2\n(0,7/2) -2 -> 3/2\n[7/2] 3/2\n(7/2,7) 3/2 -> -2\n[7] -2\n(7,8) -inf -> -inf\n[8] -inf\n"),
+    ("y >= 1 until[1,3] x >= 1", RAMPS, "[0] 2\n(0,1) 2 -> 3\n[1] 3\n(1,3) 3 -> 3\n[3] 3\n(3,7) 3 -> -1\n[7] -1\n(7,8) -inf -> -inf\n[8] -inf\n"),
+    ("y >= 1 since[1,3] x >= 1", RAMPS, "[0] -inf\n(0,1) -inf -> -inf\n[1] -1\n(1,9/2) -1 -> 5/2\n[9/2] 5/2\n(9/2,8) 5/2 -> -1\n[8] -1\n"),
+    ("x >= 1 since[1,3] y >= 1", RAMPS, "[0] -inf\n(0,1) -inf -> -inf\n[1] -1\n(1,5) -1 -> 3\n[5] 3\n(5,7) 3 -> 3\n[7] 3\n(7,8) 3 -> 2\n[8] 2\n"),
+    ("x >= 2 until[0,0] y >= 2", RAMPS, "[0] -2\n(0,4) -2 -> 2\n[4] 2\n(4,8) 2 -> -2\n[8] -2\n"),
+    ("y >= 1 since x >= 1", RAMPS, "[0] -1\n(0,4) -1 -> 3\n[4] 3\n(4,8) 3 -> -1\n[8] -1\n"),
+    ("historically x >= 3", RAMPS, "[0] -3\n(0,8) -3 -> -3\n[8] -3\n"),
+    ("once[2,inf[ y >= 2", RAMPS, "[0] -inf\n(0,2) -inf -> -inf\n[2] 6\n(2,8) 6 -> 6\n[8] 6\n"),
+    ("eventually]0,2] x >= 0", DOWN_AND_UP, "[0] 3\n(0,4) 3 -> 3\n[4] -2\n(4,6) -2 -> -2\n[6] 5\n(6,8) 5 -> 5\n[8] -inf\n"),
+    ("eventually[0,2[ x >= 0", DOWN_AND_UP, "[0] 3\n(0,4) 3 -> 3\n[4] -2\n(4,6) -2 -> -2\n[6] -2\n(6,8) 5 -> 5\n[8] 5\n"),
+    ("once]0,1] x >= 0", DOWN_AND_UP, "[0] -inf\n(0,5) 3 -> 3\n[5] -2\n(5,8) -2 -> -2\n[8] -2\n"),
+    ("always[0,1] x >= 0", DOWN_AND_UP, "[0] 3\n(0,3) 3 -> 3\n[3] -2\n(3,8) -2 -> -2\n[8] 5\n"),
+    ("eventually[1,2] not historically[0,1] x >= 3", RAMPS, "[0] 3\n(0,7) 3 -> -4\n[7] -4\n(7,8) -inf -> -inf\n[8] -inf\n"),
+    ("true", FROM_TWO, "[2] inf\n(2,6) inf -> inf\n[6] inf\n"),
+    ("false or x >= 1", FROM_TWO, "[2] -1\n(2,6) -1 -> 3\n[6] 3\n"),
+    ("true until[1,3] x >= 1", FROM_TWO, "[2] 2\n(2,3) 2 -> 3\n[3] 3\n(3,5) 3 -> 3\n[5] 3\n(5,6) -inf -> -inf\n[6] -inf\n"),
+    ("eventually[0,2] x >= 3", AT_FIVE, "[5] 4\n"),
+    ("always[1,2] x >= 3", AT_FIVE, "[5] inf\n"),
+    ("x >= 3 since[0,1] x >= 5", AT_FIVE, "[5] 2\n"),
+]
+
+
+def test_robust_as_worked_by_hand(bench):
+    for text, given, lines in MEASURED:
+        bench.run("stl_bench", "robust", text, given=given).ended(0, lines)
+
+
+def test_a_crossing_is_refused_at_its_node_where_its_denominator_is_too_large(bench):
+    """Over 2147483647 ticks x rises by 2^25, and over the 2147483629 after them y falls by 2^25, or by one less: then the denominator is below 2^60."""
+    text = "16*x >= 1 and eventually[2147483647,2147483647] 16*y >= 0"
+    given = "time,x,y\n0,-16777216,0\n2147483647,16777216,16777216\n4294967276,0,{}\n"
+    wide = "wide: node 3 needs denominator 2305842998476275712\n"
+    bench.run("stl_bench", "robust", text, given=given.format(-16777216)).ended(8, "", wide)
+    bench.run("stl_bench", "robust", text, given=given.format(-16777215)).ended(0)
+
+
 # a formula, a recording, the row that settles it or the end, and the truth at the start, each worked by hand from the definition
 SETTLED = [
     ("x >= 0", "time,x\n3,1\n4,-1\n", "3", True),

@@ -1,6 +1,7 @@
 //! The whole program's one call, run over sources and sinks in memory: what is asked, how the devices behave, and what is to come of it.
 use io_edge::{MemSink, MemSource};
 use std::alloc::{AllocError, Global};
+use std::process::Abort;
 use std::test::Fail;
 use workbench::{Kept, run};
 
@@ -133,6 +134,36 @@ pub(crate) fn agrees_however_cut(alloc: Global, case: Case<'_>, most: usize) -> 
     agrees(alloc, case, pieces(4096))
 }
 
+/// Stops where a row of a table does not hold.
+pub(crate) fn expect(rt: &impl Abort, holds: bool, about: &str, row: usize) {
+    assert!(rt; holds, "{about}, {row}");
+}
+
+/// A formula and an input, what is written and told, and the status.
+pub(crate) type Asked<'a> = (&'a str, &'a str, &'a str, &'a str, u8);
+
+/// Stops at the first row that the command answers otherwise, for pieces of each size up to 64 and for all bytes at once.
+pub(crate) fn expect_each(
+    rt: &impl Abort,
+    alloc: Global,
+    command: &str,
+    table: &[Asked<'_>],
+) -> Result<(), Fail> {
+    for (i, (formula, input, out, err, status)) in table.iter().enumerate() {
+        let words: &[&str] = &[command, formula];
+        let case = Case {
+            words,
+            input,
+            out,
+            err,
+            status: *status,
+        };
+        let holds = agrees_however_cut(alloc, case, input.len().min(64))?;
+        expect(rt, holds, command, i);
+    }
+    Ok(())
+}
+
 /// Whether `check` of a formula on a trace does so.
 pub(crate) fn checks(
     alloc: Global,
@@ -160,4 +191,15 @@ pub(crate) fn to_and_fro(alloc: Global, rows: usize) -> Result<String, AllocErro
         write!(text, "{k},{}\n", k % 2)?;
     }
     Ok(text)
+}
+
+/// The first bytes of a text.
+pub(crate) fn first_bytes(alloc: Global, text: &str, count: usize) -> Result<String, Fail> {
+    let mut front = String::new(alloc);
+    for (i, c) in text.chars().enumerate() {
+        if i < count {
+            front.push(c)?;
+        }
+    }
+    Ok(front)
 }

@@ -1,7 +1,8 @@
 //! Every command over devices of which one call fails, each in turn, that failed before, or that have too little room, and over inputs
 //! that end after each byte.
 use crate::cases::{
-    Case, Devices, agrees, agrees_so_far, pieces, sink, source, status_of, strings,
+    Case, Devices, agrees, agrees_so_far, expect, first_bytes, pieces, sink, source, status_of,
+    strings,
 };
 use io_edge::{MemSink, MemSource, Sink, Source};
 use std::alloc::Global;
@@ -92,36 +93,36 @@ fn each_read_may_fail(rt: HostRuntime) -> Result<(), Fail> {
             } else {
                 answers(alloc, command, "", "read fault\n", 5, devices)?
             };
-            assert!(rt; is_answered, "{command}, read {read_fails}");
+            expect(&rt, is_answered, command, read_fails as usize);
         }
     }
     Ok(())
 }
 
-/// Of reads of four bytes the one that fails, and how many bytes the three streams have written by then.
-const STREAMED_BY: [(u64, [usize; 3]); 6] = [
-    (1, [0, 0, 0]),
-    (2, [0, 0, 0]),
-    (3, [0, 0, 0]),
-    (4, [12, 25, 7]),
-    (5, [12, 25, 7]),
-    (6, [36, 25, 29]),
+/// A stream and its text, of reads of four bytes the one that fails, and how many bytes the stream has written by then.
+const STREAMED_BY: [(&str, &str, u64, usize); 9] = [
+    ("watch", WATCHED, 3, 0),
+    ("watch", WATCHED, 4, 12),
+    ("watch", WATCHED, 6, 36),
+    ("early", DECIDED, 3, 0),
+    ("early", DECIDED, 4, 25),
+    ("early", DECIDED, 6, 25),
+    ("rwatch", MEASURED, 3, 0),
+    ("rwatch", MEASURED, 4, 7),
+    ("rwatch", MEASURED, 6, 29),
 ];
 
 #[test]
 fn a_stream_has_answered_the_rows_before_a_read_that_fails(rt: HostRuntime) -> Result<(), Fail> {
     let alloc = rt.alloc();
-    for (read_fails, written) in STREAMED_BY {
-        for ((command, out, _), count) in STREAMED.iter().zip(written.iter()) {
-            let devices = Devices {
-                read_fails,
-                ..pieces(4)
-            };
-            assert!(rt;
-                is_streamed(alloc, (command, out), "read fault\n", 5, *count, devices)?,
-                "{command}, read {read_fails}"
-            );
-        }
+    for (command, out, read_fails, written) in STREAMED_BY {
+        let devices = Devices {
+            read_fails,
+            ..pieces(4)
+        };
+        let stream = (command, out);
+        let holds = is_streamed(alloc, stream, "read fault\n", 5, written, devices)?;
+        expect(&rt, holds, command, read_fails as usize);
     }
     Ok(())
 }
@@ -156,11 +157,31 @@ fn is_cut_off(alloc: Global, words: &[&str], out: &str) -> Result<bool, Fail> {
 fn each_write_may_fail(rt: HostRuntime) -> Result<(), Fail> {
     let alloc = rt.alloc();
     for (command, out, _) in WHOLE {
-        assert!(rt; is_cut_off(alloc, &[command, "x >= 5"], out)?, "{command}");
+        expect(
+            &rt,
+            is_cut_off(alloc, &[command, "x >= 5"], out)?,
+            command,
+            0,
+        );
     }
-    assert!(rt; is_cut_off(alloc, &["gen", "3", "5"], SUMMARY)?);
-    assert!(rt; is_cut_off(alloc, &["early", "x >= 5"], DECIDED)?);
-    assert!(rt; is_cut_off(alloc, &["rwatch", "x >= 5"], MEASURED)?);
+    expect(
+        &rt,
+        is_cut_off(alloc, &["gen", "3", "5"], SUMMARY)?,
+        "gen",
+        0,
+    );
+    expect(
+        &rt,
+        is_cut_off(alloc, &["early", "x >= 5"], DECIDED)?,
+        "early",
+        0,
+    );
+    expect(
+        &rt,
+        is_cut_off(alloc, &["rwatch", "x >= 5"], MEASURED)?,
+        "rwatch",
+        0,
+    );
     Ok(())
 }
 
@@ -186,17 +207,9 @@ fn each_write_of_watch_may_fail(rt: HostRuntime) -> Result<(), Fail> {
             write_fails,
             ..pieces(4096)
         };
-        assert!(rt;
-            is_streamed(
-                alloc,
-                ("watch", WATCHED),
-                "write fault\n",
-                6,
-                written,
-                devices
-            )?,
-            "write {write_fails}"
-        );
+        let watched = ("watch", WATCHED);
+        let holds = is_streamed(alloc, watched, "write fault\n", 6, written, devices)?;
+        expect(&rt, holds, "watch", write_fails as usize);
     }
     Ok(())
 }
@@ -243,13 +256,16 @@ fn an_output_may_have_any_room(rt: HostRuntime) -> Result<(), Fail> {
     let alloc = rt.alloc();
     for (command, out, status) in WHOLE.iter().chain(STREAMED.iter()) {
         let words: &[&str] = &[command, "x >= 5"];
-        assert!(rt;
+        expect(
+            &rt,
             fits_just(alloc, on_rise(words, out, *status))?,
-            "{command}"
+            command,
+            0,
         );
     }
-    assert!(rt; fits_just(alloc, on_rise(&["gen", "3", "5"], SUMMARY, 0))?);
-    assert!(rt; fits_just(alloc, BENCH)?);
+    let generated = on_rise(&["gen", "3", "5"], SUMMARY, 0);
+    expect(&rt, fits_just(alloc, generated)?, "gen", 0);
+    expect(&rt, fits_just(alloc, BENCH)?, "mux", 0);
     Ok(())
 }
 
@@ -286,13 +302,12 @@ fn what_failed_before_a_run_is_not_told(rt: HostRuntime) -> Result<(), Fail> {
     let alloc = rt.alloc();
     for (command, out, status) in WHOLE.iter().chain(STREAMED.iter()) {
         let words: &[&str] = &[command, "x >= 5"];
-        assert!(rt;
-            is_answered_after_faults(alloc, on_rise(words, out, *status))?,
-            "{command}"
-        );
+        let holds = is_answered_after_faults(alloc, on_rise(words, out, *status))?;
+        expect(&rt, holds, command, 0);
     }
-    assert!(rt; is_answered_after_faults(alloc, on_rise(&["gen", "3", "5"], SUMMARY, 0))?);
-    assert!(rt; is_answered_after_faults(alloc, BENCH)?);
+    let generated = on_rise(&["gen", "3", "5"], SUMMARY, 0);
+    expect(&rt, is_answered_after_faults(alloc, generated)?, "gen", 0);
+    expect(&rt, is_answered_after_faults(alloc, BENCH)?, "mux", 0);
     Ok(())
 }
 
@@ -315,10 +330,8 @@ fn each_write_of_the_line_may_fail(rt: HostRuntime) -> Result<(), Fail> {
                 tell_fails,
                 ..pieces(4)
             };
-            assert!(rt;
-                answers(alloc, command, "", told, 5, devices)?,
-                "{command}, {told}"
-            );
+            let holds = answers(alloc, command, "", told, 5, devices)?;
+            expect(&rt, holds, command, tell_fails as usize);
         }
     }
     Ok(())
@@ -341,17 +354,6 @@ const CUTS: [(usize, &str); 13] = [
     (14, "line 3: field 2: bad number\n"),
 ];
 
-/// The first bytes of `RISE`.
-fn first_bytes(alloc: Global, count: usize) -> Result<String, Fail> {
-    let mut text = String::new(alloc);
-    for (i, c) in RISE.chars().enumerate() {
-        if i < count {
-            text.push(c)?;
-        }
-    }
-    Ok(text)
-}
-
 /// Whether a command of `x >= 5` on the first bytes of `RISE` is answered so.
 fn answers_front(
     alloc: Global,
@@ -361,7 +363,7 @@ fn answers_front(
     err: &str,
     status: u8,
 ) -> Result<bool, Fail> {
-    let input = first_bytes(alloc, count)?;
+    let input = first_bytes(alloc, RISE, count)?;
     let case = Case {
         words: &[command, "x >= 5"],
         input: input.as_str(),
@@ -374,12 +376,10 @@ fn answers_front(
 
 #[test]
 fn an_input_may_end_after_each_byte(rt: HostRuntime) -> Result<(), Fail> {
-    for (count, err) in CUTS {
-        for (command, _, _) in WHOLE {
-            assert!(rt;
-                answers_front(rt.alloc(), command, count, "", err, 4)?,
-                "{command}, {count} bytes"
-            );
+    for (count, err) in CUTS.iter() {
+        for (command, _, _) in WHOLE.iter() {
+            let holds = answers_front(rt.alloc(), command, *count, "", err, 4)?;
+            expect(&rt, holds, command, *count);
         }
     }
     Ok(())
@@ -396,13 +396,11 @@ const FIRST: [(&str, &str); 3] = [
 fn a_stream_answers_the_rows_before_the_byte_at_which_an_input_ends(
     rt: HostRuntime,
 ) -> Result<(), Fail> {
-    for (count, err) in CUTS {
-        for (command, out) in FIRST {
-            let told = if count < 11 { "" } else { out };
-            assert!(rt;
-                answers_front(rt.alloc(), command, count, told, err, 4)?,
-                "{command}, {count} bytes"
-            );
+    for (count, err) in CUTS.iter() {
+        for (command, out) in FIRST.iter() {
+            let told = if *count < 11 { "" } else { *out };
+            let holds = answers_front(rt.alloc(), command, *count, told, err, 4)?;
+            expect(&rt, holds, command, *count);
         }
     }
     Ok(())
@@ -457,15 +455,11 @@ const FRONTS: [(&str, &str, &str, u8); 8] = [
 
 #[test]
 fn a_row_may_lack_its_line_feed(rt: HostRuntime) -> Result<(), Fail> {
-    for (command, ten, fifteen, status) in FRONTS {
-        assert!(rt;
-            answers_front(rt.alloc(), command, 10, ten, "", status)?,
-            "{command}, 10 bytes"
-        );
-        assert!(rt;
-            answers_front(rt.alloc(), command, 15, fifteen, "", status)?,
-            "{command}, 15 bytes"
-        );
+    for (command, ten, fifteen, status) in FRONTS.iter() {
+        let first = answers_front(rt.alloc(), command, 10, ten, "", *status)?;
+        expect(&rt, first, command, 10);
+        let second = answers_front(rt.alloc(), command, 15, fifteen, "", *status)?;
+        expect(&rt, second, command, 15);
     }
     Ok(())
 }

@@ -1,5 +1,5 @@
 //! `gen`: what is written for a number and so many rows, from outside.
-use crate::cases::{Case, agrees, agrees_however_cut, pieces};
+use crate::cases::{Case, agrees, expect, pieces};
 use std::test::Fail;
 
 /// A number, how many rows, and the summary.
@@ -35,21 +35,7 @@ fn a_workload_is_counted(rt: HostRuntime) -> Result<(), Fail> {
             err: "",
             status: 0,
         };
-        assert!(rt; agrees(alloc, case, pieces(4096))?, "row {i}");
+        expect(&rt, agrees(alloc, case, pieces(4096))?, "gen", i);
     }
-    Ok(())
-}
-
-#[test]
-fn a_workload_reads_nothing(rt: HostRuntime) -> Result<(), Fail> {
-    let alloc = rt.alloc();
-    let case = Case {
-        words: &["gen", "3", "5"],
-        input: "time,x\n",
-        out: "rows 5\ncheck 1\nwatch 2\nstart true\n",
-        err: "",
-        status: 0,
-    };
-    assert!(rt; agrees_however_cut(alloc, case, 9)?);
     Ok(())
 }

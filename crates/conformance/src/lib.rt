@@ -1,6 +1,6 @@
 //! Tests of the program in worked cases: each command, its refusals and its limits, devices that fail, and many sessions, used from
-//! outside through its contracts alone. Tests of the calls below stand in `conformance_numbers`, `conformance_texts`,
-//! `conformance_signals` and `conformance_streams`; the built program stands beside a plain model in `tools/tests/test_commands.py`.
+//! outside through its contracts alone. Tests of calls that the program does not run stand in `conformance_numbers`, `conformance_texts`
+//! and `conformance_streams`; the built program stands beside a plain model in `tools/tests/test_commands.py`.
 #![tactic(auto)]
 
 #[cfg(test)]
@@ -17,8 +17,6 @@ mod limit_tests;
 mod margin_tests;
 #[cfg(test)]
 mod mux_tests;
-#[cfg(test)]
-mod pace_tests;
 #[cfg(test)]
 mod reason_tests;
 #[cfg(test)]

@@ -1,5 +1,5 @@
 //! Limits of numbers with decimals, each at its number and one past it.
-use crate::cases::{Case, agrees, pieces};
+use crate::cases::{Asked, expect_each};
 use std::test::Fail;
 
 const YES: &str = "[0,0] true\nstart true\n";
@@ -8,10 +8,8 @@ const NO: &str = "[0,0] false\nstart false\n";
 
 const ZERO: &str = "time:6,x:6\n0,0\n";
 
-/// A formula, a trace, what is written and told, and the status.
-type Judged = (&'static str, &'static str, &'static str, &'static str, u8);
-
-const LIMITS: [Judged; 14] = [
+/// Formulas and inputs, what is written and told, and the status.
+const LIMITS: [Asked<'static>; 14] = [
     (
         "x >= 0.000001",
         "time:6,x:6\n0.000001,0.000001\n",
@@ -90,16 +88,5 @@ const LIMITS: [Judged; 14] = [
 
 #[test]
 fn numbers_with_decimals_have_limits(rt: HostRuntime) -> Result<(), Fail> {
-    let alloc = rt.alloc();
-    for (i, (formula, input, out, err, status)) in LIMITS.iter().enumerate() {
-        let case = Case {
-            words: &["check", formula],
-            input,
-            out,
-            err,
-            status: *status,
-        };
-        assert!(rt; agrees(alloc, case, pieces(4096))?, "row {i}");
-    }
-    Ok(())
+    expect_each(&rt, rt.alloc(), "check", &LIMITS)
 }

@@ -1,5 +1,5 @@
 //! `robust` as a whole: tables of margins from outside, over sources and sinks in memory.
-use crate::cases::{Case, agrees, agrees_however_cut, pieces};
+use crate::cases::{Asked, Case, agrees, expect, expect_each, pieces};
 use std::alloc::{AllocError, Global};
 use std::test::Fail;
 
@@ -14,100 +14,86 @@ const STEPS: &str = "time,q:step\n0,0\n4,1\n6,0\n8,0\n";
 /// Two columns whose crossing in a window needs a denominator of 2^60 or more.
 const CROSSING: &str = "time,x,y\n0,1048576,-1\n1048575,0,1048575\n2097152,1048575,0\n";
 
-/// Formulas, traces and the lines of their margins.
-const MARGINS: [(&str, &str, &str); 11] = [
+/// Formulas and inputs, what is written and told, and the status.
+const MARGINS: [Asked<'static>; 12] = [
     (
         "eventually[0,3] x >= 0",
         VALLEY,
         "[0] 6\n(0,2) 6 -> 2\n[2] 2\n(2,6) 2 -> 6\n[6] 6\n(6,9) 6 -> 6\n[9] 6\n",
+        "",
+        0,
     ),
     (
         "always[3,4] x >= 0",
         TRIANGLE,
         "[0] 3\n(0,3/2) 3 -> 9/2\n[3/2] 9/2\n(3/2,6) 9/2 -> 0\n[6] 0\n(6,7) 0 -> 0\n[7] 0\n(7,10) inf -> inf\n[10] inf\n",
+        "",
+        0,
     ),
     (
         "x >= 0 until[0,10] x <= 3",
         TRIANGLE,
         "[0] 0\n(0,3/2) 0 -> 3/2\n[3/2] 3/2\n(3/2,17/2) 3/2 -> 3/2\n[17/2] 3/2\n(17/2,10) 3/2 -> 0\n[10] 0\n",
+        "",
+        0,
     ),
-    ("true", "time,x\n100,7\n", "[100] inf\n"),
+    ("true", "time,x\n100,7\n", "[100] inf\n", "", 0),
     (
         "false",
         "time,x\n0,7\n9,8\n",
         "[0] -inf\n(0,9) -inf -> -inf\n[9] -inf\n",
+        "",
+        0,
     ),
-    ("x >= 1.5", RISE, "[0] -3/2\n(0,10) -3/2 -> 3/2\n[10] 3/2\n"),
+    (
+        "x >= 1.5",
+        RISE,
+        "[0] -3/2\n(0,10) -3/2 -> 3/2\n[10] 3/2\n",
+        "",
+        0,
+    ),
     (
         "not x >= 1.5",
         RISE,
         "[0] 3/2\n(0,10) 3/2 -> -3/2\n[10] -3/2\n",
+        "",
+        0,
     ),
     (
         "x <= 1",
         TRIANGLE,
         "[0] 1\n(0,5) 1 -> -4\n[5] -4\n(5,10) -4 -> 1\n[10] 1\n",
+        "",
+        0,
     ),
     (
         "q >= 1",
         STEPS,
         "[0] -1\n(0,4) -1 -> -1\n[4] 0\n(4,6) 0 -> 0\n[6] -1\n(6,8) -1 -> -1\n[8] -1\n",
+        "",
+        0,
     ),
-    ("x > 2", "time,x\n7,5\n", "[7] 3\n"),
+    ("x > 2", "time,x\n7,5\n", "[7] 3\n", "", 0),
     (
         "x >= 0",
         "time:1,x:2\n0.5,0.25\n1.5,1.75\n",
         "[1/2] 1/4\n(1/2,3/2) 1/4 -> 7/4\n[3/2] 7/4\n",
+        "",
+        0,
+    ),
+    // the verdicts of this formula are never too wide
+    (
+        "(always[0,1000] eventually[0,1048575] x >= 0) and y >= 0",
+        CROSSING,
+        "",
+        "wide: node 4 needs denominator 2305841909703114752\n",
+        8,
     ),
 ];
 
-/// A run of `robust` that is answered.
-fn answered<'a>(words: &'a [&'a str], input: &'a str, out: &'a str) -> Case<'a> {
-    Case {
-        words,
-        input,
-        out,
-        err: "",
-        status: 0,
-    }
-}
-
 #[test]
 fn margins_are_written_however_the_bytes_are_cut(rt: HostRuntime) -> Result<(), Fail> {
-    for (i, (formula, input, out)) in MARGINS.iter().enumerate() {
-        let words: &[&str] = &["robust", formula];
-        let case = answered(words, input, out);
-        assert!(rt;
-            agrees_however_cut(rt.alloc(), case, input.len().min(24))?,
-            "row {i}"
-        );
-    }
-    Ok(())
-}
-
-#[test]
-fn a_denominator_that_is_too_large_is_told(rt: HostRuntime) -> Result<(), Fail> {
-    let formula = "(always[0,1000] eventually[0,1048575] x >= 0) and y >= 0";
-    let wide = Case {
-        words: &["robust", formula],
-        input: CROSSING,
-        out: "",
-        err: "wide: node 4 needs denominator 2305841909703114752\n",
-        status: 8,
-    };
-    assert!(rt; agrees_however_cut(rt.alloc(), wide, 24)?);
-    let truth = Case {
-        words: &["check", formula],
-        input: CROSSING,
-        out: "[0,1048575/1048576) false\n[1048575/1048576,2097152] true\nstart false\n",
-        err: "",
-        status: 1,
-    };
-    assert!(rt;
-        agrees(rt.alloc(), truth, pieces(4096))?,
-        "the verdicts are never too wide"
-    );
-    Ok(())
+    expect_each(&rt, rt.alloc(), "robust", &MARGINS)
 }
 
 /// Rows at the times from 0 on, whose values fall by one to 0.
@@ -123,12 +109,13 @@ fn falling(alloc: Global, rows: usize) -> Result<String, AllocError> {
 fn a_long_window_over_many_rows_is_measured(rt: HostRuntime) -> Result<(), Fail> {
     let alloc = rt.alloc();
     let input = falling(alloc, 200_000)?;
-    let words: &[&str] = &["robust", "always[0,200000] x >= 0"];
-    let case = answered(
-        words,
-        input.as_str(),
-        "[0] 0\n(0,199999) 0 -> 0\n[199999] 0\n",
-    );
-    assert!(rt; agrees(alloc, case, pieces(4096))?);
+    let case = Case {
+        words: &["robust", "always[0,200000] x >= 0"],
+        input: input.as_str(),
+        out: "[0] 0\n(0,199999) 0 -> 0\n[199999] 0\n",
+        err: "",
+        status: 0,
+    };
+    expect(&rt, agrees(alloc, case, pieces(4096))?, "robust", 200_000);
     Ok(())
 }

@@ -1,5 +1,7 @@
 //! `mux` as a whole: tables of answers from outside, for every cut of the input, long lines, many tags, and devices that fail.
-use crate::cases::{Case, Devices, agrees, agrees_however_cut, agrees_so_far, pieces};
+use crate::cases::{
+    Asked, Case, Devices, agrees, agrees_so_far, expect, expect_each, first_bytes, pieces,
+};
 use std::alloc::Global;
 use std::test::Fail;
 
@@ -10,72 +12,86 @@ const TOLD: &str =
     "a [0,3) false\na [3,3] true\nb [0,1] true\na ? [0,3) false\na ? [3,3] true\nb line 4: time not rising\n\
                     a (3,5] true\na (5,8] false\na (8,10] false\na start false\n";
 
-/// Formulas, inputs and what is written, with status 0.
-const ANSWERED: [(&str, &str, &str); 7] = [
-    ("eventually[0,2] x >= 5", BENCHES, TOLD),
-    ("true", "", ""),
+/// Formulas and inputs, what is written and told, and the status: a fault of the input ends the run.
+const ANSWERED: [Asked<'static>; 16] = [
+    ("eventually[0,2] x >= 5", BENCHES, TOLD, "", 0),
+    ("true", "", "", "", 0),
     (
         "z >= 1073741824",
         "a time,x\nb time,z:1\n",
         "a line 1: unknown column z\nb line 1: node 0: constant out of range\n",
+        "",
+        0,
     ),
     (
         "true",
         "a time\r\n \t\r\n\na 3\r\n",
         "a [3,3] true\na start true\n",
+        "",
+        0,
     ),
-    ("true", "a time\na 3", "a [3,3] true\na start true\n"),
-    ("true", "a time\na", "a line 2: no rows\n"),
+    ("true", "a time\na 3", "a [3,3] true\na start true\n", "", 0),
+    ("true", "a time\na", "a line 2: no rows\n", "", 0),
     (
         "true",
         "z time\ny\nz 1\ny .\nx time\ny ?\n",
         "z [1,1] true\ny line 1: no header\ny ? line 1: no header\nz start true\nx line 1: no rows\n",
+        "",
+        0,
     ),
+    (
+        "x >= 1",
+        "b2\na_1 ?\nb2  time , x\n\t \nb2 0,1\na_1 .\nb2 .\nb2 ?\nb2 .\nb2 5,0",
+        "b2 [0,0] true\na_1 line 0: no header\nb2 start true\nb2 ? [0,0] true\nb2 ? start true\n",
+        "",
+        0,
+    ),
+    (
+        "x >= 1",
+        "s time,x\ns ?\ns 0,0\ns 1,0\ns 2,0\ns 3,0\ns 4,0\ns 5,0\ns 6,0\ns 7,0\ns 8,0\ns 9,0\ns ?\ns x\ns ?\ns 9,9",
+        "s [0,0] false\ns (0,1] false\ns (1,2] false\ns (2,3] false\ns (3,4] false\ns (4,5] false\ns (5,6] false\ns (6,7] false\ns (7,8] false\ns (8,9] false\n\
+         s ? (1,2] false\ns ? (2,3] false\ns ? (3,4] false\ns ? (4,5] false\ns ? (5,6] false\ns ? (6,7] false\ns ? (7,8] false\ns ? (8,9] false\n\
+         s line 12: 1 fields\n\
+         s ? (2,3] false\ns ? (3,4] false\ns ? (4,5] false\ns ? (5,6] false\ns ? (6,7] false\ns ? (7,8] false\ns ? (8,9] false\ns ? line 12: 1 fields\n",
+        "",
+        0,
+    ),
+    (
+        "x >= 1",
+        "z time,x\ny time,x\nx time,x\nz 0,1\ny 0,0\nx 1,1",
+        "z [0,0] true\ny [0,0] false\nx [1,1] true\nz start true\ny start false\nx start true\n",
+        "",
+        0,
+    ),
+    (
+        "x >= 1",
+        "a time,x\na 0,1 \na ? \na ..",
+        "a [0,0] true\na line 3: 1 fields\n",
+        "",
+        0,
+    ),
+    ("true", "-a 0,0\n", "", "line 1: bad tag\n", 4),
+    ("true", "-a 0,0", "", "line 1: bad tag\n", 4),
+    (
+        "true",
+        "a time\na 3\n?\n",
+        "a [3,3] true\n",
+        "line 3: bad tag\n",
+        4,
+    ),
+    (
+        "true",
+        "a time\na 3\nabcdefghijklmnopq 0",
+        "a [3,3] true\n",
+        "line 3: bad tag\n",
+        4,
+    ),
+    ("true", "a time\n\n a 3\n", "", "line 3: bad tag\n", 4),
 ];
 
 #[test]
 fn sessions_are_answered_line_by_line(rt: HostRuntime) -> Result<(), Fail> {
-    let alloc = rt.alloc();
-    for (i, (formula, input, out)) in ANSWERED.iter().enumerate() {
-        let case = Case {
-            words: &["mux", formula],
-            input,
-            out,
-            err: "",
-            status: 0,
-        };
-        assert!(rt; agrees_however_cut(alloc, case, input.len())?, "row {i}");
-    }
-    Ok(())
-}
-
-/// Inputs of which a line has a fault of its own, what is written before it, and the line that tells it.
-const FAULTY: [(&str, &str, &str); 5] = [
-    ("-a 0,0\n", "", "line 1: bad tag\n"),
-    ("-a 0,0", "", "line 1: bad tag\n"),
-    ("a time\na 3\n?\n", "a [3,3] true\n", "line 3: bad tag\n"),
-    (
-        "a time\na 3\nabcdefghijklmnopq 0",
-        "a [3,3] true\n",
-        "line 3: bad tag\n",
-    ),
-    ("a time\n\n a 3\n", "", "line 3: bad tag\n"),
-];
-
-#[test]
-fn a_fault_of_the_input_ends_the_run(rt: HostRuntime) -> Result<(), Fail> {
-    let alloc = rt.alloc();
-    for (i, (input, out, err)) in FAULTY.iter().enumerate() {
-        let case = Case {
-            words: &["mux", "true"],
-            input,
-            out,
-            err,
-            status: 4,
-        };
-        assert!(rt; agrees_however_cut(alloc, case, input.len())?, "row {i}");
-    }
-    Ok(())
+    expect_each(&rt, rt.alloc(), "mux", &ANSWERED)
 }
 
 /// A line of so many bytes: a tag, a space, and a content of one letter.
@@ -98,7 +114,8 @@ fn a_line_has_at_most_4113_bytes(rt: HostRuntime) -> Result<(), Fail> {
         err: "",
         status: 0,
     };
-    assert!(rt; agrees(alloc, told, pieces(4096))? && agrees(alloc, told, pieces(1000))?);
+    expect(&rt, agrees(alloc, told, pieces(4096))?, "mux", 4096);
+    expect(&rt, agrees(alloc, told, pieces(1000))?, "mux", 1000);
     let longer = long_line(alloc, 4114)?;
     let refused = Case {
         words: &["mux", "true"],
@@ -107,7 +124,8 @@ fn a_line_has_at_most_4113_bytes(rt: HostRuntime) -> Result<(), Fail> {
         err: "line 1: line too long\n",
         status: 4,
     };
-    assert!(rt; agrees(alloc, refused, pieces(4096))? && agrees(alloc, refused, pieces(1000))?);
+    expect(&rt, agrees(alloc, refused, pieces(4096))?, "mux", 4096);
+    expect(&rt, agrees(alloc, refused, pieces(1000))?, "mux", 1000);
     Ok(())
 }
 
@@ -133,7 +151,8 @@ fn the_1025th_tag_ends_the_run(rt: HostRuntime) -> Result<(), Fail> {
         err: "line 1028: too many sessions\n",
         status: 4,
     };
-    assert!(rt; agrees(alloc, case, pieces(4096))? && agrees(alloc, case, pieces(77))?);
+    expect(&rt, agrees(alloc, case, pieces(4096))?, "mux", 4096);
+    expect(&rt, agrees(alloc, case, pieces(77))?, "mux", 77);
     Ok(())
 }
 
@@ -166,7 +185,12 @@ fn what_was_read_before_a_fault_is_answered(rt: HostRuntime) -> Result<(), Fail>
             read_fails: bytes + 1,
             ..pieces(4096)
         };
-        assert!(rt; agrees_so_far(alloc, case, devices, *written)?, "row {i}");
+        expect(
+            &rt,
+            agrees_so_far(alloc, case, devices, *written)?,
+            "mux",
+            i,
+        );
     }
     Ok(())
 }
@@ -190,7 +214,12 @@ fn a_line_is_answered_before_the_next_is_read(rt: HostRuntime) -> Result<(), Fai
             write_fails: *call,
             ..pieces(4096)
         };
-        assert!(rt; agrees_so_far(alloc, case, devices, *written)?, "row {i}");
+        expect(
+            &rt,
+            agrees_so_far(alloc, case, devices, *written)?,
+            "mux",
+            i,
+        );
     }
     Ok(())
 }
@@ -234,18 +263,16 @@ const TRACE: &str = "a time,x\na 0,0\na 10,10\n";
 #[test]
 fn an_input_of_sessions_may_end_after_each_byte(rt: HostRuntime) -> Result<(), Fail> {
     let alloc = rt.alloc();
-    for (count, out) in CUTS {
-        let Some(input) = TRACE.get(..count) else {
-            panic!(rt; "no such front");
-        };
+    for (count, out) in CUTS.iter() {
+        let input = first_bytes(alloc, TRACE, *count)?;
         let case = Case {
             words: &["mux", "x >= 5"],
-            input,
+            input: input.as_str(),
             out,
             err: "",
             status: 0,
         };
-        assert!(rt; agrees(alloc, case, pieces(5))?, "{count} bytes");
+        expect(&rt, agrees(alloc, case, pieces(5))?, "mux", *count);
     }
     Ok(())
 }

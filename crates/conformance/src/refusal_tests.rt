@@ -1,5 +1,5 @@
 //! What the program refuses: formulas, bytes, texts that are too long, words of no form, and devices that fail, with what is told of it.
-use super::cases::{Case, Devices, agrees, checks, pieces};
+use super::cases::{Asked, Case, Devices, agrees, checks, expect, expect_each, pieces};
 use std::alloc::{AllocError, Global};
 use std::process::Abort;
 use std::test::Fail;
@@ -10,153 +10,280 @@ const TRIANGLE: &str = "time,x\n0,0\n5,5\n10,0\n";
 
 const INSTANT: &str = "time,x\n0,0\n";
 
-/// Stops at the first row whose formula is not refused so.
-fn expect_refused(rt: &impl Abort, alloc: Global, table: &[(&str, &str)]) -> Result<(), Fail> {
-    for (i, (formula, err)) in table.iter().enumerate() {
-        assert!(rt; checks(alloc, formula, INSTANT, "", err, 3)?, "row {i}");
-    }
-    Ok(())
-}
-
-/// Stops at the first row whose bytes are not refused so.
-fn expect_faults(rt: &impl Abort, alloc: Global, table: &[(&str, &str, &str)]) -> Result<(), Fail> {
-    for (i, (formula, input, err)) in table.iter().enumerate() {
-        assert!(rt; checks(alloc, formula, input, "", err, 4)?, "row {i}");
-    }
-    Ok(())
-}
-
-/// Formulas, and what is told of them.
-const REFUSED: [(&str, &str); 25] = [
-    ("eventually x >= 1", "formula at 0: unbounded future\n"),
-    ("x >=", "formula at 4: expected a constant\n"),
+/// Formulas that are refused before anything is read, and what is told of them.
+const REFUSED: [Asked<'static>; 25] = [
+    (
+        "eventually x >= 1",
+        INSTANT,
+        "",
+        "formula at 0: unbounded future\n",
+        3,
+    ),
+    (
+        "x >=",
+        INSTANT,
+        "",
+        "formula at 4: expected a constant\n",
+        3,
+    ),
     (
         "eventually[3,2] x >= 1",
+        INSTANT,
+        "",
         "formula at 13: bounds out of order\n",
+        3,
     ),
     (
         "eventually[0,4294967295] always[0,1] x >= 0",
+        INSTANT,
+        "",
         "formula: bounds sum to 4294967296\n",
+        3,
     ),
-    ("17*x >= 0", "formula at 0: number too large\n"),
-    ("x >= 1073741825", "formula at 5: number too large\n"),
-    ("x >= -1073741825", "formula at 6: number too large\n"),
+    (
+        "17*x >= 0",
+        INSTANT,
+        "",
+        "formula at 0: number too large\n",
+        3,
+    ),
+    (
+        "x >= 1073741825",
+        INSTANT,
+        "",
+        "formula at 5: number too large\n",
+        3,
+    ),
+    (
+        "x >= -1073741825",
+        INSTANT,
+        "",
+        "formula at 6: number too large\n",
+        3,
+    ),
     (
         "eventually[0,4294967296] true",
+        INSTANT,
+        "",
         "formula at 13: number too large\n",
+        3,
     ),
     (
         "eventually[0,inf] true",
+        INSTANT,
+        "",
         "formula at 13: unbounded future\n",
+        3,
     ),
     (
         "once[4294967295,inf] once[1,inf] true",
+        INSTANT,
+        "",
         "formula: bounds sum to 4294967296\n",
+        3,
     ),
     (
         "x + x + x + x + x >= 0",
+        INSTANT,
+        "",
         "formula at 14: more than 4 terms\n",
+        3,
     ),
-    ("(true", "formula at 5: expected a closing parenthesis\n"),
+    (
+        "(true",
+        INSTANT,
+        "",
+        "formula at 5: expected a closing parenthesis\n",
+        3,
+    ),
     (
         "true true",
+        INSTANT,
+        "",
         "formula at 5: expected a connective or the end\n",
+        3,
     ),
-    ("not", "formula at 3: expected an operand\n"),
-    ("2 x >= 0", "formula at 2: expected a star\n"),
-    ("2* >= 0", "formula at 3: expected a name\n"),
-    ("x + >= 0", "formula at 4: expected a term\n"),
-    ("x 5", "formula at 2: expected a relation\n"),
-    ("eventually[x,2] true", "formula at 11: expected a number\n"),
-    ("eventually[1 2] true", "formula at 13: expected a comma\n"),
+    ("not", INSTANT, "", "formula at 3: expected an operand\n", 3),
+    (
+        "2 x >= 0",
+        INSTANT,
+        "",
+        "formula at 2: expected a star\n",
+        3,
+    ),
+    ("2* >= 0", INSTANT, "", "formula at 3: expected a name\n", 3),
+    (
+        "x + >= 0",
+        INSTANT,
+        "",
+        "formula at 4: expected a term\n",
+        3,
+    ),
+    ("x 5", INSTANT, "", "formula at 2: expected a relation\n", 3),
+    (
+        "eventually[x,2] true",
+        INSTANT,
+        "",
+        "formula at 11: expected a number\n",
+        3,
+    ),
+    (
+        "eventually[1 2] true",
+        INSTANT,
+        "",
+        "formula at 13: expected a comma\n",
+        3,
+    ),
     (
         "eventually[1,2 true",
+        INSTANT,
+        "",
         "formula at 15: expected a closing bracket\n",
+        3,
     ),
-    ("x >= 1.", "formula at 6: bad byte\n"),
-    ("x >= 0.0000001", "formula at 5: number too large\n"),
+    ("x >= 1.", INSTANT, "", "formula at 6: bad byte\n", 3),
+    (
+        "x >= 0.0000001",
+        INSTANT,
+        "",
+        "formula at 5: number too large\n",
+        3,
+    ),
     (
         "x >= 0.5 and x >= 1073741824",
+        INSTANT,
+        "",
         "formula: node 1: constant too large\n",
+        3,
     ),
-    ("true until]0,2] x >= 5", "formula at 5: unbounded future\n"),
+    (
+        "true until]0,2] x >= 5",
+        INSTANT,
+        "",
+        "formula at 5: unbounded future\n",
+        3,
+    ),
 ];
 
-#[test]
-fn a_refused_formula_is_told_before_anything_is_read(rt: HostRuntime) -> Result<(), Fail> {
-    expect_refused(&rt, rt.alloc(), &REFUSED)
-}
-
 /// Formulas, bytes that are no trace for them, and what is told.
-const FAULTY: [(&str, &str, &str); 27] = [
+const FAULTY: [Asked<'static>; 27] = [
     (
         "x >= 1",
         "time,x\n0,0\n5,1\n5,2\n",
+        "",
         "line 4: time not rising\n",
+        4,
     ),
-    ("z >= 1", TRIANGLE, "line 1: unknown column z\n"),
+    ("z >= 1", TRIANGLE, "", "line 1: unknown column z\n", 4),
     (
         "x >= 1",
         "time,x\n0,0\n4294967295,16777217\n",
+        "",
         "line 3: field 2: out of range\n",
+        4,
     ),
-    ("true", "", "line 0: no header\n"),
-    ("true", "time,x\n", "line 1: no rows\n"),
-    ("true", "time,x", "line 1: no rows\n"),
-    ("x >= 5", "time", "line 1: unknown column x\n"),
-    ("x >= 5", "", "line 0: no header\n"),
-    ("x >= 5", "time,x", "line 1: no rows\n"),
-    ("true", "time,time\n", "line 1: field 2: same name\n"),
-    ("true", "time,x:jump\n", "line 1: field 2: bad mode\n"),
-    ("true", "time,x:\n", "line 1: field 2: bad mode\n"),
-    ("true", "time,2x\n", "line 1: field 2: bad name\n"),
-    ("true", "Time,x\n", "line 1: field 1: bad name\n"),
+    ("true", "", "", "line 0: no header\n", 4),
+    ("true", "time,x\n", "", "line 1: no rows\n", 4),
+    ("true", "time,x", "", "line 1: no rows\n", 4),
+    ("x >= 5", "time", "", "line 1: unknown column x\n", 4),
+    ("x >= 5", "", "", "line 0: no header\n", 4),
+    ("x >= 5", "time,x", "", "line 1: no rows\n", 4),
+    ("true", "time,time\n", "", "line 1: field 2: same name\n", 4),
+    (
+        "true",
+        "time,x:jump\n",
+        "",
+        "line 1: field 2: bad mode\n",
+        4,
+    ),
+    ("true", "time,x:\n", "", "line 1: field 2: bad mode\n", 4),
+    ("true", "time,2x\n", "", "line 1: field 2: bad name\n", 4),
+    ("true", "Time,x\n", "", "line 1: field 1: bad name\n", 4),
     (
         "true",
         "time,x\n4294967296,0\n",
+        "",
         "line 2: field 1: out of range\n",
+        4,
     ),
     (
         "true",
         "time,x\n0,-16777217\n",
+        "",
         "line 2: field 2: out of range\n",
+        4,
     ),
-    ("true", "time,x\n0,1.5\n", "line 2: field 2: bad number\n"),
-    ("true", "time,x\n0,+\n", "line 2: field 2: bad number\n"),
-    ("true", "time,x\n0,1,\n", "line 2: 3 fields\n"),
-    ("true", "time,x\n-1,0\n", "line 2: field 1: out of range\n"),
+    (
+        "true",
+        "time,x\n0,1.5\n",
+        "",
+        "line 2: field 2: bad number\n",
+        4,
+    ),
+    (
+        "true",
+        "time,x\n0,+\n",
+        "",
+        "line 2: field 2: bad number\n",
+        4,
+    ),
+    ("true", "time,x\n0,1,\n", "", "line 2: 3 fields\n", 4),
+    (
+        "true",
+        "time,x\n-1,0\n",
+        "",
+        "line 2: field 1: out of range\n",
+        4,
+    ),
     (
         "x >= 1.5",
         "time,x\n0,16777216\n",
+        "",
         "line 2: field 2: out of range\n",
+        4,
     ),
     (
         "x >= 1073741824",
         "time,x:1\n0,0\n",
+        "",
         "line 1: node 0: constant out of range\n",
+        4,
     ),
     (
         "eventually[0,4294967295] x >= 0",
         "time:1,x\n0,0\n",
+        "",
         "line 1: bounds sum to 42949672950\n",
+        4,
     ),
     (
         "z >= 1073741824",
         "time,x:1\n0,0\n",
+        "",
         "line 1: unknown column z\n",
+        4,
     ),
-    ("z >= 1", "time,x\n0,0\nbad\n", "line 1: unknown column z\n"),
-    ("z >= 1", "time,x\n", "line 1: unknown column z\n"),
+    (
+        "z >= 1",
+        "time,x\n0,0\nbad\n",
+        "",
+        "line 1: unknown column z\n",
+        4,
+    ),
+    ("z >= 1", "time,x\n", "", "line 1: unknown column z\n", 4),
     (
         "x >= 1 and z >= 1",
         "\ntime,x\nbad",
+        "",
         "line 2: unknown column z\n",
+        4,
     ),
 ];
 
 #[test]
-fn the_first_fault_of_the_bytes_is_told(rt: HostRuntime) -> Result<(), Fail> {
-    expect_faults(&rt, rt.alloc(), &FAULTY)
+fn the_first_fault_of_the_formula_or_the_bytes_is_told(rt: HostRuntime) -> Result<(), Fail> {
+    expect_each(&rt, rt.alloc(), "check", &REFUSED)?;
+    expect_each(&rt, rt.alloc(), "check", &FAULTY)
 }
 
 fn repeated(
@@ -253,18 +380,14 @@ fn expect_long(
     is_formula: bool,
 ) -> Result<(), Fail> {
     for (i, row) in table.iter().enumerate() {
-        assert!(rt; checks_long(alloc, row, is_formula)?, "row {i}");
+        expect(rt, checks_long(alloc, row, is_formula)?, "long", i);
     }
     Ok(())
 }
 
 #[test]
-fn formulas_have_limits(rt: HostRuntime) -> Result<(), Fail> {
-    expect_long(&rt, rt.alloc(), &LONG_FORMULAS, true)
-}
-
-#[test]
-fn traces_have_limits(rt: HostRuntime) -> Result<(), Fail> {
+fn formulas_and_traces_have_limits(rt: HostRuntime) -> Result<(), Fail> {
+    expect_long(&rt, rt.alloc(), &LONG_FORMULAS, true)?;
     expect_long(&rt, rt.alloc(), &LONG_TRACES, false)
 }
 
@@ -285,8 +408,19 @@ fn checks_wide(
 fn a_trace_has_at_most_64_columns(rt: HostRuntime) -> Result<(), Fail> {
     let alloc = rt.alloc();
     let row = repeated(alloc, "\n0", ",0", 64, "\n")?;
-    assert!(rt; checks_wide(alloc, 64, row.as_str(), YES, "", 0)?);
-    assert!(rt; checks_wide(alloc, 65, "\n", "", "line 1: 65 columns\n", 4)?);
+    expect(
+        &rt,
+        checks_wide(alloc, 64, row.as_str(), YES, "", 0)?,
+        "columns",
+        64,
+    );
+    let told = "line 1: 65 columns\n";
+    expect(
+        &rt,
+        checks_wide(alloc, 65, "\n", "", told, 4)?,
+        "columns",
+        65,
+    );
     Ok(())
 }
 
@@ -326,41 +460,13 @@ const NO_FORMS: [&[&str]; 15] = [
 fn words_of_no_form_are_told(rt: HostRuntime) -> Result<(), Fail> {
     let alloc = rt.alloc();
     for words in NO_FORMS {
-        assert!(rt; agrees(alloc, refused(words, USAGE, 2), pieces(1))?);
+        expect(
+            &rt,
+            agrees(alloc, refused(words, USAGE, 2), pieces(1))?,
+            "usage",
+            words.len(),
+        );
     }
-    Ok(())
-}
-
-#[test]
-fn a_read_that_fails_is_told(rt: HostRuntime) -> Result<(), Fail> {
-    let alloc = rt.alloc();
-    let five: &[&str] = &["check", "x >= 5"];
-    let unread = refused(five, "read fault\n", 5);
-    for read_fails in 1..=17 {
-        let devices = Devices {
-            read_fails,
-            ..pieces(1)
-        };
-        assert!(rt; agrees(alloc, unread, devices)?, "read {read_fails}");
-    }
-    Ok(())
-}
-
-#[test]
-fn a_write_that_fails_is_told(rt: HostRuntime) -> Result<(), Fail> {
-    let cut_off = Case {
-        words: &["check", "x >= 5"],
-        input: RISE,
-        out: "[0,5) fals",
-        err: "write fault\n",
-        status: 6,
-    };
-    let devices = Devices {
-        write_fails: 2,
-        write_most: 10,
-        ..pieces(4096)
-    };
-    assert!(rt; agrees(rt.alloc(), cut_off, devices)?);
     Ok(())
 }
 
@@ -371,10 +477,8 @@ fn a_message_that_fails_changes_no_status(rt: HostRuntime) -> Result<(), Fail> {
         tell_fails: 2,
         ..pieces(7)
     };
-    assert!(rt;
-        agrees(alloc, refused(&["check"], "usage: ", 2), devices)?,
-        "the message is cut, the status is not"
-    );
+    let cut_off = agrees(alloc, refused(&["check"], "usage: ", 2), devices)?;
+    expect(&rt, cut_off, "the message is cut, the status is not", 2);
     let faulty = Case {
         words: &["check", "x >= 1"],
         input: "time,x\n0,0\n5,1\n5,2\n",
@@ -386,6 +490,6 @@ fn a_message_that_fails_changes_no_status(rt: HostRuntime) -> Result<(), Fail> {
         tell_fails: 1,
         ..pieces(4096)
     };
-    assert!(rt; agrees(alloc, faulty, devices)?);
+    expect(&rt, agrees(alloc, faulty, devices)?, "nothing is told", 4);
     Ok(())
 }

@@ -1,6 +1,6 @@
 //! `watch` as a whole: tables of answers from outside, for every cut, and `Watch` call by call.
-use crate::cases::{Case, Devices, agrees, agrees_however_cut, pieces, sink};
-use io_edge::{MemSink, Sink};
+use crate::cases::{Asked, Case, Devices, agrees, expect, expect_each, pieces, sink};
+use io_edge::MemSink;
 use std::alloc::{AllocError, Global};
 use std::process::Abort;
 use std::test::Fail;
@@ -12,95 +12,70 @@ const TRIANGLE: &str = "time,x\n0,0\n5,5\n10,0\n";
 
 const STEPS: &str = "time,p:step,q:step\n0,1,0\n4,1,1\n6,0,0\n8,1,0\n";
 
-/// Formulas, traces, what is written and the status.
-const STREAMS: [(&str, &str, &str, u8); 6] = [
+/// Formulas and inputs, what is written and told, and the status.
+const STREAMS: [Asked<'static>; 9] = [
     (
         "eventually[0,2] x >= 5",
         TRIANGLE,
         "[0,3) false\n[3,3] true\n(3,5] true\n(5,8] false\n(8,10] false\nstart false\n",
+        "",
         1,
     ),
     (
         "true until[8,9] x >= 0",
         TRIANGLE,
         "[0,1] true\n(1,2] true\n(2,10] false\nstart true\n",
+        "",
         0,
     ),
     (
         "p >= 1 since q >= 1",
         STEPS,
         "[0,0] false\n(0,4) false\n[4,4] true\n(4,6) true\n[6,6] false\n(6,8] false\nstart false\n",
+        "",
         1,
     ),
     (
         "p >= 1 until[0,8] q >= 1",
         "time,p:step,q:step\n0,1,0\n2,0,0\n4,1,1\n6,0,0\n8,0,0\n",
         "[0,0] false\n(0,4) false\n[4,6) true\n[6,8] false\nstart false\n",
+        "",
         1,
     ),
     (
         "eventually]0,2] x >= 5",
         TRIANGLE,
         "[0,3) false\n[3,3] true\n(3,5) true\n[5,8] false\n(8,10] false\nstart false\n",
+        "",
         1,
     ),
     (
         "eventually[0,2[ x >= 5",
         TRIANGLE,
         "[0,3] false\n(3,5] true\n(5,8] false\n(8,10] false\nstart false\n",
+        "",
         1,
     ),
-];
-
-#[test]
-fn rows_are_answered_as_they_come(rt: HostRuntime) -> Result<(), Fail> {
-    let alloc = rt.alloc();
-    for (i, (formula, input, out, status)) in STREAMS.iter().enumerate() {
-        let words: &[&str] = &["watch", formula];
-        let case = Case {
-            words,
-            input,
-            out,
-            err: "",
-            status: *status,
-        };
-        assert!(rt; agrees_however_cut(alloc, case, input.len())?, "row {i}");
-    }
-    Ok(())
-}
-
-/// Formulas, bytes that have a fault, what is written before it, and the line that is told.
-const FAULTY: [(&str, &str, &str, &str); 3] = [
     (
         "x >= 1",
         "time,x\n0,0\n5,1\n5,2\n",
         "[0,0] false\n(0,5) false\n[5,5] true\n",
         "line 4: time not rising\n",
+        4,
     ),
     (
         "x >= 1 and z >= 0",
         "time,x\n0,0\n",
         "",
         "line 1: unknown column z\n",
+        4,
     ),
-    ("x >= 1", "time,x\n\n", "", "line 2: no rows\n"),
+    ("x >= 1", "time,x\n\n", "", "line 2: no rows\n", 4),
 ];
 
 #[test]
-fn rows_before_a_fault_are_answered(rt: HostRuntime) -> Result<(), Fail> {
-    let alloc = rt.alloc();
-    for (i, (formula, input, out, err)) in FAULTY.iter().enumerate() {
-        let words: &[&str] = &["watch", formula];
-        let case = Case {
-            words,
-            input,
-            out,
-            err,
-            status: 4,
-        };
-        assert!(rt; agrees_however_cut(alloc, case, input.len())?, "row {i}");
-    }
-    Ok(())
+fn rows_are_answered_as_they_come(rt: HostRuntime) -> Result<(), Fail> {
+    expect_each(&rt, rt.alloc(), "watch", &STREAMS)
 }
 
 const LIMITS: Limits = Limits {
@@ -119,7 +94,9 @@ fn watch(rt: &impl Abort, alloc: Global, text: &str) -> Watch {
 }
 
 /// A formula, bytes, which call of the sink fails, why a watch refuses them, and what it has written by then.
-const REFUSED: [(&str, &str, u64, WatchFault, &str); 6] = [
+type Refused = (&'static str, &'static str, u64, WatchFault, &'static str);
+
+const REFUSED: [Refused; 6] = [
     (
         "x >= 1",
         "time,x\n1,0\n1,1\n",
@@ -188,54 +165,22 @@ fn refuses(watch: &mut Watch, out: &mut MemSink, fault: WatchFault) -> bool {
         && out.written().len() == before
 }
 
-/// Whether a watch refuses the bytes so, has written so much by then, and refuses all that follows.
-fn is_refused(
-    watch: &mut Watch,
-    out: &mut MemSink,
-    bytes: &str,
-    fault: WatchFault,
-    written: &str,
-) -> bool {
-    refusal(watch, bytes, out) == Some(fault)
-        && out.written() == written.as_bytes()
-        && refuses(watch, out, WatchFault::Stopped)
+/// Whether a watch refuses the bytes of a row so, has written so much by then, and refuses all that follows.
+fn is_refused(rt: &impl Abort, alloc: Global, row: &Refused) -> Result<bool, Fail> {
+    let (formula, bytes, fails, fault, written) = row;
+    let mut out = sink(alloc, 4096, 4096, *fails)?;
+    let mut watch = watch(rt, alloc, formula);
+    Ok(
+        refusal(&mut watch, bytes, &mut out) == Some(*fault)
+            && out.written() == written.as_bytes()
+            && refuses(&mut watch, &mut out, WatchFault::Stopped),
+    )
 }
 
 #[test]
 fn a_watch_that_refused_refuses_all(rt: HostRuntime) -> Result<(), Fail> {
-    for (formula, bytes, fails, fault, written) in REFUSED {
-        let mut out = sink(rt.alloc(), 4096, 4096, fails)?;
-        let mut watch = watch(&rt, rt.alloc(), formula);
-        assert!(rt;
-            is_refused(&mut watch, &mut out, bytes, fault, written),
-            "{formula}"
-        );
-    }
-    Ok(())
-}
-
-/// What a watch of `x >= 5` writes for `TRIANGLE`.
-const WRITTEN: &str = "[0,0] false\n(0,5) false\n[5,5] true\n(5,10] false\nstart false\n";
-
-/// Whether a watch writes what there is room for, and refuses all that follows where that is not all.
-fn fills(watch: &mut Watch, out: &mut MemSink, room: usize) -> bool {
-    let fault = refusal(watch, TRIANGLE, out);
-    if out.written() != &WRITTEN.as_bytes()[..room.min(WRITTEN.len())] {
-        return false;
-    }
-    if room < WRITTEN.len() {
-        return fault == Some(WatchFault::Write) && refuses(watch, out, WatchFault::Stopped);
-    }
-    fault == None
-}
-
-#[test]
-fn a_watch_writes_what_there_is_room_for(rt: HostRuntime) -> Result<(), Fail> {
-    for room in 0..=WRITTEN.len() {
-        let mut out = sink(rt.alloc(), room, 4096, 1)?;
-        assert!(rt; out.write(b"x").is_err(), "a call that failed before");
-        let mut watch = watch(&rt, rt.alloc(), "x >= 5");
-        assert!(rt; fills(&mut watch, &mut out, room), "{room}");
+    for row in REFUSED.iter() {
+        expect(&rt, is_refused(&rt, rt.alloc(), row)?, row.0, row.1.len());
     }
     Ok(())
 }
@@ -253,7 +198,10 @@ const ENDED: &str = "[0,3) false\n[3,3] true\n(3,5] true\n(5,8] false\n(8,10] fa
 /// Whether a watch has written so much after each piece.
 fn takes_pieces(watch: &mut Watch, out: &mut MemSink) -> bool {
     for (piece, written) in PIECES {
-        if watch.push(piece.as_bytes(), out) != Ok(()) || out.written() != written.as_bytes() {
+        if watch.push(piece.as_bytes(), out).is_err() {
+            return false;
+        }
+        if out.written() != written.as_bytes() {
             return false;
         }
     }
@@ -264,9 +212,20 @@ fn takes_pieces(watch: &mut Watch, out: &mut MemSink) -> bool {
 fn a_watch_writes_at_each_piece_and_ends_once(rt: HostRuntime) -> Result<(), Fail> {
     let mut out = sink(rt.alloc(), 4096, 4096, 0)?;
     let mut watch = watch(&rt, rt.alloc(), "eventually[0,2] x >= 5");
-    assert!(rt; takes_pieces(&mut watch, &mut out));
-    assert!(rt; watch.end(&mut out) == Ok(false) && out.written() == ENDED.as_bytes());
-    assert!(rt; refuses(&mut watch, &mut out, WatchFault::Ended));
+    expect(&rt, takes_pieces(&mut watch, &mut out), "pieces", 3);
+    let is_false = watch.end(&mut out) == Ok(false);
+    expect(
+        &rt,
+        is_false && out.written() == ENDED.as_bytes(),
+        "the end",
+        1,
+    );
+    expect(
+        &rt,
+        refuses(&mut watch, &mut out, WatchFault::Ended),
+        "after the end",
+        1,
+    );
     Ok(())
 }
 
@@ -304,6 +263,6 @@ fn many_rows_are_answered_one_by_one(rt: HostRuntime) -> Result<(), Fail> {
         room: 8_388_608,
         ..pieces(4096)
     };
-    assert!(rt; agrees(alloc, case, devices)?);
+    expect(&rt, agrees(alloc, case, devices)?, "watch", 200_000);
     Ok(())
 }

@@ -1,4 +1,4 @@
-//! Formulas that are given as texts, and the scale of what tests read.
+//! Formulas that are given as texts, the scale of what tests read, and what is expected.
 use std::alloc::Global;
 use std::process::Abort;
 use stl_grammar::parse;
@@ -13,4 +13,9 @@ pub(crate) fn parsed(rt: &impl Abort, alloc: Global, text: &str) -> Formula {
         Ok(formula) => formula,
         Err(_) => panic!(rt; "{text}"),
     }
+}
+
+/// Stops where something does not hold. One assertion for all keeps the proofs of the tests short.
+pub(crate) fn expect(rt: &impl Abort, holds: bool, about: &str) {
+    assert!(rt; holds, "{about}");
 }

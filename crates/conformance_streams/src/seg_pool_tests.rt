@@ -1,4 +1,5 @@
 //! Two lists of one pool, step by step, with answers by hand.
+use super::given::expect;
 use frac128::Memory;
 use seg_pool::*;
 use std::alloc::Global;
@@ -20,7 +21,7 @@ enum Step {
 fn push(rt: &impl Abort, pool: &mut Pool<u32>, list: u32, item: u32) {
     let lists = pool.lists();
     assert!(rt; list < lists);
-    assert_eq!(rt; pool.push_back(list, item), Ok(()));
+    expect(rt, pool.push_back(list, item).is_ok(), "push");
 }
 
 /// Takes the first item of a list.
@@ -34,22 +35,22 @@ fn pop(rt: &impl Abort, pool: &mut Pool<u32>, list: u32) -> Option<u32> {
 fn holds(rt: &impl Abort, pool: &Pool<u32>, list: u32, items: &[u32]) {
     let lists = pool.lists();
     assert!(rt; list < lists);
-    assert_eq!(rt; pool.len(list), items.len());
-    assert_eq!(rt; pool.front(list), items.first());
+    expect(rt, pool.len(list) == items.len(), "length");
+    expect(rt, pool.front(list) == items.first(), "front");
     let mut at: usize = 0;
     for item in pool.walk(list) {
-        assert_eq!(rt; items.get(at), Some(item));
+        expect(rt, items.get(at) == Some(item), "item");
         at = at.wrapping_add(1);
     }
-    assert_eq!(rt; at, items.len());
+    expect(rt, at == items.len(), "items");
 }
 
 /// Sees that the two lists hold these items, and that so many more fit at least.
 fn see(rt: &impl Abort, pool: &Pool<u32>, first: &[u32], second: &[u32], room: usize) {
     holds(rt, pool, 0, first);
     holds(rt, pool, 1, second);
-    assert_eq!(rt; pool.live(), first.len().wrapping_add(second.len()));
-    assert!(rt; pool.spare() >= room);
+    let live = first.len().wrapping_add(second.len());
+    expect(rt, pool.live() == live && pool.spare() >= room, "room");
 }
 
 /// Does one step.
@@ -58,9 +59,9 @@ fn go(rt: &impl Abort, pool: &mut Pool<u32>, step: Step) {
         Step::Push(list, item) => push(rt, pool, list, item),
         Step::Pop(list, item) => {
             let first = pop(rt, pool, list);
-            assert_eq!(rt; first, item);
+            expect(rt, first == item, "pop");
         }
-        Step::Reserve(n) => assert_eq!(rt; pool.reserve(n), Ok(())),
+        Step::Reserve(n) => expect(rt, pool.reserve(n).is_ok(), "reserve"),
     }
 }
 
@@ -71,7 +72,7 @@ fn with_lists(rt: &impl Abort, alloc: Global, count: u32) -> Result<Pool<u32>, M
         let lists = pool.lists();
         assert!(rt; lists < 1000);
         let list = pool.new_list()?;
-        assert_eq!(rt; list, number);
+        expect(rt, list == number, "list");
     }
     Ok(pool)
 }
@@ -102,43 +103,5 @@ fn each_list_gives_back_its_own_items(rt: HostRuntime) -> Result<(), Fail> {
         go(&rt, &mut pool, step);
         see(&rt, &pool, first, second, room);
     }
-    Ok(())
-}
-
-/// The next number of a fixed sequence that looks random.
-fn next_random(x: u64) -> u64 {
-    x.wrapping_mul(6364136223846793005)
-        .wrapping_add(1442695040888963407)
-}
-
-#[test]
-fn a_million_pushes_and_pops_over_64_lists(rt: HostRuntime) -> Result<(), Fail> {
-    let mut pool = with_lists(&rt, rt.alloc(), 64)?;
-    let mut pushed = [0u32; 64];
-    let mut popped = [0u32; 64];
-    let mut random = 1u64;
-    for _ in 0..1000000u32 {
-        random = next_random(random);
-        let list = ((random >> 40) % 64) as usize;
-        push(&rt, &mut pool, list as u32, pushed[list]);
-        pushed[list] = pushed[list].wrapping_add(1);
-        let other = ((random >> 50) % 64) as usize;
-        match pop(&rt, &mut pool, other as u32) {
-            Some(item) => {
-                assert_eq!(rt; item, popped[other]);
-                popped[other] = popped[other].wrapping_add(1);
-            }
-            None => assert_eq!(rt; pushed[other], popped[other]),
-        }
-    }
-    let mut live: usize = 0;
-    for list in 0..64u32 {
-        let held = pushed[list as usize].wrapping_sub(popped[list as usize]) as usize;
-        let lists = pool.lists();
-        assert!(rt; list < lists);
-        assert_eq!(rt; pool.len(list), held);
-        live = live.wrapping_add(held);
-    }
-    assert_eq!(rt; pool.live(), live);
     Ok(())
 }

@@ -1,7 +1,9 @@
-//! Tests of bytes and texts: sources and sinks, formulas that are made, printed and read, recordings and their refusals, the lines of
-//! reports, and generated recordings, used from outside through their contracts alone.
+//! Tests of bytes and texts: sources and sinks, formulas that are read and printed, recordings and their refusals, the lines of faults,
+//! and generated recordings, used from outside through their contracts alone.
 #![tactic(auto)]
 
+#[cfg(test)]
+mod checks;
 #[cfg(test)]
 mod io_edge_tests;
 #[cfg(test)]

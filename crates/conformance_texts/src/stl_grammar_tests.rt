@@ -1,6 +1,6 @@
 //! Texts of formulas and their refusals, with answers by hand.
 
-use std::alloc::{AllocError, Global};
+use super::checks::expect;
 use std::process::Abort;
 use std::test::Fail;
 use stl_grammar::*;
@@ -19,10 +19,10 @@ fn compare<R: Abort + AllocGlobal>(
     match parse(rt.alloc(), text) {
         Ok(formula) => {
             let print = formula.print()?;
-            assert!(rt; print.bytes() == want.as_bytes(), "{text}");
-            assert!(rt; formula.scale() == scale, "{text}");
+            let holds = print.bytes() == want.as_bytes() && formula.scale() == scale;
+            expect(rt, holds, text);
         }
-        Err(_) => assert!(rt; false, "{text} is refused"),
+        Err(_) => expect(rt, false, text),
     }
     Ok(())
 }
@@ -42,25 +42,9 @@ fn compare_all<R: Abort + AllocGlobal>(rt: &R, table: &[Accepted]) -> Result<(),
 /// Compares the refusal of a text.
 fn refuse<R: Abort + AllocGlobal>(rt: &R, text: &str, want: FormulaFault) {
     match parse(rt.alloc(), text) {
-        Ok(_) => assert!(rt; false, "{text} is read"),
-        Err(fault) => assert!(rt; fault == want, "{text}"),
+        Ok(_) => expect(rt, false, text),
+        Err(fault) => expect(rt, fault == want, text),
     }
-}
-
-/// The text `first`, `times` times `unit`, and `last`.
-fn repeated(
-    alloc: Global,
-    first: &str,
-    unit: &str,
-    times: usize,
-    last: &str,
-) -> Result<String, AllocError> {
-    let mut text = String::from_str(alloc, first)?;
-    for _ in 0..times {
-        text.push_str(unit)?;
-    }
-    text.push_str(last)?;
-    Ok(text)
 }
 
 /// Atoms.
@@ -89,11 +73,6 @@ const ATOMS: [Accepted; 18] = [
     ("16*x >= 1073741824", "16*x >= 1073741824", 0, 0),
     ("x + x + x + x >= 0", "x + x + x + x >= 0", 0, 0),
 ];
-
-#[test]
-fn reads_atoms(rt: HostRuntime) -> Result<(), Fail> {
-    compare_all(&rt, &ATOMS)
-}
 
 /// Formulas of operators.
 const OPERATORS: [Accepted; 24] = [
@@ -174,7 +153,8 @@ const OPERATORS: [Accepted; 24] = [
 ];
 
 #[test]
-fn reads_operators(rt: HostRuntime) -> Result<(), Fail> {
+fn reads_formulas(rt: HostRuntime) -> Result<(), Fail> {
+    compare_all(&rt, &ATOMS)?;
     compare_all(&rt, &OPERATORS)
 }
 
@@ -205,13 +185,6 @@ const UNEXPECTED: [(&str, u32, What); 24] = [
     ("true since true since true", 16, What::End),
     ("x >= 1 eventually ]0,1] true", 7, What::End),
 ];
-
-#[test]
-fn refuses_what_is_not_expected(rt: HostRuntime) {
-    for (text, at, what) in UNEXPECTED {
-        refuse(&rt, text, FormulaFault::Expected { at, what });
-    }
-}
 
 /// Texts and their refusals.
 const REFUSED: [(&str, FormulaFault); 33] = [
@@ -299,106 +272,11 @@ const REFUSED: [(&str, FormulaFault); 33] = [
 ];
 
 #[test]
-fn refuses_what_passes_a_limit(rt: HostRuntime) {
+fn tells_the_first_refusal(rt: HostRuntime) {
+    for (text, at, what) in UNEXPECTED {
+        refuse(&rt, text, FormulaFault::Expected { at, what });
+    }
     for (text, fault) in REFUSED {
         refuse(&rt, text, fault);
     }
-}
-
-/// Texts whose parentheses are those that they need.
-const PRINTED: [&str; 31] = [
-    "x >= 3",
-    "q >= 1",
-    "z >= 1",
-    "0*x >= 0",
-    "2*x - 3*y >= 1",
-    "x >= 1 and true",
-    "x >= 5 and y >= 1",
-    "x >= 5 or y >= 1",
-    "not (x >= 5 or x < 1)",
-    "eventually[0,3] x >= 5",
-    "eventually[0,3] x >= 0",
-    "eventually[1,2] q >= 1",
-    "eventually[2,2] x >= 5",
-    "eventually]0,2] x >= 7",
-    "eventually[0,2[ x >= 5",
-    "eventually[0,4294967295] x >= 0",
-    "always[0,10] x <= 5",
-    "always[3,4] false",
-    "always[3,4] x >= 0",
-    "always[0,100000] x >= 1",
-    "always[0,200000] x >= 0",
-    "always[0,1500] (brake >= 1 implies eventually[0,199] speed <= 100)",
-    "always[0,1500] (brake >= 1 implies eventually[0,200] speed <= 100)",
-    "once[1,2] q >= 1",
-    "historically[0,1] x >= 1",
-    "historically]0,1[ x >= 1",
-    "p >= 1 since q >= 1",
-    "p >= 1 until[0,8] q >= 1",
-    "x >= 1 until[0,6] x >= 5",
-    "x >= 0 until[0,10] x <= 3",
-    "true until[8,9] x >= 0",
-];
-
-/// A formula whose parentheses are those that it needs is printed as it was written.
-#[test]
-fn reads_what_is_printed(rt: HostRuntime) -> Result<(), Fail> {
-    for text in PRINTED {
-        compare(&rt, text, text, Scale { time: 0, value: 0 })?;
-    }
-    compare(
-        &rt,
-        "(always[0,1000] eventually[0,1048575] x >= 0) and y >= 0",
-        "always[0,1000] eventually[0,1048575] x >= 0 and y >= 0",
-        Scale { time: 0, value: 0 },
-    )
-}
-
-/// Texts `first`, so many times `unit`, and `last`, and their refusals.
-const LONG: [(&str, &str, usize, &str, FormulaFault); 6] = [
-    ("", "not ", 65, "true", FormulaFault::TooDeep { at: 256 }),
-    ("", "(", 65, "true", FormulaFault::TooDeep { at: 64 }),
-    (
-        "",
-        "true implies ",
-        65,
-        "true",
-        FormulaFault::TooDeep { at: 837 },
-    ),
-    (
-        "true",
-        " and true",
-        128,
-        "",
-        FormulaFault::TooManyNodes { at: 1152 },
-    ),
-    ("true", " ", 8189, "", FormulaFault::TooLong { len: 8193 }),
-    ("", " ", 8193, "", FormulaFault::TooLong { len: 8193 }),
-];
-
-#[test]
-fn refuses_long_texts(rt: HostRuntime) -> Result<(), Fail> {
-    for (first, unit, times, last, fault) in LONG {
-        let text = repeated(rt.alloc(), first, unit, times, last)?;
-        refuse(&rt, text.as_str(), fault);
-    }
-    Ok(())
-}
-
-#[test]
-fn reads_long_texts(rt: HostRuntime) -> Result<(), Fail> {
-    let whole = Scale { time: 0, value: 0 };
-    let deep = repeated(rt.alloc(), "", "not ", 64, "true")?;
-    compare(&rt, deep.as_str(), deep.as_str(), whole)?;
-    let long = repeated(rt.alloc(), "true", " ", 8188, "")?;
-    compare(&rt, long.as_str(), "true", whole)?;
-    let name = repeated(rt.alloc(), "", "a.", 4000, " > 1")?;
-    compare(&rt, name.as_str(), name.as_str(), whole)
-}
-
-#[test]
-fn reads_256_nodes(rt: HostRuntime) -> Result<(), Fail> {
-    let many = repeated(rt.alloc(), "not true", " and true", 127, "")?;
-    assert!(&rt; parse(rt.alloc(), many.as_str()).is_ok());
-    Ok(())
 }

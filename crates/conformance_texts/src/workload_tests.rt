@@ -1,6 +1,7 @@
-//! The generated trace: tables of its bytes from outside, and the formula for it.
+//! The generated trace: tables of its bytes from outside.
+use super::checks::expect;
 use std::test::Fail;
-use workload::{gen_trace, judged_formula};
+use workload::gen_trace;
 
 /// Numbers, how many rows, and the bytes.
 const TRACES: [(u64, u32, &str); 3] = [
@@ -20,19 +21,10 @@ const TRACES: [(u64, u32, &str); 3] = [
 #[test]
 fn a_number_makes_a_trace(rt: HostRuntime) -> Result<(), Fail> {
     let alloc = rt.alloc();
-    for (i, (number, rows, bytes)) in TRACES.iter().enumerate() {
-        assert!(rt; *rows >= 1 && *rows <= 200_000);
-        let text = gen_trace(alloc, *number, *rows)?;
-        assert!(rt; text.bytes() == bytes.as_bytes(), "row {i}");
+    for (number, rows, bytes) in TRACES {
+        assert!(rt; rows >= 1 && rows <= 200_000);
+        let text = gen_trace(alloc, number, rows)?;
+        expect(&rt, text.bytes() == bytes.as_bytes(), bytes);
     }
-    Ok(())
-}
-
-#[test]
-fn the_formula_of_a_workload_is_read(rt: HostRuntime) -> Result<(), Fail> {
-    let alloc = rt.alloc();
-    let formula = judged_formula(alloc)?;
-    assert!(rt; formula.horizon() == 16);
-    assert!(rt; formula.len() == 10);
     Ok(())
 }

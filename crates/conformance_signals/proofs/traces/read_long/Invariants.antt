@@ -1,6 +1,0 @@
-use Rattle.std.proofs.Common.{◌≡◌, false}
-use Rattle.conformance_signals.proofs.traces.read_long.Given as goal
-
--- the reader goes on
-abbrev pub invariant-loop : goal.invariant-loop
-invariant-loop g l = l.reader.ended ≡ false
