@@ -18,6 +18,8 @@ mod margin_tests;
 #[cfg(test)]
 mod mux_tests;
 #[cfg(test)]
+mod pace_tests;
+#[cfg(test)]
 mod reason_tests;
 #[cfg(test)]
 mod refusal_tests;
