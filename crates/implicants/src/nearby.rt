@@ -168,26 +168,26 @@ fn closed(mut signal: Builder<Kleene>, view: View) -> Result<Signal<Kleene>, Mem
     Ok(signal.finish())
 }
 
-/// The place of the run that is picked after the one at the place before `next`.
+/// The place of the run that is picked after the one at the place before `next`: one run before the first of those about the region, and
+/// one behind the last; of many between, those at either end, and ever fewer.
 fn next_picked(pick: Pick, next: usize) -> usize
     ensures { next ≤ result }
 {
     if next < pick.dense {
         return next;
     }
-    let low = pick.low.saturating_sub(1);
-    if next < pick.low.saturating_add(MOST_PICKED) {
-        return next.max(low);
+    if next.saturating_add(1) < pick.low {
+        return pick.low - 1;
     }
-    let high = pick.high.saturating_sub(MOST_PICKED);
-    let farther = next.saturating_add(next.saturating_sub(pick.low));
-    if farther < high {
-        return farther;
+    if next > pick.high.saturating_add(1) {
+        return next.max(pick.to);
     }
-    if next <= pick.high.saturating_add(1) {
-        return next.max(high);
+    let end = pick.high.saturating_sub(MOST_PICKED);
+    if next < pick.low.saturating_add(MOST_PICKED) || next >= end {
+        return next;
     }
-    next.max(pick.to)
+    let farther = next.saturating_add(next - pick.low);
+    farther.min(end)
 }
 
 /// The signal that is the best but in some runs of the node.

@@ -609,6 +609,9 @@ fn is_needed(
     // For the proof alone: where the trace ends.
     let _ = last(trace);
     let view = view_at(trace, ground, i);
+    if cell.holds != view.best {
+        return Ok(false);
+    }
     let gone = gone_among(
         alloc,
         cells,
