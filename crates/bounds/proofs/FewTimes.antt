@@ -32,6 +32,7 @@ pub rises_on : (t : Rational) (times : List Rational) → AreRisingTimes (t ∷ 
 rises_on t [] r = tt
 rises_on t (u ∷ times) r = (r.0, rises_on u times r.1)
 
+-- from the first of them on
 pub rises : (t : Rational) (times : List Rational) → AreRisingTimes (t ∷ times) → RisesFrom true t (t ∷ times)
 rises t times r = (le_refl t, rises_on t times r)
 
@@ -55,6 +56,7 @@ pub among_left : (times others : List Rational) (t : Rational) → IsAmong times
 among_left [] others t h = absurd h
 among_left (u ∷ times) others t h = elim h [ inl e ↦ inl e | inr k ↦ inr (among_left times others t k) ]
 
+-- in the second
 pub among_right : (times others : List Rational) (t : Rational) → IsAmong others t → IsAmong (times ++ others) t
 among_right [] others t h = h
 among_right (u ∷ times) others t h = inr (among_right times others t h)
@@ -64,10 +66,12 @@ abbrev pub moved_back : Move → List Rational → List Rational
 moved_back k [] = []
 moved_back k (u ∷ times) = by u (back k) ∷ moved_back k times
 
+-- as many
 pub moved_count : (k : Move) (times : List Rational) → length (moved_back k times) ≡ length times
 moved_count k [] = refl
 moved_count k (u ∷ times) = let e = moved_count k times in omega (arith, e)
 
+-- a time whose moved one is among them
 pub among_moved : (k : Move) (times : List Rational) (t : Rational) → IsAmong times (by t k) → IsAmong (moved_back k times) t
 among_moved k [] t h = absurd h
 among_moved k (u ∷ times) t h =

@@ -84,10 +84,10 @@ windowed p r tr lo hi k l n m join f g = record {
 }
 
 -- of the left input and of the ends of a window
-reached : (p c r : Subformula) (tr : Trace) (lo hi : Rational) (k l : Rational → Move) (n m o : ℕ)
+reached : {p c r : Subformula} {tr : Trace} {lo hi : Rational} {n m o : ℕ} (k l : Rational → Move)
     → ((t : Rational) → Calm p tr t → Edge c tr (by t (k t)) → Edge c tr (by t (l t)) → Calm r tr t)
     → Few p tr lo hi n → Edged c tr lo hi k m → Edged c tr lo hi l o → Few r tr lo hi (n + (m + o))
-reached p c r tr lo hi k l n m o join e f g = record {
+reached k l join e f g = record {
   times_of = e.times_of ++ (f.times_of ++ g.times_of);
   few = both_few e.times_of (f.times_of ++ g.times_of) e.few (both_few f.times_of g.times_of f.few g.few);
   calm = λ t w apart.
@@ -176,17 +176,17 @@ module _ (tr : Trace) (low high : Rational) where
       more (turns_for_a_row p * N + turns_for_a_row q * N) _ (sum_of (turns_for_a_row p) (turns_for_a_row q) N) (few_both p q r join f g lo hi h k)
 
   -- a formula at a bound of a window ahead, and at one of a window behind
-  at_bound_ahead : (c : Subformula) (count A B : ℕ)
+  at_bound_ahead : {c : Subformula} {count : ℕ} (A B : ℕ)
       → ((lo hi : Rational) → later low B ≤ʳ lo → later hi A ≤ʳ high → Few c tr lo hi count)
       → (a m : ℕ) → a ≤ m → (lo hi : Rational) → later low B ≤ʳ lo → later hi (m + A) ≤ʳ high → Edged c tr lo hi (λ t. ahead a) (count + 2)
-  at_bound_ahead c count A B f a m h lo hi k l =
+  at_bound_ahead {c} {count} A B f a m h lo hi k l =
       edged c tr lo hi (ahead a) count (f (by lo (ahead a)) (by hi (ahead a)) (low_ahead low lo a B k) (high_ahead hi high a A (m + A) (omega (arith, h)) l))
 
-  at_bound_behind : (c : Subformula) (count A B : ℕ)
+  at_bound_behind : {c : Subformula} {count : ℕ} (A B : ℕ)
       → ((lo hi : Rational) → later low B ≤ʳ lo → later hi A ≤ʳ high → Few c tr lo hi count)
       → (a m : ℕ) → a ≤ m → (lo hi : Rational) → later low (m + B) ≤ʳ lo → later hi A ≤ʳ high
       → Few c tr (by lo (behind a)) (by hi (behind a)) count
-  at_bound_behind c count A B f a m h lo hi k l =
+  at_bound_behind {c} {count} A B f a m h lo hi k l =
       f (by lo (behind a)) (by hi (behind a)) (low_behind low lo a B (m + B) (omega (arith, h)) k) (high_behind hi high a A l)
 
   near_far : (a : ℕ) (b : Option ℕ) → a ≤ far a b
@@ -203,8 +203,8 @@ module _ (tr : Trace) (low high : Rational) where
       let c = turns_for_a_row p * N in
       more (c + 2 + (c + 2)) _ (two_ends (turns_for_a_row p) N some)
       (windowed p r tr lo hi (λ t. ahead a) (λ t. ahead b) (c + 2) (c + 2) join
-      (at_bound_ahead p c (looks_ahead p) (looks_back p) f a (max a b) (left_max a b) lo hi h k)
-      (at_bound_ahead p c (looks_ahead p) (looks_back p) f b (max a b) (right_max a b) lo hi h k))
+      (at_bound_ahead (looks_ahead p) (looks_back p) f a (max a b) (left_max a b) lo hi h k)
+      (at_bound_ahead (looks_ahead p) (looks_back p) f b (max a b) (right_max a b) lo hi h k))
 
   few_behind : (p r : Subformula) (a : ℕ) (b : Option ℕ)
       → ((t : Rational) → Edge p tr (by t (low_of t b)) → Edge p tr (by t (behind a)) → Calm r tr t) → IsFew p
@@ -214,8 +214,8 @@ module _ (tr : Trace) (low high : Rational) where
       let c = turns_for_a_row p * N in
       more (c + 2 + (c + 2)) _ (two_ends (turns_for_a_row p) N some)
       (windowed p r tr lo hi (λ t. low_of t b) (λ t. behind a) (c + 2) (c + 2) join
-      (far_edged p tr lo hi b c (λ n e. at_bound_behind p c (looks_ahead p) (looks_back p) f n (far a b) (far_far a b n e) lo hi h k))
-      (edged p tr lo hi (behind a) c (at_bound_behind p c (looks_ahead p) (looks_back p) f a (far a b) (near_far a b) lo hi h k)))
+      (far_edged p tr lo hi b c (λ n e. at_bound_behind (looks_ahead p) (looks_back p) f n (far a b) (far_far a b n e) lo hi h k))
+      (edged p tr lo hi (behind a) c (at_bound_behind (looks_ahead p) (looks_back p) f a (far a b) (near_far a b) lo hi h k)))
 
   few_until : (a b : ℕ) (p q : Subformula) → IsFew p → IsFew q → IsFew (until a b p q)
   few_until a b p q f g lo hi h k =
@@ -225,11 +225,11 @@ module _ (tr : Trace) (low high : Rational) where
       let B = max (looks_back p) (looks_back q) in
       let e = few_both p q (conjunction p q) (calm_conjunction tr p q) f g in
       more (c + (d + 2 + (d + 2))) _ (with_left (turns_for_a_row p) (turns_for_a_row q) N some)
-      (reached p (conjunction p q) (until a b p q) tr lo hi (λ t. ahead a) (λ t. ahead b) c (d + 2) (d + 2) (calm_until tr a b p q)
+      (reached (λ t. ahead a) (λ t. ahead b) (calm_until tr a b p q)
       (f lo hi (low_part low lo (looks_back p) B (left_max (looks_back p) (looks_back q)) h)
       (high_part hi high (looks_ahead p) (max a b + A) (let m = left_max (looks_ahead p) (looks_ahead q) in omega (arith, m)) k))
-      (at_bound_ahead (conjunction p q) d A B e a (max a b) (left_max a b) lo hi h k)
-      (at_bound_ahead (conjunction p q) d A B e b (max a b) (right_max a b) lo hi h k))
+      (at_bound_ahead A B e a (max a b) (left_max a b) lo hi h k)
+      (at_bound_ahead A B e b (max a b) (right_max a b) lo hi h k))
 
   few_since : (a : ℕ) (b : Option ℕ) (p q : Subformula) → IsFew p → IsFew q → IsFew (since a b p q)
   few_since a b p q f g lo hi h k =
@@ -239,11 +239,11 @@ module _ (tr : Trace) (low high : Rational) where
       let B = max (looks_back p) (looks_back q) in
       let e = few_both p q (conjunction p q) (calm_conjunction tr p q) f g in
       more (c + (d + 2 + (d + 2))) _ (with_left (turns_for_a_row p) (turns_for_a_row q) N some)
-      (reached p (conjunction p q) (since a b p q) tr lo hi (λ t. low_of t b) (λ t. behind a) c (d + 2) (d + 2) (calm_since tr a b p q)
+      (reached (λ t. low_of t b) (λ t. behind a) (calm_since tr a b p q)
       (f lo hi (low_part low lo (looks_back p) (far a b + B) (let m = left_max (looks_back p) (looks_back q) in omega (arith, m)) h)
       (high_part hi high (looks_ahead p) A (left_max (looks_ahead p) (looks_ahead q)) k))
-      (far_edged (conjunction p q) tr lo hi b d (λ n i. at_bound_behind (conjunction p q) d A B e n (far a b) (far_far a b n i) lo hi h k))
-      (edged (conjunction p q) tr lo hi (behind a) d (at_bound_behind (conjunction p q) d A B e a (far a b) (near_far a b) lo hi h k)))
+      (far_edged (conjunction p q) tr lo hi b d (λ n i. at_bound_behind A B e n (far a b) (far_far a b n i) lo hi h k))
+      (edged (conjunction p q) tr lo hi (behind a) d (at_bound_behind A B e a (far a b) (near_far a b) lo hi h k)))
 
   -- each formula turns at few times
   pub few_times : (p : Subformula) → IsFew p

@@ -5,3 +5,5 @@ pub mod FewTimes
 pub mod AtomTurns
 pub mod FormulaTurns
 pub mod VerdictTurns
+pub mod HeldFew
+pub mod EdgesFew

@@ -68,7 +68,7 @@ differ false true other a b f g = a (g b)
 differ false false other a b f g = other refl
 
 -- between two verdicts the truth turns
-turns_at : (p : Subformula) (tr : Trace) (v w : Verdict) → IsTold p tr v → IsTold p tr w → v.holds ≢ w.holds → value w.on.from ≈ value v.on.to
+pub turns_at : (p : Subformula) (tr : Trace) (v w : Verdict) → IsTold p tr v → IsTold p tr w → v.holds ≢ w.holds → value w.on.from ≈ value v.on.to
     → Turns p tr (value v.on.to)
 turns_at p tr v w told next apart e from to before after alike =
     let n : Near (value v.on.to) = record { from = from; to = to; before = before; after = after } in
@@ -81,7 +81,7 @@ turns_at p tr v w told next apart e from to before after alike =
     (alike b.time a.time b.near.above b.near.below a.near.above a.near.below)
 
 -- the ends of the verdicts but the last, of those whose end is in or of those whose end is out
-with_end : Bool → Bool → Rational → List Rational → List Rational
+unfoldable pub with_end : Bool → Bool → Rational → List Rational → List Rational
 with_end true true t times = t ∷ times
 with_end false false t times = t ∷ times
 with_end true false t times = times
@@ -92,19 +92,22 @@ ends_of side v [] = []
 ends_of side v (w ∷ verdicts) = with_end side v.on.to_in (value v.on.to) (ends_of side w verdicts)
 
 -- a nonempty interval's ends
-from_le_to : (on : Interval) → IsNotEmpty on → on.from ≤ʳ on.to
+pub from_le_to : (on : Interval) → IsNotEmpty on → on.from ≤ʳ on.to
 from_le_to on (inl h) = le_of_lt h
 from_le_to on (inr h) = le_of_same h.0
 
-from_lt_to : (on : Interval) → IsNotEmpty on → on.to_in ≡ false → on.from <ʳ on.to
+-- an end that is out lies behind the begin
+pub from_lt_to : (on : Interval) → IsNotEmpty on → on.to_in ≡ false → on.from <ʳ on.to
 from_lt_to on (inl h) e = h
 from_lt_to on (inr h) e = absurd (let k = h.2 in cc)
 
-from_to : (on : Interval) → IsNotEmpty on → Precedes on.from_in on.from on.to
+-- the end does not come before the begin, with the begin in or not
+pub from_to : (on : Interval) → IsNotEmpty on → Precedes on.from_in on.from on.to
 from_to on (inl h) = precedes_of_lt on.from_in on.from on.to h
 from_to on (inr h) = precedes_in on.from_in on.from on.to h.1 (le_of_same h.0)
 
-other_true : (a : Bool) → a ≢ true → a ≡ false
+-- what is not true is false
+pub other_true : (a : Bool) → a ≢ true → a ≡ false
 other_true true h = absurd (h refl)
 other_true false h = refl
 
