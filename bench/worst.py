@@ -4,7 +4,8 @@
 Families of formulas that are hard for some part of the program run over families of traces that are: deep chains and trees of `until`
 and `since`, windows in one another whose bounds have no common divisor, windows that all end together, many atoms, atoms of four
 columns; ramps that cross everywhere, steps that change at each row or only fall, rows far apart and at odd distances. Each is run with
-a limit of time. The slowest of each command are printed, with how the time grew from half as many rows: 1 is linear.
+a limit of time. The slowest of each command are printed, with how the time grew from half as many rows: 1 is linear. With `--random`
+random formulas over random rows are looked through for those that `explain` takes long for.
 """
 import argparse
 import math

@@ -1,4 +1,4 @@
-//! Which certainty of each node helps the formula to be certainly false.
+//! Which certainty of each node helps the formula to be certainly false, and which node stands above it.
 ghost use Rattle.std.specs.Prelude.{◌≡◌, length, IsTrue, IfOk, IfSome};
 ghost use Rattle.stl_syntax.specs.Formula.{HasChildrenBelow};
 ghost use Rattle.implicants.specs.Signs.{AreSigned, AreSigns};
@@ -88,4 +88,44 @@ pub(crate) fn signs_of(alloc: Global, formula: &Formula) -> Result<Option<Vec<bo
         return Ok(Some(signs));
     }
     Ok(None)
+}
+
+/// The operands of a node.
+fn operands(node: &Node) -> (Option<u32>, Option<u32>) {
+    match node {
+        Node::Const(_) | Node::Atom(_) => (None, None),
+        Node::Not(p) => (Some(*p), None),
+        Node::And(p, q) | Node::Or(p, q) | Node::Implies(p, q) => (Some(*p), Some(*q)),
+        Node::Until { left, right, .. } | Node::Since { left, right, .. } => (
+            Some(*left),
+            Some(*right),
+        ),
+        Node::Eventually { of, .. }
+        | Node::Always { of, .. }
+        | Node::Once { of, .. }
+        | Node::Historically { of, .. } => (Some(*of), None),
+    }
+}
+
+/// Puts a place, where it is one.
+fn put_above(above: &mut Vec<u32>, p: Option<u32>, j: u32) {
+    if let Some(p) = p {
+        if (p as usize) < above.len() {
+            above[p as usize] = j;
+        }
+    }
+}
+
+/// The place above each node. Nothing is claimed of it: it is looked at anew where it is used.
+pub(crate) fn places_above(alloc: Global, formula: &Formula) -> Result<Vec<u32>, Memory> {
+    let count = formula.len();
+    let Ok(mut above) = vec![in alloc; 0; count as usize] else {
+        return Err(Memory);
+    };
+    for j in 0..count {
+        let (left, right) = operands(formula.node(j));
+        put_above(&mut above, left, j);
+        put_above(&mut above, right, j);
+    }
+    Ok(above)
 }

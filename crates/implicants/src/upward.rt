@@ -25,7 +25,7 @@ use crate::lost::{Region, region_of, touches_region};
 use crate::nearby::{Pick, View, few, run_in};
 use crate::needed::is_on;
 use crate::runs::{Run, own_runs, put_run, run_at, runs_of};
-use crate::signs::signs_of;
+use crate::signs::{places_above, signs_of};
 use crate::trace_ends::{first, last};
 use frac128::{Frac, Memory};
 use offline_eval::{Evaluated, of_node};
@@ -498,46 +498,6 @@ fn above_at(ground: &Ground, k: u32) -> u32 {
         return 0;
     }
     ground.above[k as usize]
-}
-
-/// Puts a place, where it is one.
-fn put_above(above: &mut Vec<u32>, p: Option<u32>, j: u32) {
-    if let Some(p) = p {
-        if (p as usize) < above.len() {
-            above[p as usize] = j;
-        }
-    }
-}
-
-/// The place above each node. Nothing is claimed of it: it is looked at anew where it is used.
-fn places_above(alloc: Global, formula: &Formula) -> Result<Vec<u32>, Memory> {
-    let count = formula.len();
-    let Ok(mut above) = vec![in alloc; 0; count as usize] else {
-        return Err(Memory);
-    };
-    for j in 0..count {
-        let (left, right) = operands(formula.node(j));
-        put_above(&mut above, left, j);
-        put_above(&mut above, right, j);
-    }
-    Ok(above)
-}
-
-/// The operands of a node.
-fn operands(node: &Node) -> (Option<u32>, Option<u32>) {
-    match node {
-        Node::Const(_) | Node::Atom(_) => (None, None),
-        Node::Not(p) => (Some(*p), None),
-        Node::And(p, q) | Node::Or(p, q) | Node::Implies(p, q) => (Some(*p), Some(*q)),
-        Node::Until { left, right, .. } | Node::Since { left, right, .. } => (
-            Some(*left),
-            Some(*right),
-        ),
-        Node::Eventually { of, .. }
-        | Node::Always { of, .. }
-        | Node::Once { of, .. }
-        | Node::Historically { of, .. } => (Some(*of), None),
-    }
 }
 
 /// Puts a signal behind the others.
