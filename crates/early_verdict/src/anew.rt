@@ -108,7 +108,7 @@ fn cut_endless(own: &mut Sets, spans: &Stretches, low: u32)
     }
 }
 
-/// So of the since at a place.
+/// Cuts what the since at place `i` has of windows that reach to the start, as `cut_endless` does.
 pub(crate) fn cut_endless_at(live: &mut [Sets], i: usize, spans: &Stretches, low: u32)
     requires within { i < length live.old }
     requires tidy { AllTidy live.old }

@@ -41,7 +41,7 @@ pub(crate) fn step_constant(own: &mut Sets, holds: bool, entry: &Entry) -> Resul
     }
 }
 
-/// The contrary.
+/// A negation is true where its operand is certainly false, and false where that is certainly true.
 pub(crate) fn step_negation(own: &mut Sets, p: &Sets) -> Result<(), Memory>
     requires { AreSetsTidy own.old }
     ensures stepped { OnOk result (HasStepped own.old own.new) }
@@ -53,7 +53,7 @@ pub(crate) fn step_negation(own: &mut Sets, p: &Sets) -> Result<(), Memory>
     Ok(())
 }
 
-/// Both.
+/// A conjunction is true where both operands are, and false where one of them is.
 pub(crate) fn step_conjunction(own: &mut Sets, p: &Sets, q: &Sets) -> Result<(), Memory>
     requires own { AreSetsTidy own.old }
     requires first { AreSetsTidy p.now }
@@ -67,7 +67,7 @@ pub(crate) fn step_conjunction(own: &mut Sets, p: &Sets, q: &Sets) -> Result<(),
     Ok(())
 }
 
-/// One of the two.
+/// A disjunction is true where one operand is, and false where both are.
 pub(crate) fn step_disjunction(own: &mut Sets, p: &Sets, q: &Sets) -> Result<(), Memory>
     requires own { AreSetsTidy own.old }
     requires first { AreSetsTidy p.now }

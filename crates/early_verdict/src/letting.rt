@@ -103,7 +103,7 @@ fn ask_both(shown: &mut [Sets], left: u32, right: u32, cut: &Cut)
     ask_from(shown, right, cut);
 }
 
-/// So many ticks after the cut.
+/// The place `ticks` after the cut.
 fn cut_after(cut: &Cut, ticks: u32) -> Cut
     requires { IsWithin (2 ^ 34) (value cut.now.time) }
     ensures { value result.time ≤ʳ later (value cut.now.time) ticks }
@@ -111,7 +111,7 @@ fn cut_after(cut: &Cut, ticks: u32) -> Cut
     cut.shift_begin(i64::from(ticks), true)
 }
 
-/// So many ticks before the cut.
+/// The place `ticks` before the cut.
 pub(crate) fn cut_before(cut: &Cut, ticks: u32) -> Cut
     requires { IsWithin (2 ^ 34) (value cut.now.time) }
     ensures { later (value result.time) ticks ≤ʳ value cut.now.time }
@@ -147,7 +147,7 @@ fn show_first(own: &mut Grown, other: &mut Grown, cut: &Cut)
     other.bounds = first;
 }
 
-/// So for the node at the place, by its times of the truth `holds`, where the first of these begin so far before the cut.
+/// Shows, of the node at the place, its first times of the truth `holds` alone, where these begin more than `low` ticks before the cut.
 fn ask_first(shown: &mut [Sets], place: u32, holds: bool, low: u32, cut: &Cut)
     requires within { place < length shown.old }
     requires near { IsWithin (2 ^ 34) (value cut.now.time) }
@@ -233,7 +233,8 @@ fn cut_holding(own: &mut Holding, first: &Cut, cut: &Cut)
     own.carried = begins_at_once(&own.run);
 }
 
-/// So where it fails; there it goes on as far as its left operand shows times.
+/// Lets go of the times before the cut of the sets between those of until or since, where it fails; what says how far a failing goes on
+/// is kept where its left operand shows times.
 fn cut_failing(own: &mut Failing, wide: Stretch, cut: &Cut)
     requires tidy { IsFailingTidy own.old }
     requires inside { IsFailingInside wide own.old }
@@ -246,7 +247,7 @@ fn cut_failing(own: &mut Failing, wide: Stretch, cut: &Cut)
     own.carried = begins_at_once(&own.stop);
 }
 
-/// So of an until or a since.
+/// Lets go of the times before the cut of all sets between those of an until or a since.
 fn cut_run(own: &mut Sets, wide: Stretch, first: &Cut, cut: &Cut)
     requires tidy { AreSetsTidy own.old }
     requires inside { ArePartsInside wide own.old }
@@ -261,7 +262,7 @@ fn cut_run(own: &mut Sets, wide: Stretch, first: &Cut, cut: &Cut)
     }
 }
 
-/// So of the one at a place.
+/// Lets go of them for the until or since at place `i`.
 fn cut_run_at(live: &mut [Sets], i: usize, wide: Stretch, first: &Cut, cut: &Cut)
     requires within { i < length live.old }
     requires tidy { AllTidy live.old }

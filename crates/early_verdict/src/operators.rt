@@ -31,7 +31,7 @@ fn ahead(low: u32, high: u32, low_in: bool, high_in: bool) -> Window
     }
 }
 
-/// So many ticks before.
+/// The offset of a time that lies `ticks` behind.
 pub(crate) fn ticks_before(ticks: u32) -> i64
     ensures value { result ≡ neg_ℤ (pos ticks) }
     ensures near { unsigned_abs result ≤ 2 ^ 32 }
@@ -69,7 +69,7 @@ fn at(below: &[Sets], place: u32) -> &Sets
     &below[place as usize]
 }
 
-/// A negation.
+/// Steps a negation by what its operand gained.
 fn go_negation(own: &mut Sets, of: u32, below: &[Sets], entry: &Entry) -> Result<(), Memory>
     requires own { AreSetsTidy own.old }
     requires below { AllTidy below.now }
@@ -83,7 +83,7 @@ fn go_negation(own: &mut Sets, of: u32, below: &[Sets], entry: &Entry) -> Result
     Ok(())
 }
 
-/// Both of two.
+/// Steps a conjunction by what its operands gained.
 fn go_conjunction(
     own: &mut Sets,
     left: u32,
@@ -104,7 +104,7 @@ fn go_conjunction(
     Ok(())
 }
 
-/// One of two.
+/// Steps a disjunction by what its operands gained.
 fn go_disjunction(
     own: &mut Sets,
     left: u32,
@@ -239,7 +239,7 @@ fn go_historically(
     Ok(())
 }
 
-/// Until.
+/// Steps an until by what its operands gained.
 fn go_until(
     own: &mut Sets,
     left: u32,
@@ -264,7 +264,7 @@ fn go_until(
     Ok(())
 }
 
-/// Since.
+/// Steps a since by what its operands gained.
 fn go_since(
     own: &mut Sets,
     left: u32,

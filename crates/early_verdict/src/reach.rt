@@ -30,7 +30,7 @@ fn add_reaching(own: &mut Grown, run: &Stretch, spans: &Stretches, sure: &Cut) -
     }
 }
 
-/// So for the run that holds the part's first times.
+/// Adds those times of the run that holds the part's first times, from which on it has a sure time of the spans.
 fn add_reaching_at(
     own: &mut Grown,
     part: &Stretch,
@@ -52,7 +52,7 @@ fn add_reaching_at(
     }
 }
 
-/// So for each of the parts.
+/// Adds, for each of the parts, what the run about its first times gives by sure times of the spans.
 pub(crate) fn add_all_reaching(
     own: &mut Grown,
     parts: &[Stretch],
@@ -74,7 +74,7 @@ pub(crate) fn add_all_reaching(
     Ok(())
 }
 
-/// So for the run that holds the first times of the stretch between the two cuts.
+/// Adds what the run gives that holds the first times of the part between the two cuts: those that the cut `sure` newly made sure.
 fn add_reaching_by(
     own: &mut Grown,
     part: &Stretch,
@@ -97,7 +97,7 @@ fn add_reaching_by(
     }
 }
 
-/// So for each stretch of the spans.
+/// Adds, for each stretch of the spans that begins by the cut `sure`, what its part between the two cuts gives.
 pub(crate) fn add_reaching_between(
     own: &mut Grown,
     runs: &Stretches,
@@ -145,7 +145,7 @@ fn add_reached_at(
     }
 }
 
-/// So for each of the parts.
+/// Adds, for each of the parts, the times back from which the run about it has a time of the spans.
 pub(crate) fn add_all_reached(
     own: &mut Grown,
     parts: &[Stretch],

@@ -89,7 +89,7 @@ impl Parts {
 }
 
 impl Sets {
-    /// No times yet.
+    /// The sets of a node within its bounds before anything is known: no time of either truth.
     pub(crate) fn new(alloc: Global, bounds: Stretch) -> Sets
         ensures yes { result.yes.bounds ≡ bounds }
         ensures no { result.no.bounds ≡ bounds }

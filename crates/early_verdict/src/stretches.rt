@@ -23,7 +23,7 @@ use std::alloc::Global;
 use std::collections::VecDeque;
 use std::marker::Model;
 
-/// So many stretches may slide as one is put in or taken out, before a seam is brought there.
+/// How many stretches may slide, as one is put in or taken out, before a seam is brought there.
 const NEAR: usize = 32;
 
 /// The most blocks that a list stands in.
@@ -91,7 +91,7 @@ impl Block {
         self.ring[at] = stretch;
     }
 
-    /// Puts a stretch in.
+    /// Puts a stretch in at a place of the block; those from there on slide up.
     fn insert(&mut self, at: usize, stretch: Stretch) -> Result<(), Memory>
         requires { at ≤ length self.old.ring.items }
         ensures { OnOk result (self.new.ring.items ≡ insert self.old.ring.items at stretch) }
@@ -102,7 +102,7 @@ impl Block {
         }
     }
 
-    /// Takes one out.
+    /// Takes the stretch at a place out of the block; those behind it slide down.
     fn remove(&mut self, at: usize)
         requires { at < length self.old.ring.items }
         ensures { self.new.ring.items ≡ remove self.old.ring.items at }
@@ -117,7 +117,7 @@ impl Block {
         self.ring.truncate(1);
     }
 
-    /// Takes its last one.
+    /// Takes the block's last stretch; none where it is empty.
     fn take_last(&mut self) -> Option<Stretch>
         ensures { MatchOption result (self.new.ring.items ≡ self.old.ring.items) (λ s. self.old.ring.items ≡ self.new.ring.items ++ s ∷ []) }
     {
@@ -127,7 +127,7 @@ impl Block {
         }
     }
 
-    /// Takes its first one.
+    /// Takes the block's first stretch; none where it is empty.
     fn take_first(&mut self) -> Option<Stretch>
         ensures { MatchOption result (self.new.ring.items ≡ self.old.ring.items) (λ s. self.old.ring.items ≡ s ∷ self.new.ring.items) }
     {
@@ -137,7 +137,7 @@ impl Block {
         }
     }
 
-    /// Puts one before all.
+    /// Puts a stretch before all of the block.
     fn put_first(&mut self, stretch: Stretch) -> Result<(), Memory>
         ensures { OnOk result (self.new.ring.items ≡ stretch ∷ self.old.ring.items) }
     {
@@ -147,7 +147,7 @@ impl Block {
         }
     }
 
-    /// Puts one behind all.
+    /// Puts a stretch behind all of the block.
     fn put_last(&mut self, stretch: Stretch) -> Result<(), Memory>
         ensures { OnOk result (self.new.ring.items ≡ self.old.ring.items ++ stretch ∷ []) }
     {

@@ -73,7 +73,7 @@ fn raise_children(tops: &mut [u32], node: &Node, place: u32, to: u32)
     }
 }
 
-/// As many zeros.
+/// A list of `count` zeros.
 fn zeros(alloc: Global, count: u32) -> Result<Vec<u32>, Memory>
     ensures count { IfOk result (λ v. length v.items ≡ count) }
     ensures zero { IfOk result (λ v. AreUpTo 0 v.items) }

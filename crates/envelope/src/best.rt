@@ -119,7 +119,7 @@ fn join_three<P: Shape>(
     }
 }
 
-/// The same, where `first` is no worse than `second` at the last time so far.
+/// Goes on with the best of three shapes, where `first` is no worse than `second` at the last time so far.
 fn join_ordered<P: Shape>(
     side: Side,
     built: &mut Builder<P>,
@@ -152,7 +152,7 @@ fn join_ordered<P: Shape>(
     }
 }
 
-/// The same, where `first` is the better one at the last time so far, and `second` at the time `to`.
+/// Goes on with the best of three shapes, where `first` is the better of two at the last time so far, and `second` at the time `to`.
 fn join_split<P: Shape>(
     side: Side,
     built: &mut Builder<P>,

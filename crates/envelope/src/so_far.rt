@@ -261,7 +261,7 @@ impl<P: Shape> SoFar<P> {
         }
     }
 
-    /// The same, where the last knot lies before the time.
+    /// Goes on to a time behind the last knot.
     fn go_on_to(&mut self, stop: &Frac) -> Result<(), Memory>
         requires ready { IsReady P.Shape self.old }
         requires order { value self.old.at <ʳ value stop.now }

@@ -254,7 +254,7 @@ impl<P: Shape> Walk<P> {
         Ok(())
     }
 
-    /// When something next leaves.
+    /// At which place something next leaves the window: the shape on its way down, or the queue's first constant.
     fn next_turn(&self) -> Option<Turn>
         ensures { result ≡ leaving_by self.now.course.after.low self.now.low_until self.now.queue.items }
     {
@@ -328,7 +328,7 @@ impl<P: Shape> Walk<P> {
         }
     }
 
-    /// The best constant.
+    /// The best of the constants that count: the queue's first, or the worst of all values where none counts.
     fn top(&self) -> P
         ensures { IsTop P.Shape self.now.course.side self.now.queue.items result }
     {

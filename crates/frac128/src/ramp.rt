@@ -121,7 +121,7 @@ impl Ramp {
         self.fix_between(t)
     }
 
-    /// The same, by a quotient.
+    /// The value at any `t`, by a division in 128 bits: what `fix` does where no whole number is seen at once.
     #[inline(never)]
     fn fix_between(&self, t: &Frac) -> Result<Frac, WideFrac>
         requires time { IsWithin (2 ^ 34) (value t.now) }
@@ -210,7 +210,7 @@ impl Ramp {
         self.lies_on(other)
     }
 
-    /// The same, by products.
+    /// Whether both have one value at every time, by products in 128 bits.
     #[inline(never)]
     fn lies_on(&self, other: &Ramp) -> bool
         ensures { IsTrue result ↔ ((t : Rational) → at (line self.now) t ≈ at (line other.now) t) }
@@ -231,7 +231,7 @@ impl Ramp {
         self.cmp_lines(other, t)
     }
 
-    /// The same, by products.
+    /// The order of both values at any `t`, by products in 128 bits.
     #[inline(never)]
     fn cmp_lines(&self, other: &Ramp, t: &Frac) -> Ordering
         requires { IsWithin (2 ^ 34) (value t.now) }
@@ -246,7 +246,7 @@ impl Ramp {
         sign_ahead(ahead, i128::from(self.rise - other.rise), t.rest(), t.den())
     }
 
-    /// The same, where the runs are two.
+    /// The order of both values at `t` where the ramps have different runs.
     #[inline(never)]
     fn cmp_apart(&self, other: &Ramp, t: &Frac) -> Ordering
         requires { IsWithin (2 ^ 34) (value t.now) }
@@ -266,7 +266,7 @@ impl Ramp {
         self.cmp_level(c, t)
     }
 
-    /// The same, by products.
+    /// The order of the value at any `t` and `c`, by products in 128 bits.
     #[inline(never)]
     fn cmp_level(&self, c: &Frac, t: &Frac) -> Ordering
         requires { IsWithin (2 ^ 34) (value t.now) }

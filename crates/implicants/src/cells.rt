@@ -38,7 +38,7 @@ pub(crate) struct Cells {
     pub(crate) ends: Vec<usize>,
 }
 
-/// One time alone.
+/// The span of one time alone.
 fn instant(t: Frac) -> Span
     ensures { interval result ≡ closed (value t) (value t) }
 {
@@ -89,7 +89,7 @@ fn truth_at(signal: &Signal<Truth>, place: usize, t: &Frac) -> bool
     knot.after.holds()
 }
 
-/// Appends an item.
+/// Appends a cell of the atom at place `node`, with its truth.
 fn push_item(items: &mut Vec<Item>, node: u32, on: Span, holds: bool) -> Result<(), Memory>
     ensures { OnOk result ((e : Cell) × (items.new.items ≡ items.old.items ++ e ∷ [])
         × (e.node ≡ node) × (interval e.on ≡ interval on) × (e.holds ≡ holds)) }

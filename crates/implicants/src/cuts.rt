@@ -93,7 +93,7 @@ fn knot_times(alloc: Global, signal: &Signal<Truth>) -> Result<Vec<Frac>, Memory
     Ok(times)
 }
 
-/// Appends a move.
+/// Appends how far a time of a node is moved from one of its atom, in ticks.
 #[tactic(auto, using(crate::proofs::Moving::near_more))]
 fn push_move(moves: &mut Vec<i64>, by: i64) -> Result<(), Memory>
     requires bound { IsNearMove by }

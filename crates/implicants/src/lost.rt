@@ -48,7 +48,7 @@ fn lost_to(runs: &[Run], piece: &Span, from: &Frac) -> Frac {
     }
 }
 
-/// With one more piece.
+/// The region of what is lost so far and of what the runs lack of one piece more.
 fn with_piece(runs: &[Run], piece: &Span, found: Option<Region>) -> Option<Region> {
     let Some(from) = lost_from(runs, piece) else {
         return found;

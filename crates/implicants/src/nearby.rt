@@ -25,7 +25,8 @@ pub(crate) struct View {
     pub(crate) last: u32,
 }
 
-/// Which runs a signal has: of those from one place up to another all that stand before a third, and those about two more.
+/// Which runs a signal is made of, by their places: of those from `from` up to `to` all that stand before `dense`, and those from `low` up
+/// to `high`.
 #[derive(Clone, Copy)]
 pub(crate) struct Pick {
     pub(crate) from: usize,
@@ -35,7 +36,7 @@ pub(crate) struct Pick {
     pub(crate) to: usize,
 }
 
-/// So many runs of a region are picked from either end on.
+/// How many runs of a region are picked from either end of it.
 const MOST_PICKED: usize = 32;
 
 /// Whether the value is certainly what `best` says.

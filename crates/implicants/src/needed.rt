@@ -44,7 +44,7 @@ pub(crate) fn has_time(on: &Span, t: &Frac) -> bool
     begun && open
 }
 
-/// The same marks.
+/// A copy of the marks, to be changed for a trial.
 fn same_marks(alloc: Global, kept: &[bool]) -> Result<Vec<bool>, Memory>
     ensures { IfOk result (λ marks. marks.items ≡ kept.now) }
 {

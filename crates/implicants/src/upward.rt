@@ -60,7 +60,7 @@ fn widened(region: Region, look: u32) -> Region {
     }
 }
 
-/// So many runs beside a region are picked for a node that looks far.
+/// How many runs beside a region are picked, on either side, for a node that looks far.
 const MOST_BESIDE: usize = 16;
 
 /// The runs about a region and so many ticks on either side, and the first ones.
@@ -672,7 +672,7 @@ fn look_of(node: &Node) -> u32 {
     }
 }
 
-/// The same of the node at a place.
+/// How far ahead or behind the node at place `j` looks of which both operands count far away; 0 where there is no such place.
 fn look_at(formula: &Formula, j: u32) -> u32 {
     if j >= formula.len() {
         return 0;
@@ -680,7 +680,7 @@ fn look_at(formula: &Formula, j: u32) -> u32 {
     look_of(formula.node(j))
 }
 
-/// The ground; none where signs do not fit.
+/// What an explanation knows of the formula alone: the sign of each node and the places above it; none where some atom counts with both signs.
 fn ground_of(alloc: Global, formula: &Formula) -> Result<Option<Ground>, Memory>
     ensures { IfOk result (λ o. IfSome o (λ g. AreSigns formula.now.nodes g.signs.items)) }
 {

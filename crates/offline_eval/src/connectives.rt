@@ -64,7 +64,7 @@ pub(crate) fn constant_signal<P: Shape>(
     steady(alloc, from, to, extreme(holds))
 }
 
-/// Minus the operand.
+/// The signal of a negation: minus its operand.
 pub(crate) fn negated<P: Shape>(x: &Signal<P>) -> Result<Signal<P>, Memory>
     requires { IsLimited P.Shape x.now }
     ensures limited { IfOk result (IsLimited P.Shape) }

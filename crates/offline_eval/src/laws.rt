@@ -59,7 +59,7 @@ pub fn truth_is_never_refused()
         → e ≡ EvalFault.Memory }
 {}
 
-/// Nor is one of three-valued truth.
+/// An evaluation of three-valued truth is refused for want of memory alone.
 pub fn kleene_is_never_refused()
     ensures { (nodes : List Node) (from to : ℕ) (atoms : List (List (Knot Kleene))) (e : EvalFault Kleene)
         → length atoms ≡ atoms_before nodes (length nodes)
@@ -75,7 +75,7 @@ pub fn truth_is_never_wide()
         → IsCauseAt ⟦<value_laws::Truth as Shape>⟧ nodes s i pair → ⊥ }
 {}
 
-/// Nor has three-valued truth.
+/// Three-valued truth has no cause for a refusal.
 pub fn kleene_is_never_wide()
     ensures { (nodes : List Node) (s : Setting) (i : ℕ) (pair : WidePair Kleene)
         → IsCauseAt ⟦<value_laws::Kleene as Shape>⟧ nodes s i pair → ⊥ }

@@ -15,7 +15,7 @@ use until_ops::{since_from_start, until_to_end};
 use value_laws::Shape;
 use window_ops::{inf_past, inf_window, sup_past, sup_window};
 
-/// Until over a window.
+/// The signal of an until over a window: told at once where the window reaches to the end, else composed.
 pub(crate) fn bounded_until<P: Shape>(
     x: &Signal<P>,
     y: &Signal<P>,
@@ -80,8 +80,8 @@ fn until_from_now_on<P: Shape>(
     until_to_end(x, y)
 }
 
-/// The same, composed: the Sup of the right operand over the window, but no more than the until to the end is at any time from
-/// now up to where the window begins.
+/// The signal of an until over any window, composed: the Sup of the right operand over the window, but no more than the until to the end
+/// is at any time from now up to where the window begins.
 fn composed_until<P: Shape>(
     x: &Signal<P>,
     y: &Signal<P>,
@@ -101,7 +101,7 @@ fn composed_until<P: Shape>(
     lower(&within, &kept)
 }
 
-/// Since over a window.
+/// The signal of a since over a window: told at once where the window reaches to the start, else composed.
 pub(crate) fn bounded_since<P: Shape>(
     x: &Signal<P>,
     y: &Signal<P>,
@@ -165,8 +165,8 @@ fn since_so_far<P: Shape>(
     since_from_start(x, y)
 }
 
-/// The same, composed: the Sup of the right operand over the window, but no more than the since from the start is at any time
-/// from where the window ends up to now.
+/// The signal of a since over any window, composed: the Sup of the right operand over the window, but no more than the since from the
+/// start is at any time from where the window ends up to now.
 fn composed_since<P: Shape>(
     x: &Signal<P>,
     y: &Signal<P>,

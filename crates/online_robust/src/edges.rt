@@ -99,7 +99,7 @@ impl Edges {
         }
     }
 
-    /// Notes a node's number.
+    /// Notes the front number of the node that gives out onto the edge: the time, in ticks, up to which it has answered.
     pub fn reach(&mut self, edge: u32, number: i64)
         requires { edge < length self.old.edges }
         ensures { self.new ≡ record self.old { edges = with_edge self.old edge (with_number (edge_at self.old edge) number) } }
@@ -107,7 +107,7 @@ impl Edges {
         self.numbers[edge as usize] = Some(number);
     }
 
-    /// The number noted last.
+    /// The front number noted last; none where the node has answered nothing.
     pub fn number(&self, edge: u32) -> Option<i64>
         requires { edge < length self.now.edges }
         ensures { result ≡ number_at self.now edge }
@@ -190,7 +190,7 @@ impl Edges {
         }
     }
 
-    /// The same, where it stands.
+    /// The first part of an edge that its reader has not read, where it stands in the pool.
     pub(crate) fn unread(&self, edge: u32) -> Option<&MarginLine>
         requires { edge < length self.now.edges }
         ensures { option_copied result ≡ slice_get (fresh_at self.now edge) 0 }
@@ -220,7 +220,7 @@ impl Edges {
         }
     }
 
-    /// The same, where it stands.
+    /// The first part of an edge, read or not, where it stands in the pool.
     pub(crate) fn ahead(&self, edge: u32) -> Option<&MarginLine>
         requires { edge < length self.now.edges }
         ensures { option_copied result ≡ slice_get (held_at self.now edge) 0 }

@@ -135,7 +135,7 @@ impl<P: Shape> Builder<P> {
         }
     }
 
-    /// The same, with what is refused put into `fault`, so that the answer is small. Nothing is put there for want of memory.
+    /// Does what `join` does, and puts what is refused into `fault`, so that the answer is small. Nothing is put there for want of memory.
     ///
     /// # Errors
     ///
@@ -170,7 +170,8 @@ impl<P: Shape> Builder<P> {
         }
     }
 
-    /// The same, where the two cross; `first` says whether p is taken before, and q after.
+    /// Goes on with two shapes that cross, with the one up to there and with the other behind it; `first` says whether p is taken before, and
+    /// q after.
     #[inline(never)]
     fn join_crossing(
         &mut self,
@@ -206,7 +207,7 @@ impl<P: Shape> Builder<P> {
         Ok(())
     }
 
-    /// The same as `step`, with no copies of what it is given.
+    /// Does what `step` does, with no copies of what it is given.
     ///
     /// # Errors
     ///

@@ -43,7 +43,7 @@ pub fn chosen<P: Shape>(side: Side, p: &P, q: &P, t: &Frac) -> P
     *chosen_in_place(side, p, q, t)
 }
 
-/// The same, where it stands.
+/// The one of the two that is taken at `t`, by reference.
 #[inline(always)]
 pub fn chosen_in_place<'a, P: Shape>(side: Side, p: &'a P, q: &'a P, t: &Frac) -> &'a P
     requires { IsWithin (2 ^ 34) (value t.now) }
@@ -89,7 +89,7 @@ pub fn crossing<P: Shape>(p: &P, q: &P, from: &Frac, to: &Frac) -> Result<Frac, 
     }
 }
 
-/// The same, with what is refused put into `fault`, so that the answer is small.
+/// The time at which the two cross, as `crossing` tells it; what is refused is put into `fault`, so that the answer is small.
 #[inline(always)]
 pub(crate) fn crossing_kept<P: Shape>(
     p: &P,

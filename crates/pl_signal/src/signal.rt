@@ -37,7 +37,7 @@ impl<P: Shape> Model for Signal<P> {
 }
 
 impl<P: Shape> Signal<P> {
-    /// The number of knots.
+    /// The number of knots: the start, each time at which the function changes, and the end.
     pub fn len(&self) -> usize
         ensures value { result ≡ length self.now }
         ensures some { 0 < result }
@@ -59,7 +59,7 @@ impl<P: Shape> Signal<P> {
         self.knots[i]
     }
 
-    /// The same, where it stands.
+    /// A knot by its place, where it stands in the signal.
     pub fn knot_in_place(&self, i: usize) -> &Knot<P>
         requires { i < length self.now }
         ensures { slice_get self.now i ≡ Some result.now }

@@ -85,7 +85,7 @@ fn scaled_nodes(nodes: &Vec<Node>, time: u32, value: u32) -> Result<Vec<Node>, A
     Ok(scaled)
 }
 
-/// The same nodes once more.
+/// A copy of the nodes.
 fn copied(nodes: &Vec<Node>) -> Result<Vec<Node>, AllocError>
     ensures { IfOk result (λ v. v.items ≡ nodes.now.items) }
 {
