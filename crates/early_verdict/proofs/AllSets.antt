@@ -18,7 +18,7 @@ use Rattle.early_verdict.specs.Fitting.{Lists, lists_of, lists_at, SayBoth}
 use Rattle.early_verdict.specs.Standing.{AllFit, AllTidy}
 use Rattle.early_verdict.specs.Living.{AreLive, IsLive, IsShown, Known}
 use Rattle.early_verdict.specs.declared.sets.Sets.{Sets}
-use Rattle.early_verdict.proofs.Apart.{never_both}
+use Rattle.early_verdict.proofs.NeverBoth.{never_both}
 use Rattle.early_verdict.proofs.SettledSets.{node_told}
 use Rattle.early_verdict.proofs.EndedSets.{Final, node_final}
 

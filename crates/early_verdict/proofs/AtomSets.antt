@@ -18,8 +18,8 @@ use Rattle.early_verdict.specs.declared.sets.Sets.{Sets}
 use Rattle.rational.proofs.PlaceLemmas.{upto_same, after_same, same_places}
 use Rattle.early_verdict.proofs.GrowingLemmas.{grows_not}
 use Rattle.early_verdict.proofs.LoopLemmas.{grows_then, grows_alike}
-use Rattle.early_verdict.proofs.Absorbing.{no_more, on_append, on_first, on_second}
-use Rattle.early_verdict.proofs.Telling.{parts_kept}
+use Rattle.early_verdict.proofs.StretchesJoin.{no_more, on_append, on_first, on_second}
+use Rattle.early_verdict.proofs.SetsTell.{parts_kept}
 
 -- one thing is added after another
 pub added_then : (a b c : Sets) (P Q : Bool → Rational → Type 0) → HasAdded a b P → HasAdded b c Q → HasAdded a c (λ v t. P v t ⊎ Q v t)

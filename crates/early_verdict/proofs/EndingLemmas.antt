@@ -10,7 +10,7 @@ use Rattle.early_verdict.specs.declared.stretch.Stretch.{Stretch}
 use Rattle.rational.proofs.PlaceLemmas.{sides, not_both, upto_of_before, after_of_before, at_most_of_not_before, before_trans}
 use Rattle.rational.proofs.PlaceLemmas.{after_at_most}
 use Rattle.early_verdict.proofs.StretchLemmas.{rises}
-use Rattle.early_verdict.proofs.Absorbing.{no_more, on_append, on_first, on_second}
+use Rattle.early_verdict.proofs.StretchesJoin.{no_more, on_append, on_first, on_second}
 use Rattle.early_verdict.proofs.SpanLemmas.{begins_through, front_upto}
 
 one_more : (front : List Stretch) (last : Stretch) → length (front ++ last ∷ []) ≡ suc (length front)

@@ -25,10 +25,10 @@ use Rattle.early_verdict.specs.declared.entry.Entry.{Entry}
 use Rattle.early_verdict.specs.declared.sets.Sets.{Sets}
 use Rattle.early_verdict.proofs.AllSets.{AreSound, all_final, all_known, lists_are}
 use Rattle.early_verdict.proofs.EndedSets.{Final}
-use Rattle.early_verdict.proofs.Having.{at_place, live_on, shown_still, sound_of}
+use Rattle.early_verdict.proofs.LooksStay.{at_place, live_on, shown_still, sound_of}
 use Rattle.early_verdict.proofs.LiveMaking.{made_live, root_shows, shown_empty}
 use Rattle.early_verdict.proofs.RowLemmas.{is_first_row, is_next, rows_pushed}
-use Rattle.early_verdict.proofs.Telling.{none_of}
+use Rattle.early_verdict.proofs.SetsTell.{none_of}
 
 -- the atoms of a formula are bound
 pub leaves_bound : (b : Binding) (f : Formula) (header : Header) → IsBound b f header → (i : ℕ) (n : Node) → slice_get f.nodes i ≡ Some n → LeafIsBound b i n

@@ -4,7 +4,7 @@ use Rattle.rational.specs.Time.{Rational}
 use Rattle.frac128.specs.Cuts.{place}
 use Rattle.early_verdict.specs.Spans.{Lies, IsOn, AreTidy, BeginsAfter, EndBefore, Grows}
 use Rattle.early_verdict.specs.declared.stretch.Stretch.{Stretch}
-use Rattle.early_verdict.proofs.Absorbing.{Absorbs, no_more}
+use Rattle.early_verdict.proofs.StretchesJoin.{Absorbs, no_more}
 use Rattle.rational.proofs.PlaceLemmas.{not_both}
 use Rattle.early_verdict.proofs.SpanLemmas.{with_one, on_with, on_with_new, on_with_old, tidy_with, on_parts, front_upto, rest_after, tidy_drop}
 

@@ -31,7 +31,7 @@ use Rattle.early_verdict.proofs.Places.{lists_by}
 use Rattle.early_verdict.proofs.Splitting.{IsSplit, count_there, new_there, old_there, others_there}
 use Rattle.early_verdict.proofs.StretchLemmas.{rises}
 use Rattle.early_verdict.proofs.RunLemmas.{earlier_after, on_one}
-use Rattle.early_verdict.proofs.Telling.{parts_tidy}
+use Rattle.early_verdict.proofs.SetsTell.{parts_tidy}
 
 -- the stretch that holds the times after a place has those up to its end
 pub past_one : (xs : List Stretch) (s : Stretch) (c : Place) (t : Rational) → IsAmong s xs → HoldsFrom s c → After c t → Upto (place s.to) t → IsOn xs t

@@ -2,7 +2,7 @@ pub mod MakingLemmas
 pub mod StretchLemmas
 pub mod SpanLemmas
 mod BlockLemmas
-pub mod Absorbing
+pub mod StretchesJoin
 pub mod GrowingLemmas
 mod EndingLemmas
 pub mod WindowLemmas
@@ -15,12 +15,12 @@ pub mod SureLemmas
 pub mod ReachLemmas
 pub mod Gaps
 pub mod Failures
-pub mod Telling
+pub mod SetsTell
 pub mod UntilSets
 pub mod SinceSets
 pub mod DecisiveSets
 pub mod Settling
-pub mod Apart
+pub mod NeverBoth
 pub mod SettledSets
 pub mod EndedSets
 pub mod AllSets
@@ -33,12 +33,12 @@ pub mod LastingLemmas
 pub mod LookLemmas
 pub mod FitLemmas
 pub mod Places
-pub mod Netting
+pub mod EntryByNodes
 pub mod RowLemmas
 pub mod RunSets
-pub mod Operating
+pub mod ChildLists
 pub mod Windowing
-pub mod Having
+pub mod LooksStay
 pub mod DecideLemmas
 pub mod EntryLemmas
 pub mod GoingOn
@@ -47,7 +47,7 @@ pub mod PartSets
 pub mod TopsLemmas
 pub mod Splitting
 pub mod MadeLemmas
-pub mod Opening
+pub mod Undecided
 pub mod Feeding
 mod ShowingLemmas
 mod LivingLemmas

@@ -18,9 +18,9 @@ use Rattle.early_verdict.specs.declared.sets.Sets.{Sets}
 use Rattle.early_verdict.specs.declared.sets.Parts.{Parts}
 use Rattle.early_verdict.proofs.AllSets.{is_shown}
 use Rattle.early_verdict.proofs.MadeLemmas.{sets_tidy}
-use Rattle.early_verdict.proofs.Netting.{nodes_at}
+use Rattle.early_verdict.proofs.EntryByNodes.{nodes_at}
 use Rattle.early_verdict.proofs.SinceSets.{none_later}
-use Rattle.early_verdict.proofs.Telling.{none_of}
+use Rattle.early_verdict.proofs.SetsTell.{none_of}
 
 -- what is asked of a child
 twice : (from : Rational) (top k : ℕ) → later (later from top) k ≤ʳ later from (top + k)

@@ -25,7 +25,7 @@ use Rattle.early_verdict.specs.declared.window.Window.{Window}
 use Rattle.rational.proofs.PlaceLemmas.{after_same, upto_same, same_places}
 use Rattle.early_verdict.proofs.Gaps.{on_same}
 use Rattle.early_verdict.proofs.SinceSets.{none_later}
-use Rattle.early_verdict.proofs.Telling.{tells_alike, tells_none, none_of}
+use Rattle.early_verdict.proofs.SetsTell.{tells_alike, tells_none, none_of}
 
 -- a set told P of the trace before, or had nothing
 abbrev pub Told : Option Trace → Grown → (Trace → Rational → Type 0) → Type 0

@@ -9,7 +9,7 @@ use Rattle.early_verdict.specs.Spans.{Lies, IsOn, AreTidy, BeginsAfter, EndBefor
 use Rattle.early_verdict.specs.Steps.{BySome, Common}
 use Rattle.frac128.specs.declared.cut.Cut.{Cut}
 use Rattle.early_verdict.specs.declared.stretch.Stretch.{Stretch}
-use Rattle.early_verdict.proofs.Absorbing.{on_append, on_first, on_second}
+use Rattle.early_verdict.proofs.StretchesJoin.{on_append, on_first, on_second}
 use Rattle.rational.proofs.PlaceLemmas.{not_both}
 use Rattle.early_verdict.proofs.GrowingLemmas.{grows_not}
 use Rattle.early_verdict.proofs.SpanLemmas.{no_stretch, on_parts, front_upto, rest_after, tidy_drop}

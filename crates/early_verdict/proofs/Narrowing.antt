@@ -29,14 +29,14 @@ use Rattle.early_verdict.specs.declared.grown.Grown.{Grown}
 use Rattle.early_verdict.specs.declared.sets.Sets.{Sets}
 use Rattle.early_verdict.specs.declared.sets.Parts.{Parts}
 use Rattle.early_verdict.proofs.AllSets.{is_shown, lists_are, shown_is, shown_within, yes_there}
-use Rattle.early_verdict.proofs.Apart.{never_both}
+use Rattle.early_verdict.proofs.NeverBoth.{never_both}
 use Rattle.early_verdict.proofs.Childhood.{child_or_not, left_child, one_parent}
 use Rattle.early_verdict.proofs.FitLemmas.{fits_within, two}
 use Rattle.early_verdict.proofs.LivingLemmas.{looks_as, parts_as}
-use Rattle.early_verdict.proofs.Netting.{nodes_at}
+use Rattle.early_verdict.proofs.EntryByNodes.{nodes_at}
 use Rattle.early_verdict.proofs.Places.{lists_by}
 use Rattle.early_verdict.proofs.SinceSets.{none_later}
-use Rattle.early_verdict.proofs.Telling.{parts_kept, tells_alike}
+use Rattle.early_verdict.proofs.SetsTell.{parts_kept, tells_alike}
 
 -- sets that let go of times say the same of the others
 module _ (own bounds : Stretch) (s s' : Sets) (y : s.yes.bounds ≡ own) (n : s.no.bounds ≡ own) (k : IsNarrowed bounds s s')

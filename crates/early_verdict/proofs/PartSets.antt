@@ -10,7 +10,7 @@ use Rattle.early_verdict.specs.Fitting.{SinceFailing}
 use Rattle.early_verdict.specs.Happening.{Was}
 use Rattle.early_verdict.specs.declared.sets.Sets.{Sets}
 use Rattle.early_verdict.specs.declared.sets.Parts.{Parts}
-use Rattle.early_verdict.proofs.Telling.{tells_none, none_of}
+use Rattle.early_verdict.proofs.SetsTell.{tells_none, none_of}
 
 -- the node's own sets told what those between say
 pub record OwnWere (s : Sets) (x : Parts) : Type 0 where

@@ -20,7 +20,7 @@ use Rattle.early_verdict.specs.declared.sets.Holding.{Holding}
 use Rattle.early_verdict.specs.declared.sets.Failing.{Failing}
 use Rattle.early_verdict.specs.declared.window.Window.{Window}
 use Rattle.rational.proofs.PlaceLemmas.{upto_same, same_places}
-use Rattle.early_verdict.proofs.Telling.{tells_alike, tells_none, none_of}
+use Rattle.early_verdict.proofs.SetsTell.{tells_alike, tells_none, none_of}
 use Rattle.early_verdict.proofs.LookLemmas.{Told, was_sure, was_one, was_only, was_back, one_said}
 
 -- up to one place or the same

@@ -17,8 +17,8 @@ use Rattle.early_verdict.specs.Living.{IsShown, Known, LooksAlong, LooksAt, Look
 use Rattle.early_verdict.specs.declared.stretch.Stretch.{Stretch}
 use Rattle.early_verdict.specs.declared.sets.Sets.{Sets}
 use Rattle.early_verdict.specs.declared.sets.Parts.{Parts}
-use Rattle.early_verdict.proofs.Apart.{never_both}
-use Rattle.early_verdict.proofs.Telling.{tells_alike}
+use Rattle.early_verdict.proofs.NeverBoth.{never_both}
+use Rattle.early_verdict.proofs.SetsTell.{tells_alike}
 use Rattle.early_verdict.proofs.SinceSets.{along, none_later}
 use Rattle.early_verdict.proofs.Settling.{SaysSince, reaches_along, says_since, until_fits}
 

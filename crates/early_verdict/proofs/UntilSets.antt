@@ -17,7 +17,7 @@ use Rattle.early_verdict.specs.declared.sets.Holding.{Holding}
 use Rattle.early_verdict.specs.declared.sets.Failing.{Failing}
 use Rattle.early_verdict.proofs.Gaps.{on_same}
 use Rattle.early_verdict.proofs.Failures.{past_time, all_or_broken}
-use Rattle.early_verdict.proofs.Telling.{tells_alike}
+use Rattle.early_verdict.proofs.SetsTell.{tells_alike}
 
 -- no wait is no move
 pub later_zero_out : (t v : Rational) → later t 0 ≤ʳ v → t ≤ʳ v

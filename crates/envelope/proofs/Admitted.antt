@@ -18,7 +18,7 @@ use Rattle.envelope.specs.Standing.{Gives, GivesSlope, Keeps, More, Stands, piec
 use Rattle.envelope.proofs.TurnOrder.{at_of_come, come_or_not, not_both}
 use Rattle.envelope.proofs.Rows.{snoc_empty}
 use Rattle.envelope.proofs.Admitting.{keeps_with, more_with}
-use Rattle.envelope.proofs.Passing.{best_of_more, carried_more, changes_of_more, turned_stands}
+use Rattle.envelope.proofs.AfterTurn.{best_of_more, carried_more, changes_of_more, turned_stands}
 use Rattle.envelope.proofs.Standings.{first_stays}
 use Rattle.envelope.proofs.Bests.{no_better_trans}
 

@@ -13,7 +13,7 @@ use Rattle.envelope.specs.Walking.{EachEnds, climbing, climbed_until}
 use Rattle.envelope.proofs.TurnOrder.{not_both}
 use Rattle.envelope.proofs.Admitted.{leaves_or_not}
 use Rattle.envelope.proofs.Sliding.{backed_more}
-use Rattle.envelope.proofs.Passing.{turned_stands}
+use Rattle.envelope.proofs.AfterTurn.{turned_stands}
 
 module _ {P : Type 0} (shape : ShapeOf P) (laws : ShapeLaws shape) (turn : Turn) (to : Rational) (old new : SoFar P)
     (low_until : Turn) (items : List (Item P)) (parts : List (Part P)) (ends : EachEnds parts)

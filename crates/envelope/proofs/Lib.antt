@@ -3,13 +3,13 @@ pub mod Bests
 pub mod Trends
 pub mod SoFarLemmas
 pub mod Standings
-pub mod Passing
+pub mod AfterTurn
 pub mod Sliding
 pub mod Admitting
 pub mod Rows
 pub mod Leaving
 pub mod Admitted
-pub mod Taking
+pub mod PieceTaken
 pub mod Climbing
 pub mod Faulting
 pub mod Walks

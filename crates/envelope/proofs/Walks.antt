@@ -37,7 +37,7 @@ use Rattle.envelope.proofs.TurnOrder.{at_most_of_come, at_most_to_come}
 use Rattle.envelope.proofs.Bests.{no_better_back, no_better_same, same_of_both}
 use Rattle.envelope.proofs.Standings.{first_stays, low_stays}
 use Rattle.envelope.proofs.Sliding.{none_bounded}
-use Rattle.envelope.proofs.Taking.{each_to_come}
+use Rattle.envelope.proofs.PieceTaken.{each_to_come}
 use Rattle.envelope.proofs.Climbing.{climb_stands, end_stands}
 use Rattle.envelope.proofs.Faulting.{if_some, nothing_sooner, refusal_tells}
 

@@ -3,7 +3,7 @@ pub mod Growing
 pub mod KeptCells
 pub mod Marking
 pub mod Halving
-pub mod Telling
+pub mod ItemsTell
 pub mod Failing
 pub mod Strips
 pub mod Covering
@@ -22,7 +22,7 @@ pub mod Gathering
 pub mod OfAtoms
 pub mod OneExplanation
 pub mod Uncertain
-pub mod Passing
+pub mod MarkedAreKept
 pub mod Needing
 pub mod Helping
 pub mod Nearing

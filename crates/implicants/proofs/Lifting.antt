@@ -27,7 +27,7 @@ use Rattle.offline_eval.specs.Inputs.{atoms_before, is_atom, TellAtoms}
 use Rattle.offline_eval.specs.Making.{TellsNode, TellsValue}
 use Rattle.offline_eval.specs.PlainAtoms.{knots_setting}
 use Rattle.offline_eval.proofs.PlainAtoms.{plain_told}
-use Rattle.offline_eval.proofs.Having.{has_value, has_inf}
+use Rattle.offline_eval.proofs.ToldHaveValues.{has_value, has_inf}
 use Rattle.implicants.specs.Needs.{Certain, IsNeeded, IsOn}
 use Rattle.implicants.specs.Nearby.{IsBest, IsBestSignal}
 use Rattle.implicants.specs.Signs.{sign_at, AreSigned, AreSigns}

@@ -24,7 +24,7 @@ use Rattle.implicants.specs.declared.runs.Run.{Run}
 use Rattle.implicants.proofs.Strips.{one_cell}
 use Rattle.implicants.proofs.Certain.{in_run}
 use Rattle.implicants.proofs.Needing.{certain_covered}
-use Rattle.implicants.proofs.Passing.{set_marked, marked_set, stays_one}
+use Rattle.implicants.proofs.MarkedAreKept.{set_marked, marked_set, stays_one}
 
 -- a place before the tried one, or a marked one behind it, stays
 still_there : (marks : List Bool) (c j : ℕ) → (j < c) ⊎ ((c < j) × (slice_index_or marks j false ≡ true)) → stays c marks j ≡ true

@@ -6,10 +6,10 @@ pub mod NodeLemmas
 pub mod Places
 pub mod Evaluating
 pub mod Never
-pub mod Having
+pub mod ToldHaveValues
 pub mod Stretches
 pub mod InPlay
 pub mod WindowLemmas
 pub mod UntilLemmas
-mod Keeping
+mod ChildrenKept
 pub mod PlainAtoms

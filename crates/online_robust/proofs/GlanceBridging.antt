@@ -35,7 +35,7 @@ use Rattle.online_robust.specs.declared.operator.Operator.TheVariants as Op
 use Rattle.online_robust.proofs.Bridging.{ahead, begins, from_none, from_some, input_within, small_to, span_from, stood_after, swept_of, tick_of, tree}
 use Rattle.online_robust.proofs.Builts.{tick_between}
 use Rattle.online_robust.proofs.DroppingLemmas.{held_of-without}
-use Rattle.online_robust.proofs.Looking.{front_by_stop, looks_before, one_swept, shifted_whole, told_as_far}
+use Rattle.online_robust.proofs.NodeLooks.{front_by_stop, looks_before, one_swept, shifted_whole, told_as_far}
 use Rattle.online_robust.proofs.LowLemmas.{sheds_of}
 use Rattle.online_robust.proofs.Instants.{IsInstantNode, instant}
 

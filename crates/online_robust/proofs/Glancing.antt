@@ -34,7 +34,7 @@ use Rattle.online_robust.specs.declared.line.MarginLine.{MarginLine}
 use Rattle.online_robust.specs.declared.line.MarginLine.TheVariants.{Point, Gap}
 use Rattle.online_robust.specs.declared.glance.Moved.{Moved}
 use Rattle.online_robust.proofs.JoinedLemmas.{FirstGap, ahead_next, ahead_on, ahead_same, first_of, joined_to, there_at, there_in}
-use Rattle.online_robust.proofs.Losses.{loses_at_none, took, took_held}
+use Rattle.online_robust.proofs.LinesGone.{loses_at_none, took, took_held}
 use Rattle.online_robust.proofs.PointwiseLemmas.{TakesTwo, begun_point, begun_rest, begun_some, is_point, is_rest, two_lost}
 use Rattle.online_robust.proofs.Spreads.{input_is_function}
 use Rattle.online_robust.proofs.TwoLemmas.{there_same}

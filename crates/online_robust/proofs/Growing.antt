@@ -22,8 +22,8 @@ use Rattle.online_robust.specs.Steps.{AreInputs, AreLeft, IsInput}
 use Rattle.online_robust.specs.Moving.{AreMore, IsNext}
 use Rattle.online_robust.specs.Pasts.{Past, with_row, with_end, trace_of, part_of, shown_of, Gave, AreToldOver}
 use Rattle.online_robust.specs.declared.line.MarginLine.{MarginLine}
-use Rattle.online_robust.proofs.Emitting.{emitted_row, emitted_end}
-use Rattle.online_robust.proofs.Rests.{told_append, fit_append, joined_append}
+use Rattle.online_robust.proofs.GivenOut.{emitted_row, emitted_end}
+use Rattle.online_robust.proofs.LinesLeft.{told_append, fit_append, joined_append}
 
 -- ---- the lines of an edge
 

@@ -31,7 +31,7 @@ use Rattle.online_robust.specs.Pasts.{Past, trace_of, part_of, shown_of, number_
 use Rattle.online_robust.specs.Moving.{Move, AreMore, CanMove, HasMoved, IsRowNext, last_row_of, last_row_after}
 use Rattle.online_robust.specs.declared.line.MarginLine.{MarginLine}
 use Rattle.online_robust.specs.declared.station.Work.{Work}
-use Rattle.online_robust.proofs.Going.{edge_other, edge_same, length-set-edges}
+use Rattle.online_robust.proofs.OperatorGoesOn.{edge_other, edge_same, length-set-edges}
 use Rattle.online_robust.proofs.Leaves.{IsLeafAt, first_parts, first_told, later_parts, later_told}
 use Rattle.online_robust.proofs.RowFacts.{number_here, number_shown, last_not_below}
 

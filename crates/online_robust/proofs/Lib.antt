@@ -2,30 +2,30 @@ mod EdgesLemmas
 pub mod DroppingLemmas
 mod QueueLemmas
 mod Refusing
-mod Emitting
+mod GivenOut
 mod Growing
-mod Rests
+mod LinesLeft
 mod SignalLines
 mod Readers
-mod Passing
-mod Moved
+mod NodesGoOn
+mod NetworkMoved
 mod RowFacts
-mod Going
+mod OperatorGoesOn
 mod Idling
 pub mod Leaves
 mod LeafMoved
 mod Loops
 mod BestWindows
 mod Bridging
-mod Firsting
+mod NodesAtStart
 mod Standings
-mod Taking
+mod RootTaken
 mod Stationing
 mod EdgeTouches
-mod Puts
+mod LinesPut
 pub mod StreamTexts
 pub mod JoinedLemmas
-pub mod Losses
+pub mod LinesGone
 pub mod Robustly
 pub mod Builts
 pub mod Choosing
@@ -52,11 +52,11 @@ pub mod WindowFirst
 pub mod Countdown
 mod Glancing
 mod Instants
-mod Looking
+mod NodeLooks
 mod WindowNodes
 mod WindowBridging
 mod WindowTurnings
-mod Silences
+mod WindowWaits
 pub mod WaitBridging
 pub mod WaitPast
 mod FirstWindows

@@ -23,7 +23,7 @@ use Rattle.online_robust.specs.declared.line.MarginLine.{MarginLine}
 use Rattle.online_robust.specs.declared.net.RobustFault.{RobustFault}
 use Rattle.online_robust.specs.declared.net.RobustFault.TheVariants.{Wide}
 use Rattle.online_robust.specs.declared.station.Station.{Station}
-use Rattle.online_robust.proofs.Moved.{AtNext, shows_moved}
+use Rattle.online_robust.proofs.NetworkMoved.{AtNext, shows_moved}
 use Rattle.online_robust.proofs.Readers.{reader_above}
 
 -- the same shows where the pasts of the nodes are the same

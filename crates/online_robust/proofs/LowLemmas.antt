@@ -30,7 +30,7 @@ use Rattle.online_robust.specs.Told.{IsTick}
 use Rattle.online_robust.proofs.DroppingLemmas.{held_of-without}
 use Rattle.online_robust.proofs.Spreads.{input_is_function}
 use Rattle.online_robust.proofs.TwoLemmas.{there_same}
-use Rattle.online_robust.proofs.Losses.{loses_at_both, loses_at_none, took}
+use Rattle.online_robust.proofs.LinesGone.{loses_at_both, loses_at_none, took}
 use Rattle.online_robust.proofs.WindowBounds.{goes_on}
 
 -- a gap that stands on an edge has an end

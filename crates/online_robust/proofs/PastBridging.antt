@@ -40,7 +40,7 @@ use Rattle.online_robust.specs.declared.ever.Ever.{Ever}
 use Rattle.online_robust.specs.declared.window.Window.{Window}
 use Rattle.online_robust.proofs.BestPasts.{best_past, in_play_past, settled_past}
 use Rattle.online_robust.proofs.Bridging.{input_within, inputs_of, last_to, none_let_go, swept_of, tick_of, tree}
-use Rattle.online_robust.proofs.Looking.{begun_now, front_by_stop, one_swept, told_as_far}
+use Rattle.online_robust.proofs.NodeLooks.{begun_now, front_by_stop, one_swept, told_as_far}
 use Rattle.online_robust.proofs.Sheddings.{sheds_later}
 use Rattle.online_robust.proofs.PastAgain.{cut_past, stood_past}
 use Rattle.online_robust.proofs.WindowFirst.{CanTurn, Turn}

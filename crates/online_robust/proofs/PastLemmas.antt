@@ -37,7 +37,7 @@ use Rattle.online_robust.specs.declared.line.Reached.{Reached}
 use Rattle.online_robust.specs.declared.ever.Ever.{Ever}
 use Rattle.online_robust.proofs.HighLemmas.{read_count, read_edge, read_held, read_others}
 use Rattle.online_robust.proofs.JoinedLemmas.{joined_to}
-use Rattle.online_robust.proofs.Losses.{loses_at_both, loses_at_none, took}
+use Rattle.online_robust.proofs.LinesGone.{loses_at_both, loses_at_none, took}
 use Rattle.online_robust.proofs.LowLemmas.{sheds_of}
 use Rattle.online_robust.proofs.Marks.{by_more, frozen_more, frozen_none, last_more, runs_more}
 use Rattle.online_robust.proofs.QueueLemmas.{best_behind}

@@ -30,7 +30,7 @@ use Rattle.online_robust.specs.declared.operator.Operator.TheVariants as Op
 use Rattle.online_robust.specs.declared.ever.Ever.{Ever}
 use Rattle.online_robust.specs.declared.window.Window.{Window}
 use Rattle.online_robust.proofs.Bridging.{from_none, from_some, inputs_of, none_given, some_given}
-use Rattle.online_robust.proofs.Looking.{shifted_whole, stays_begun}
+use Rattle.online_robust.proofs.NodeLooks.{shifted_whole, stays_begun}
 use Rattle.online_robust.proofs.Builts.{tick_within}
 use Rattle.online_robust.proofs.PastAgain.{past_first, past_go_on}
 use Rattle.online_robust.proofs.WindowTurnings.{none_there}

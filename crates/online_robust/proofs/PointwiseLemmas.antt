@@ -16,7 +16,7 @@ use Rattle.online_robust.specs.Couples.{IsReadTo, Source}
 use Rattle.online_robust.specs.declared.line.MarginLine.{MarginLine}
 use Rattle.online_robust.specs.declared.line.MarginLine.TheVariants.{Point, Gap}
 use Rattle.online_robust.proofs.JoinedLemmas.{FirstGap, ahead_next, ahead_on, first_of, there_at, there_in}
-use Rattle.online_robust.proofs.Losses.{took, took_held, loses_at_both}
+use Rattle.online_robust.proofs.LinesGone.{took, took_held, loses_at_both}
 use Rattle.online_robust.proofs.Robustly.{robust_is_function}
 
 -- a number that is not equal to another, and not below it, is above it

@@ -11,7 +11,7 @@ use Rattle.online_robust.specs.Lines.{end_of}
 use Rattle.online_robust.specs.Windows.{Sheds}
 use Rattle.online_robust.specs.declared.line.MarginLine.{MarginLine}
 use Rattle.online_nodes.proofs.DroppingLemmas.{drop-drop}
-use Rattle.online_robust.proofs.Losses.{ended_later}
+use Rattle.online_robust.proofs.LinesGone.{ended_later}
 
 -- what is shed by a limit is shed by a later one
 pub sheds_later : (l m : Rational) (i : ℕ) (x y : Held) → l ≤ʳ m → Sheds l i x y → Sheds m i x y

@@ -36,7 +36,7 @@ use Rattle.online_robust.specs.declared.station.Station.{Station}
 use Rattle.online_robust.specs.declared.station.Work.{Work}
 use Rattle.online_robust.specs.declared.station.Work.TheVariants as W
 use Rattle.online_robust.proofs.EdgeTouches.{margin_edge}
-use Rattle.online_robust.proofs.Taking.{first_and_rest, held_none, line_timely, line_told, shows_next, shows_none, shows_same}
+use Rattle.online_robust.proofs.RootTaken.{first_and_rest, held_none, line_timely, line_told, shows_next, shows_none, shows_same}
 
 -- ---- a new network
 

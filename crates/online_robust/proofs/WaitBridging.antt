@@ -23,7 +23,7 @@ use Rattle.online_robust.specs.declared.window.Sweep.{Sweep}
 use Rattle.online_robust.specs.declared.window.Window.{Window}
 use Rattle.online_robust.proofs.BestWindows.{best_is}
 use Rattle.online_robust.proofs.Bridging.{stood_after, swept_of}
-use Rattle.online_robust.proofs.Silences.{IsSilent, best_before, can_wait as can_silently, short, silence_reached, silence_told, silent_edges, still_unseen}
+use Rattle.online_robust.proofs.WindowWaits.{IsSilent, best_before, can_wait as can_silently, short, silence_reached, silence_told, silent_edges, still_unseen}
 use Rattle.online_robust.proofs.WindowBridging.{far, fit, here, own}
 use Rattle.online_robust.proofs.WindowTurnings.{not_begun, waited}
 

@@ -25,7 +25,7 @@ use Rattle.online_robust.specs.declared.ever.Ever.{Ever}
 use Rattle.online_robust.specs.declared.window.Window.{Window}
 use Rattle.online_robust.proofs.BestPasts.{best_past}
 use Rattle.online_robust.proofs.Bridging.{stood_after, swept_of}
-use Rattle.online_robust.proofs.Silences.{IsSilent, best_before, can_wait as can_silently, short, silence_reached, silence_told, silent_edges, still_unseen}
+use Rattle.online_robust.proofs.WindowWaits.{IsSilent, best_before, can_wait as can_silently, short, silence_reached, silence_told, silent_edges, still_unseen}
 use Rattle.online_robust.proofs.PastBridging.{far, first_tick, fit, here, own, to_tick}
 use Rattle.online_robust.proofs.PastTurnings.{not_begun, waited}
 

@@ -39,7 +39,7 @@ use Rattle.online_robust.specs.declared.window.Sweep.{Sweep}
 use Rattle.online_robust.specs.declared.window.Window.{Window}
 use Rattle.online_robust.proofs.BestWindows.{best_is, in_play_is, settled_is}
 use Rattle.online_robust.proofs.Bridging.{input_within, inputs_of, last_to, none_let_go, swept_of, tick_of, tree}
-use Rattle.online_robust.proofs.Looking.{begun_now, front_by_stop, one_swept, told_as_far}
+use Rattle.online_robust.proofs.NodeLooks.{begun_now, front_by_stop, one_swept, told_as_far}
 use Rattle.online_robust.proofs.Sheddings.{sheds_later}
 use Rattle.online_robust.proofs.WindowAgain.{cut_window, owned_of, span_same, stood_over}
 use Rattle.online_robust.proofs.WindowFirst.{CanTurn, Turn}

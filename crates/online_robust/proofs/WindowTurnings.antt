@@ -34,7 +34,7 @@ use Rattle.online_robust.specs.declared.window.Sweep.{Sweep}
 use Rattle.online_robust.specs.declared.window.Window.{Window}
 use Rattle.online_robust.proofs.Bridging.{from_none, from_some, inputs_of, none_given, some_given}
 use Rattle.online_robust.proofs.Instants.{best_of_none}
-use Rattle.online_robust.proofs.Looking.{shifted_whole, stays_begun}
+use Rattle.online_robust.proofs.NodeLooks.{shifted_whole, stays_begun}
 use Rattle.online_robust.proofs.Robustly.{robust_is_function}
 use Rattle.online_robust.proofs.WindowAgain.{can_begin, can_go_on}
 use Rattle.online_robust.proofs.WindowBridging.{can_turn, first_tick, fit, here, input, own}

@@ -10,7 +10,7 @@ use Rattle.trace_reader.proofs.OpenLines.{Parts, parts, lines-now, open_line}
 use Rattle.trace_stream.proofs.FaultPlaces.{at_true, at_false}
 use Rattle.session_mux.specs.Sessions.{Tagged, AreTagged}
 use Rattle.session_mux.specs.Inputs.{InputFault, fault_line, FaultOfInput, AreLinesBefore, sound, faulted, OwesLines}
-use Rattle.session_mux.proofs.Passing.{Later, WithTag, InLine}
+use Rattle.session_mux.proofs.LinesPass.{Later, WithTag, InLine}
 use Rattle.session_mux.proofs.FrontLines.{later_fault, input_fault_stays}
 use Rattle.run_laws.proofs.FaultsOfAll.{all_read}
 

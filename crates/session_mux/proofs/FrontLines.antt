@@ -15,7 +15,7 @@ use Rattle.session_mux.specs.Sessions.{Tagged, AreTagged, AreAnswers}
 use Rattle.session_mux.specs.Inputs.{InputFault, FaultOfInput, sound, OwesLines}
 use Rattle.session_mux.specs.Taking.{ArePassed, IsTaking}
 use Rattle.session_mux.specs.declared.input.Input.{Input}
-use Rattle.session_mux.proofs.Passing.{Later, WithTag, InLine, fault_sized, past_fault, tagged_open, Passed, passed_front}
+use Rattle.session_mux.proofs.LinesPass.{Later, WithTag, InLine, fault_sized, past_fault, tagged_open, Passed, passed_front}
 
 -- ---- faults of first lines
 

@@ -28,7 +28,7 @@ use Rattle.session_mux.specs.declared.stop.InputStop.{InputStop}
 use Rattle.session_mux.specs.declared.stop.InputStop.TheVariants.{Fault as Faulty, NoMemory}
 use Rattle.session_mux.specs.declared.input.Input.{Input}
 use Rattle.session_mux.specs.declared.mux.Phase.TheVariants.{Ended}
-use Rattle.session_mux.proofs.Passing.{many_fault, long_fault, tag_fault, room_fault, fault_past, past_fault, passed_tagged, passed_on, known_tag, known_count}
+use Rattle.session_mux.proofs.LinesPass.{many_fault, long_fault, tag_fault, room_fault, fault_past, past_fault, passed_tagged, passed_on, known_tag, known_count}
 
 -- ---- the answers so far
 

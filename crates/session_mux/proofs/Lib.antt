@@ -10,7 +10,7 @@ pub mod AnsweringLemmas
 pub mod MuxLemmas
 pub mod EndsSaid
 mod Tagging
-pub mod Passing
+pub mod LinesPass
 pub mod Inputting
 pub mod FrontLines
 pub mod OwedLines

@@ -18,7 +18,7 @@ use Rattle.session_mux.specs.Sessions.{prefixed, last_eight, IsAnswer, AreAnswer
 use Rattle.session_mux.specs.Inputs.{InputFault}
 use Rattle.session_mux.specs.Inputs.{fault_line, FaultOfInput, AreLinesBefore, sound, faulted, OwesLines}
 use Rattle.session_mux.proofs.Tagging.{tagged_once}
-use Rattle.session_mux.proofs.Passing.{Later, WithTag, InLine}
+use Rattle.session_mux.proofs.LinesPass.{Later, WithTag, InLine}
 use Rattle.session_mux.proofs.SessionsSaid.{text_alone_once}
 use Rattle.session_mux.proofs.FrontLines.{later_fault, input_fault_stays, answers_split}
 

@@ -10,7 +10,7 @@ use Rattle.early_verdict.proofs.HoldingLemmas.{among_at}
 use Rattle.rational.proofs.PlaceLemmas.{after_same, same_places}
 use Rattle.rational.proofs.Mixed.{move_fits}
 use Rattle.early_verdict.proofs.WindowLemmas.{near_fits, bound_near}
-use Rattle.early_verdict.proofs.Telling.{none_of}
+use Rattle.early_verdict.proofs.SetsTell.{none_of}
 use Rattle.early_verdict.proofs.anew.keep_seeing.Goals as goal
 
 pub shift_begin-from-requires : goal.shift_begin-from-requires

@@ -1,6 +1,6 @@
 use Rattle.std.proofs.Common.{◌⊎◌}
 use Rattle.early_verdict.specs.Spans.{IsOn}
-use Rattle.early_verdict.proofs.Telling.{says_of, was_said, had_yes, had_no, neither, not_with}
+use Rattle.early_verdict.proofs.SetsTell.{says_of, was_said, had_yes, had_no, neither, not_with}
 use Rattle.early_verdict.proofs.connectives.step_conjunction.Goals as goal
 
 pub returns-clause-fits : goal.returns-clause-fits

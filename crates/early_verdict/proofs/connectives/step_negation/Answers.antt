@@ -1,5 +1,5 @@
 use Rattle.early_verdict.specs.Spans.{IsOn}
-use Rattle.early_verdict.proofs.Telling.{says_of, was_said, had_yes, had_no}
+use Rattle.early_verdict.proofs.SetsTell.{says_of, was_said, had_yes, had_no}
 use Rattle.early_verdict.proofs.connectives.step_negation.Goals as goal
 
 pub returns-clause-fits : goal.returns-clause-fits

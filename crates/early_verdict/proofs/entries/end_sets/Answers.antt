@@ -6,7 +6,7 @@ use Rattle.early_verdict.specs.Deciding.{last_after, IsVerdict}
 use Rattle.early_verdict.specs.Standing.{AllTidy}
 use Rattle.early_verdict.specs.declared.sets.Sets.{Sets}
 use Rattle.early_verdict.proofs.GoingOn.{leaves_bound}
-use Rattle.early_verdict.proofs.Opening.{end_some, end_truth, last_wide}
+use Rattle.early_verdict.proofs.Undecided.{end_some, end_truth, last_wide}
 use Rattle.early_verdict.proofs.entries.end_sets.Goals as goal
 
 pub step_sets-requires-clause-count : goal.step_sets-requires-clause-count

@@ -2,7 +2,7 @@ use Rattle.std.proofs.Common.{rules, ◌≡◌, sym, subst, ap, ◌∙◌, ◌++
 use Rattle.early_verdict.specs.Standing.{AllEmpty, AllTidy}
 use Rattle.early_verdict.specs.Living.{ComesOn}
 use Rattle.early_verdict.specs.declared.sets.Sets.{Sets}
-use Rattle.early_verdict.proofs.Opening.{sets_written}
+use Rattle.early_verdict.proofs.Undecided.{sets_written}
 use Rattle.early_verdict.proofs.entries.step_sets.Goals as goal
 
 pub step_all-requires-clause-count : goal.step_all-requires-clause-count

@@ -3,7 +3,7 @@ use Rattle.std.proofs.lemmas.Option.{same_Some}
 use Rattle.stl_syntax.specs.Trace.{Row}
 use Rattle.early_verdict.specs.Deciding.{last_after}
 use Rattle.early_verdict.proofs.GoingOn.{next_stand, leaves_bound}
-use Rattle.early_verdict.proofs.Opening.{after_last, last_wide}
+use Rattle.early_verdict.proofs.Undecided.{after_last, last_wide}
 use Rattle.early_verdict.proofs.entries.take_next.Goals as goal
 
 pub step_sets-requires-clause-count : goal.step_sets-requires-clause-count

@@ -1,7 +1,7 @@
 use Rattle.std.proofs.Common.{sym, subst, List, [], ◌∷◌, ◌++◌}
 use Rattle.stl_syntax.specs.Trace.{Row}
 use Rattle.early_verdict.specs.Deciding.{SetsAre}
-use Rattle.early_verdict.proofs.Opening.{open_first, open_next}
+use Rattle.early_verdict.proofs.Undecided.{open_first, open_next}
 use Rattle.early_verdict.proofs.entries.take_row.Goals as goal
 
 pub take_first-requires-clause-open : goal.take_first-requires-clause-open

@@ -3,7 +3,7 @@ use Rattle.stl_syntax.specs.Trace.{Trace}
 use Rattle.stl_syntax.specs.declared.node.Node.{Node}
 use Rattle.early_verdict.specs.Living.{NetStands}
 use Rattle.early_verdict.specs.declared.sets.Sets.{Sets}
-use Rattle.early_verdict.proofs.Opening.{sets_written}
+use Rattle.early_verdict.proofs.Undecided.{sets_written}
 use Rattle.early_verdict.proofs.letting.let_go.Goals as goal
 
 pub loop-i-init : goal.loop-i-init

@@ -3,7 +3,7 @@ use Rattle.std.proofs.lemmas.Option.{slice_get_within}
 use Rattle.stl_syntax.proofs.PostOrderLemmas.{placed}
 use Rattle.early_verdict.specs.Standing.{SteppedTo}
 use Rattle.early_verdict.specs.Living.{ShownTo}
-use Rattle.early_verdict.proofs.Netting.{fits_on, shown_none, shown_on, shown_tidy_on, stepped_none, stepped_on, tidy_on}
+use Rattle.early_verdict.proofs.EntryByNodes.{fits_on, shown_none, shown_on, shown_tidy_on, stepped_none, stepped_on, tidy_on}
 use Rattle.early_verdict.proofs.net.step_all.Goals as goal
 
 pub step_at-requires-clause-none : goal.step_at-requires-clause-none

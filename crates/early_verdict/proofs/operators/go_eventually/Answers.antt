@@ -1,5 +1,5 @@
 use Rattle.early_verdict.specs.Fitting.{EventuallyFits}
-use Rattle.early_verdict.proofs.Operating.{one_list}
+use Rattle.early_verdict.proofs.ChildLists.{one_list}
 use Rattle.early_verdict.proofs.operators.go_eventually.Goals as goal
 
 pub returns-clause-fits : goal.returns-clause-fits

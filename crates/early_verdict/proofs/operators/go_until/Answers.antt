@@ -1,5 +1,5 @@
 use Rattle.early_verdict.specs.Fitting.{UntilFits}
-use Rattle.early_verdict.proofs.Operating.{two_lists}
+use Rattle.early_verdict.proofs.ChildLists.{two_lists}
 use Rattle.early_verdict.proofs.operators.go_until.Goals as goal
 
 pub returns-clause-fits : goal.returns-clause-fits

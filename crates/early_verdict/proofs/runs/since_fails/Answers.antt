@@ -5,7 +5,7 @@ use Rattle.early_verdict.specs.Spans.{Lies, IsOn}
 use Rattle.early_verdict.specs.Reaching.{GoesBackBy}
 use Rattle.early_verdict.specs.Readings.{SomeBehind}
 use Rattle.early_verdict.specs.Fitting.{Says}
-use Rattle.early_verdict.proofs.Telling.{says_of}
+use Rattle.early_verdict.proofs.SetsTell.{says_of}
 use Rattle.early_verdict.proofs.LookLemmas.{had_list_no, one_says, back_says}
 use Rattle.early_verdict.proofs.RunSets.{since_fail, since_stop, since_never, since_broken}
 use Rattle.early_verdict.proofs.runs.since_fails.Goals as goal

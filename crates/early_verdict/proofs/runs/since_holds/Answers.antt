@@ -5,7 +5,7 @@ use Rattle.early_verdict.specs.Spans.{IsOn}
 use Rattle.early_verdict.specs.Reaching.{GoesBackBy}
 use Rattle.early_verdict.specs.Readings.{SomeBehind}
 use Rattle.early_verdict.specs.Fitting.{Says}
-use Rattle.early_verdict.proofs.Telling.{says_of}
+use Rattle.early_verdict.proofs.SetsTell.{says_of}
 use Rattle.early_verdict.proofs.LookLemmas.{had_list_yes, one_says, back_says, kept_from, yes_after}
 use Rattle.early_verdict.proofs.RunSets.{since_both, since_run, since_some, since_each, since_no_run}
 use Rattle.early_verdict.proofs.runs.since_holds.Goals as goal

@@ -5,7 +5,7 @@ use Rattle.stl_syntax.specs.Early.{OpenAhead}
 use Rattle.frac128.specs.Cuts.{place}
 use Rattle.early_verdict.specs.Spans.{Lies, IsOn}
 use Rattle.early_verdict.specs.Reaching.{GoesTo}
-use Rattle.early_verdict.proofs.Telling.{says_of}
+use Rattle.early_verdict.proofs.SetsTell.{says_of}
 use Rattle.early_verdict.proofs.LookLemmas.{had_list_no, only_says}
 use Rattle.early_verdict.proofs.RunSets.{until_fail, until_stop, until_never, until_broken, until_broken_says}
 use Rattle.early_verdict.proofs.runs.until_fails.Goals as goal

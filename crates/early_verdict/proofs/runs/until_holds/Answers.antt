@@ -5,7 +5,7 @@ use Rattle.early_verdict.specs.Spans.{IsOn}
 use Rattle.early_verdict.specs.Reaching.{GoesOn}
 use Rattle.early_verdict.specs.Readings.{SomeAhead}
 use Rattle.early_verdict.specs.Fitting.{sure_place}
-use Rattle.early_verdict.proofs.Telling.{says_of}
+use Rattle.early_verdict.proofs.SetsTell.{says_of}
 use Rattle.early_verdict.proofs.LookLemmas.{had_list_yes, sure_says, only_says, kept_from, yes_after}
 use Rattle.early_verdict.proofs.RunSets.{goes_on_says, until_both, until_run, until_some, until_each, until_no_run}
 use Rattle.early_verdict.proofs.runs.until_holds.Goals as goal

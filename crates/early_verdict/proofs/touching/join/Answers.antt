@@ -5,7 +5,7 @@ use Rattle.rational.specs.Places.{Place}
 use Rattle.frac128.specs.Cuts.{place}
 use Rattle.early_verdict.specs.Spans.{BeginsAfter}
 use Rattle.early_verdict.specs.declared.stretch.Stretch.{Stretch}
-use Rattle.early_verdict.proofs.Absorbing.{Absorbing, absorb_first, absorb_next, absorb_last, touches_first, touches_second}
+use Rattle.early_verdict.proofs.StretchesJoin.{Absorbing, absorb_first, absorb_next, absorb_last, touches_first, touches_second}
 use Rattle.early_verdict.proofs.SpanLemmas.{without, reaches_at, set_is, get_next, drop_next, without_next, within_without}
 use Rattle.early_verdict.proofs.BlockLemmas.{length_remove}
 use Rattle.early_verdict.proofs.GrowingLemmas.{grows_by, tidy_by}

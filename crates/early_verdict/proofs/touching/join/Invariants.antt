@@ -1,5 +1,5 @@
 use Rattle.std.proofs.Common.{◌<◌, length}
-use Rattle.early_verdict.proofs.Absorbing.{Absorbing}
+use Rattle.early_verdict.proofs.StretchesJoin.{Absorbing}
 use Rattle.early_verdict.proofs.SpanLemmas.{without}
 use Rattle.early_verdict.proofs.touching.join.Given as goal
 

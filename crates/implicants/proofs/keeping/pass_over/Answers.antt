@@ -1,5 +1,5 @@
 use Rattle.std.proofs.Common.{◌-◌, true, sym, ◌∙◌, arith, length-set}
-use Rattle.implicants.proofs.Passing.{passed_put, passed_skip}
+use Rattle.implicants.proofs.MarkedAreKept.{passed_put, passed_skip}
 use Rattle.implicants.proofs.keeping.pass_over.Goals as goal
 
 pub loop-c-preserved-then-marks-c : goal.loop-c-preserved-then-marks-c

@@ -1,4 +1,4 @@
-use Rattle.offline_eval.proofs.Having.{all_have}
+use Rattle.offline_eval.proofs.ToldHaveValues.{all_have}
 use Rattle.offline_eval.proofs.laws.told_have_values.Goals as goal
 
 pub returns : goal.returns

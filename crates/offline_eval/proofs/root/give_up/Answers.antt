@@ -2,7 +2,7 @@ use Rattle.std.proofs.Common.{refl, subst, sym}
 use Rattle.std.specs.Prelude.{option_to_list}
 use Rattle.std.proofs.Math.ListN.{set}
 use Rattle.offline_eval.specs.Keeping.{AreGivenUp}
-use Rattle.offline_eval.proofs.Keeping.{one_given_up}
+use Rattle.offline_eval.proofs.ChildrenKept.{one_given_up}
 use Rattle.offline_eval.proofs.root.give_up.Goals as goal
 
 pub returns : goal.returns

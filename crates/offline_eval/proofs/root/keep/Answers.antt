@@ -2,7 +2,7 @@ use Rattle.std.proofs.Common.{rules, ◌≡◌, List, ℕ, ◌++◌, ◌∷◌, 
 use Rattle.std.specs.Prelude.{option_to_list}
 use Rattle.std.proofs.lemmas.Result.{on_ok_weaker}
 use Rattle.offline_eval.specs.Keeping.{AreGivenUp}
-use Rattle.offline_eval.proofs.Keeping.{more_given_up}
+use Rattle.offline_eval.proofs.ChildrenKept.{more_given_up}
 use Rattle.offline_eval.proofs.root.keep.Goals as goal
 
 pub returns : goal.returns

@@ -4,7 +4,7 @@ use Rattle.stl_syntax.specs.Horizons.{horizon_above, AreHorizonsBelow}
 use Rattle.stl_syntax.proofs.HorizonLemmas.{horizon-above}
 use Rattle.online_robust.specs.Firsts.{AreFirstStations}
 use Rattle.online_robust.specs.declared.station.Station.{Station}
-use Rattle.online_robust.proofs.Firsting.{firsts_more, horizons_more}
+use Rattle.online_robust.proofs.NodesAtStart.{firsts_more, horizons_more}
 use Rattle.online_robust.proofs.net.stations_of.Goals as goal
 
 pub loop-i-preserved : goal.loop-i-preserved

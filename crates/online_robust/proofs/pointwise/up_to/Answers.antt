@@ -10,7 +10,7 @@ use Rattle.online_robust.specs.Lines.{end_of}
 use Rattle.online_robust.specs.Held.{held_at}
 use Rattle.online_robust.specs.ReadLines.{IsThere}
 use Rattle.online_robust.specs.declared.line.MarginLine.{MarginLine}
-use Rattle.online_robust.proofs.Losses.{loses_at_none}
+use Rattle.online_robust.proofs.LinesGone.{loses_at_none}
 use Rattle.online_robust.proofs.JoinedLemmas.{first_of}
 use Rattle.online_robust.proofs.PointwiseLemmas.{TakesTwo, above_of, gap_ahead, gap_there, has_second, read_ahead, read_lost, read_there, two_fewer}
 use Rattle.online_robust.proofs.pointwise.up_to.Goals.{After-cmp, After-skip-in-Equal}

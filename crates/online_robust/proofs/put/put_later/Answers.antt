@@ -1,7 +1,7 @@
 use Rattle.std.proofs.Common.{[], ◌∷◌, subst, sym, take, arith}
 use Rattle.online_robust.specs.Putting.{later_lines, HasPut}
 use Rattle.online_robust.specs.declared.line.MarginLine.TheVariants as Part
-use Rattle.online_robust.proofs.Puts.{later_more, put_both}
+use Rattle.online_robust.proofs.LinesPut.{later_more, put_both}
 use Rattle.online_robust.proofs.put.put_later.Goals as goal
 
 pub loop-i-preserved : goal.loop-i-preserved

@@ -1,7 +1,7 @@
 use Rattle.std.proofs.Common.{[], ◌∷◌}
 use Rattle.std.proofs.lemmas.Result.{on_ok_weaker}
 use Rattle.online_robust.specs.declared.line.MarginLine.TheVariants as Part
-use Rattle.online_robust.proofs.Puts.{put_both}
+use Rattle.online_robust.proofs.LinesPut.{put_both}
 use Rattle.online_robust.proofs.put.put_pair.Goals as goal
 
 pub returns : goal.returns

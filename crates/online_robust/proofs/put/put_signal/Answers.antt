@@ -2,7 +2,7 @@ use Rattle.std.proofs.Common.{[], ◌∷◌, ◌∙◌, ap, subst, sym}
 use Rattle.std.proofs.lemmas.Result.{on_ok_weaker}
 use Rattle.online_robust.specs.Putting.{later_lines, lines_of, HasPut}
 use Rattle.online_robust.specs.declared.line.MarginLine.TheVariants as Part
-use Rattle.online_robust.proofs.Puts.{lines_false, lines_true, put_both}
+use Rattle.online_robust.proofs.LinesPut.{lines_false, lines_true, put_both}
 use Rattle.online_robust.proofs.put.put_signal.Goals as goal
 
 pub returns-then-with_first : goal.returns-then-with_first

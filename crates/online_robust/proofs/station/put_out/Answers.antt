@@ -3,7 +3,7 @@ use Rattle.std.specs.Int.{w64}
 use Rattle.std.proofs.lemmas.Int.{to_z-of_z}
 use Rattle.online_robust.specs.Held.{edge_at, with_edge, with_number}
 use Rattle.online_robust.specs.Putting.{lines_of}
-use Rattle.online_robust.proofs.Puts.{put_within}
+use Rattle.online_robust.proofs.LinesPut.{put_within}
 use Rattle.online_robust.proofs.station.put_out.Goals as goal
 
 pub reach-requires : goal.reach-requires

@@ -10,7 +10,7 @@ use Rattle.envelope.specs.declared.walk.Slope.{Slope}
 use Rattle.envelope.specs.Turns.{HasCome, IsToCome}
 use Rattle.envelope.specs.SoFar.{Turns}
 use Rattle.envelope.specs.Standing.{CanGoOn, IsPassed, IsTop, Keeps, SomethingLeaves, slope_shape, slope_until}
-use Rattle.envelope.proofs.Passing.{same_pieces, turned_stands}
+use Rattle.envelope.proofs.AfterTurn.{same_pieces, turned_stands}
 use Rattle.envelope.proofs.Sliding.{can_slide_in, keeps_in, later_in, levels_in}
 use Rattle.envelope.proofs.walk.Walk.slide_in.Goals as goal
 

@@ -4,7 +4,7 @@ use Rattle.std.proofs.lemmas.Result.{on_ok_weaker}
 use Rattle.rational.proofs.Lists.{some_of}
 use Rattle.envelope.specs.Turns.{HasCome, IsToCome}
 use Rattle.envelope.specs.Standing.{FirstStays, FirstHasCome}
-use Rattle.envelope.proofs.Passing.{same_pieces, turned_stands}
+use Rattle.envelope.proofs.AfterTurn.{same_pieces, turned_stands}
 use Rattle.envelope.proofs.Sliding.{can_slide_out, keeps_out}
 use Rattle.envelope.proofs.walk.Walk.slide_out.Goals as goal
 

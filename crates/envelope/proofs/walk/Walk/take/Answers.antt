@@ -7,7 +7,7 @@ use Rattle.envelope.specs.SoFar.{first_time}
 use Rattle.envelope.specs.Walking.{IsPiecesFault}
 use Rattle.envelope.specs.Standing.{Admits, Leaves}
 use Rattle.envelope.proofs.Faulting.{stopped_left}
-use Rattle.envelope.proofs.Taking.{taken}
+use Rattle.envelope.proofs.PieceTaken.{taken}
 use Rattle.envelope.proofs.walk.Walk.take.Goals as goal
 
 pub rise-requires-clause-ready : goal.rise-requires-clause-ready

@@ -1,4 +1,4 @@
-use Rattle.offline_eval.proofs.Keeping.{stack_empty, stack_none}
+use Rattle.offline_eval.proofs.ChildrenKept.{stack_empty, stack_none}
 use Rattle.offline_eval.proofs.root.Stack.new.Goals as goal
 
 pub returns-clause-stands : goal.returns-clause-stands

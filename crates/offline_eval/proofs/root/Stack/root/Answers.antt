@@ -1,6 +1,6 @@
 use Rattle.std.proofs.Common.{rules, ◌≡◌, ◌++◌, ◌∷◌, [], ◌<◌, ◌∙◌, length, sym, ap, subst, arith}
 use Rattle.offline_eval.specs.Keeping.{TellsStack}
-use Rattle.offline_eval.proofs.Keeping.{stack_root}
+use Rattle.offline_eval.proofs.ChildrenKept.{stack_root}
 use Rattle.offline_eval.proofs.root.Stack.root.Goals as goal
 
 pub unreachable-requires : goal.unreachable-requires

@@ -11,8 +11,8 @@ use Rattle.frac128.specs.Value.{value}
 use Rattle.window_ops.proofs.Ends.{le_shifted}
 use Rattle.stl_syntax.specs.Trace.{start}
 use Rattle.online_robust.specs.Glances.{HasGlanced}
-use Rattle.online_robust.proofs.Looking.{shifted_whole}
-use Rattle.online_robust.proofs.Losses.{loses_at_both, loses_at_later, loses_at_none}
+use Rattle.online_robust.proofs.NodeLooks.{shifted_whole}
+use Rattle.online_robust.proofs.LinesGone.{loses_at_both, loses_at_later, loses_at_none}
 use Rattle.online_robust.proofs.PointwiseLemmas.{not_less}
 use Rattle.online_robust.proofs.glance.Moved.begin.Goals as goal
 

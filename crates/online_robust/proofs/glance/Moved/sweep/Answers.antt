@@ -9,7 +9,7 @@ use Rattle.online_robust.specs.Glances.{glance_of}
 use Rattle.online_robust.specs.ReadLines.{IsStretch}
 use Rattle.online_robust.proofs.Builts.{built_done, built_first, built_on, tick_between, tick_within}
 use Rattle.online_robust.proofs.Glancing.{glance_is_function, glance_same}
-use Rattle.online_robust.proofs.Losses.{loses_at_both, loses_at_later}
+use Rattle.online_robust.proofs.LinesGone.{loses_at_both, loses_at_later}
 use Rattle.online_robust.proofs.PointwiseLemmas.{not_less}
 use Rattle.online_robust.proofs.glance.Moved.sweep.Goals as goal
 

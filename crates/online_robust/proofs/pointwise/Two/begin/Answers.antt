@@ -8,7 +8,7 @@ use Rattle.online_robust.specs.Lines.{end_of, margin_of}
 use Rattle.online_robust.specs.Told.{IsTick}
 use Rattle.online_robust.specs.ReadLines.{IsThere, LosesAtBoth}
 use Rattle.online_robust.specs.Couples.{IsJoinedTo}
-use Rattle.online_robust.proofs.Losses.{both_none}
+use Rattle.online_robust.proofs.LinesGone.{both_none}
 use Rattle.online_robust.proofs.PointwiseLemmas.{begun_some}
 use Rattle.online_robust.proofs.TwoLemmas.{join_first, join_stood, join_stood_to, left_begins, left_there}
 use Rattle.online_robust.proofs.TwoLemmas.{left_tick, left_when, lost_first, mid_count, right_some, right_there}

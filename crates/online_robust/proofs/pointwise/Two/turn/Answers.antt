@@ -21,7 +21,7 @@ use Rattle.online_robust.specs.Couples.{Couple, IsCoupleFault, IsJoinedTo, IsRea
 use Rattle.pl_signal.specs.declared.faults.OpFault.TheVariants as F
 use Rattle.online_robust.proofs.Refusing.{each_told}
 use Rattle.online_robust.proofs.Builts.{tick_between, tick_within}
-use Rattle.online_robust.proofs.Losses.{both_of as lost_both}
+use Rattle.online_robust.proofs.LinesGone.{both_of as lost_both}
 use Rattle.online_robust.proofs.TwoLemmas.{IsEarlier, IsStop, built_joined, counted_level, joined_fault, left_later}
 use Rattle.online_robust.proofs.TwoLemmas.{left_level, left_some, left_source, right_later, right_level}
 use Rattle.online_robust.proofs.TwoLemmas.{right_some_too, right_source, stop_of, turn_nearer}

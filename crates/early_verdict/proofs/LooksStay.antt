@@ -12,7 +12,7 @@ use Rattle.early_verdict.specs.Living.{AreLive, HasShown, IsLive, IsShown, Shown
 use Rattle.early_verdict.specs.declared.sets.Sets.{Sets}
 use Rattle.early_verdict.proofs.AllSets.{AreSound, is_shown, lists_are, no_there, shown_is, shown_within, yes_there}
 use Rattle.early_verdict.proofs.LivingLemmas.{looks_as, parts_as}
-use Rattle.early_verdict.proofs.Netting.{nodes_at}
+use Rattle.early_verdict.proofs.EntryByNodes.{nodes_at}
 
 module _ {nodes : List Node} {from : Rational} {old new old_shown new_shown : List Sets} (h : SteppedTo (length nodes) old new)
     (g : ShownTo (length nodes) new old_shown new_shown) (have : AreLive nodes from old old_shown) where

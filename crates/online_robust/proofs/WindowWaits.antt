@@ -39,7 +39,7 @@ use Rattle.online_robust.proofs.Bridging.{from_none, from_some, input_within, la
 use Rattle.online_robust.proofs.Builts.{tick_between}
 use Rattle.online_robust.proofs.DroppingLemmas.{held_of-without}
 use Rattle.online_robust.proofs.Instants.{best_of_none}
-use Rattle.online_robust.proofs.Looking.{front_by_stop, looks_before, one_swept, shifted_whole, told_as_far}
+use Rattle.online_robust.proofs.NodeLooks.{front_by_stop, looks_before, one_swept, shifted_whole, told_as_far}
 use Rattle.online_robust.proofs.LowLemmas.{sheds_of}
 use Rattle.online_robust.proofs.Robustly.{robust_is_function}
 

@@ -25,7 +25,7 @@ use Rattle.online_robust.specs.Moving.{AreStreamed, AreMore, IsNext}
 use Rattle.online_robust.specs.declared.line.MarginLine.{MarginLine}
 use Rattle.online_robust.specs.declared.line.MarginLine.TheVariants.{Point, Gap}
 use Rattle.online_robust.proofs.Growing.{AreNext, gave_grows, itself, next_cases}
-use Rattle.online_robust.proofs.Rests.{back_above}
+use Rattle.online_robust.proofs.LinesLeft.{back_above}
 use Rattle.online_robust.proofs.Readers.{back_within}
 
 -- ---- what is left, with more behind it
