@@ -26,11 +26,12 @@ use Rattle.bounds.specs.Held.{with_front, fronts_from, times_within, so_far, Edg
 use Rattle.bounds.proofs.HeldFew.{Parts, Joins, few_meet}
 
 -- how each verdict meets the next
-abbrev AllPart : List Rational → Verdict → List Verdict → Type 0
+abbrev pub AllPart : List Rational → Verdict → List Verdict → Type 0
 AllPart fronts v [] = Unit {0}
 AllPart fronts v (w ∷ ws) = Parts fronts v w × AllPart fronts w ws
 
-abbrev Part : List Rational → List Verdict → Type 0
+-- of a list of verdicts
+abbrev pub Part : List Rational → List Verdict → Type 0
 Part fronts [] = Unit {0}
 Part fronts (v ∷ vs) = AllPart fronts v vs
 
@@ -84,7 +85,8 @@ given p tr first old (Some f) vs later fronts g r = by_test (same_front old (Som
     by_test false d = by_old old d
 
 module _ (nodes : List Node) (header : Header) where
-  parted : (i : ℕ) (s : State) (events : List Event) (vs : List Verdict) → EmittedFrom nodes header i s events vs → Part (fronts_from nodes i s events) vs
+  -- each verdict of a node but the last ends where the next one differs, or at a front
+  pub parted : (i : ℕ) (s : State) (events : List Event) (vs : List Verdict) → EmittedFrom nodes header i s events vs → Part (fronts_from nodes i s events) vs
   parted i s [] vs h = subst (λ l. Part [] l) (sym h) tt
   parted i s (e ∷ events) vs (here, later, now, rest, is) =
       let new = after_event nodes s e in
@@ -105,7 +107,8 @@ joined p tr fronts v [] d t told h = tt
 joined p tr fronts v (w ∷ vs) d t told h =
     (same_sym t.0.0, touch v.on.to_in w.on.from_in t.0.1, h.0, told.0, joined p tr fronts w vs d t.2 told.1 h.1)
 
-few_held : (p : Subformula) (tr : Trace) (fronts : List Rational) (stretch : Interval) (c d : Place) (vs held : List Verdict) → AreTiles c vs d
+-- those that meet a stretch are few
+pub few_held : (p : Subformula) (tr : Trace) (fronts : List Rational) (stretch : Interval) (c d : Place) (vs held : List Verdict) → AreTiles c vs d
     → AreTold p tr vs → Part fronts vs → AreMeeting stretch vs held
     → length held ≤ 2 * (turns_for_a_row p * suc (rows_about p tr stretch.from stretch.to)) + length (times_within stretch.from stretch.to fronts) + 1
 few_held p tr fronts stretch c d [] held t told h m = let e = ap length m in omega (arith, e)

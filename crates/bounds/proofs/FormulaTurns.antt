@@ -32,7 +32,8 @@ record Edged (p : Subformula) (tr : Trace) (lo hi : Rational) (k : Rational → 
   few : length times_of ≤ count
   edge : (t : Rational) → Within lo hi t → ¬ (IsAmong times_of t) → Edge p tr (by t (k t))
 
-moved_within : {lo hi t : Rational} (k : Move) → Within lo hi t → Within (by lo k) (by hi k) (by t k)
+-- a time of a stretch, both moved
+pub moved_within : {lo hi t : Rational} (k : Move) → Within lo hi t → Within (by lo k) (by hi k) (by t k)
 moved_within {lo} {hi} {t} k w = record {
   above = record { le = let p = w.above.le in omega (arith, p) };
   below = record { le = let p = w.below.le in omega (arith, p) };
@@ -59,7 +60,8 @@ far_edged p tr lo hi None count f = record { times_of = []; few = omega arith; e
 far_edged p tr lo hi (Some n) count f =
     let e = edged p tr lo hi (behind n) count (f n refl) in record { times_of = e.times_of; few = e.few; edge = e.edge }
 
-both_few : {n m : ℕ} (xs ys : List Rational) → length xs ≤ n → length ys ≤ m → length (xs ++ ys) ≤ n + m
+-- two lists are as long as both
+pub both_few : {n m : ℕ} (xs ys : List Rational) → length xs ≤ n → length ys ≤ m → length (xs ++ ys) ≤ n + m
 both_few xs ys a b = let e = length-append xs ys in omega (arith, e, a, b)
 
 -- of two formulas, where what has one truth about a time where both have
@@ -100,28 +102,44 @@ more : {p : Subformula} {tr : Trace} {lo hi : Rational} (n m : ℕ) → n ≤ m 
 more n m h f = record { times_of = f.times_of; few = let k = f.few in omega (arith, h, k); calm = f.calm }
 
 -- how the reach of a formula holds those of its inputs
-left_max : (n m : ℕ) → n ≤ max n m
+pub left_max : (n m : ℕ) → n ≤ max n m
 left_max n m = omega arith
 
-right_max : (n m : ℕ) → m ≤ max n m
+-- and the other
+pub right_max : (n m : ℕ) → m ≤ max n m
 right_max n m = omega arith
 
-low_part : (low lo : Rational) (B m : ℕ) → B ≤ m → later low m ≤ʳ lo → later low B ≤ʳ lo
+-- both bounds of a window behind are no more than the farther one
+pub near_far : (a : ℕ) (b : Option ℕ) → a ≤ far a b
+near_far a None = omega arith
+near_far a (Some b) = left_max a b
+
+-- and so is the one at its end
+pub far_far : (a : ℕ) (b : Option ℕ) (n : ℕ) → b ≡ Some n → n ≤ far a b
+far_far a b n e = rw e (right_max a n)
+
+-- where a stretch may begin, for a formula that looks back less
+pub low_part : (low lo : Rational) (B m : ℕ) → B ≤ m → later low m ≤ʳ lo → later low B ≤ʳ lo
 low_part low lo B m h k = le_trans (later_more low B m h) k
 
-high_part : (hi high : Rational) (A m : ℕ) → A ≤ m → later hi m ≤ʳ high → later hi A ≤ʳ high
+-- where it may end, for one that looks ahead less
+pub high_part : (hi high : Rational) (A m : ℕ) → A ≤ m → later hi m ≤ʳ high → later hi A ≤ʳ high
 high_part hi high A m h k = le_trans (later_more hi A m h) k
 
-low_ahead : (low lo : Rational) (a B : ℕ) → later low B ≤ʳ lo → later low B ≤ʳ by lo (ahead a)
+-- the same for a stretch moved ahead
+pub low_ahead : (low lo : Rational) (a B : ℕ) → later low B ≤ʳ lo → later low B ≤ʳ by lo (ahead a)
 low_ahead low lo a B k = le_trans k (record { le = omega arith })
 
-high_ahead : (hi high : Rational) (a A m : ℕ) → a + A ≤ m → later hi m ≤ʳ high → later (by hi (ahead a)) A ≤ʳ high
+-- its end
+pub high_ahead : (hi high : Rational) (a A m : ℕ) → a + A ≤ m → later hi m ≤ʳ high → later (by hi (ahead a)) A ≤ʳ high
 high_ahead hi high a A m h k = le_trans (record { le = let q = mul-le-mul_right (hi.den * hi.den) h in omega (arith, q) }) k
 
-low_behind : (low lo : Rational) (a B m : ℕ) → a + B ≤ m → later low m ≤ʳ lo → later low B ≤ʳ by lo (behind a)
+-- for one moved behind
+pub low_behind : (low lo : Rational) (a B m : ℕ) → a + B ≤ m → later low m ≤ʳ lo → later low B ≤ʳ by lo (behind a)
 low_behind low lo a B m h k = record { le = let q = mul-le-mul_right (low.den * lo.den) h in let e = k.le in omega (arith, q, e) }
 
-high_behind : (hi high : Rational) (a A : ℕ) → later hi A ≤ʳ high → later (by hi (behind a)) A ≤ʳ high
+-- its end
+pub high_behind : (hi high : Rational) (a A : ℕ) → later hi A ≤ʳ high → later (by hi (behind a)) A ≤ʳ high
 high_behind hi high a A k = le_trans (record { le = omega arith }) k
 
 -- how many there are
@@ -131,7 +149,8 @@ two_ends c N h = let q = mul-le-mul_left 4 h in omega (arith, q)
 with_left : (c d N : ℕ) → 1 ≤ N → c * N + (c * N + d * N + 2 + (c * N + d * N + 2)) ≤ (3 * c + 2 * d + 4) * N
 with_left c d N h = let q = mul-le-mul_left 4 h in omega (arith, q)
 
-sum_of : (c d N : ℕ) → c * N + d * N ≤ (c + d) * N
+-- products with one factor sum up
+pub sum_of : (c d N : ℕ) → c * N + d * N ≤ (c + d) * N
 sum_of c d N = omega arith
 
 atoms_few : (n N : ℕ) → n ≤ N → 2 * n + 1 ≤ 2 * suc N
@@ -188,13 +207,6 @@ module _ (tr : Trace) (low high : Rational) where
       → Few c tr (by lo (behind a)) (by hi (behind a)) count
   at_bound_behind {c} {count} A B f a m h lo hi k l =
       f (by lo (behind a)) (by hi (behind a)) (low_behind low lo a B (m + B) (omega (arith, h)) k) (high_behind hi high a A l)
-
-  near_far : (a : ℕ) (b : Option ℕ) → a ≤ far a b
-  near_far a None = omega arith
-  near_far a (Some b) = left_max a b
-
-  far_far : (a : ℕ) (b : Option ℕ) (n : ℕ) → b ≡ Some n → n ≤ far a b
-  far_far a b n e = rw e (right_max a n)
 
   few_ahead : (p r : Subformula) (a b : ℕ) → ((t : Rational) → Edge p tr (by t (ahead a)) → Edge p tr (by t (ahead b)) → Calm r tr t) → IsFew p
       → (lo hi : Rational) → later low (looks_back p) ≤ʳ lo → later hi (max a b + looks_ahead p) ≤ʳ high

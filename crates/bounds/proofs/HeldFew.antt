@@ -41,7 +41,7 @@ among_within lo hi (u ∷ times) t h k (inr m) = later_one (is_within lo hi u) (
     later_one false n = n
 
 -- a list that rises after a time rises from it
-loose : (inside : Bool) (f : Rational) (times : List Rational) → RisesFrom false f times → RisesFrom inside f times
+pub loose : (inside : Bool) (f : Rational) (times : List Rational) → RisesFrom false f times → RisesFrom inside f times
 loose inside f [] r = tt
 loose inside f (t ∷ times) r = (precedes_of_lt inside f t r.0, r.1)
 

@@ -7,3 +7,9 @@ pub mod FormulaTurns
 pub mod VerdictTurns
 pub mod HeldFew
 pub mod EdgesFew
+pub mod RestTimes
+pub mod RestRuns
+pub mod RestsFew
+pub mod GivenFew
+pub mod LetGo
+pub mod BooksRight

@@ -1,2 +1,4 @@
 pub mod Turns
 pub mod Held
+pub mod Rests
+pub mod Books

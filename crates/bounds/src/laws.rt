@@ -1,5 +1,7 @@
 //! Laws of the definitions. Each is the contract of a call that does nothing, so that the gate proves it.
+ghost use Rattle.bounds.specs.Books.{BooksAreRight, EdgesLetGo};
 ghost use Rattle.bounds.specs.Held.{EdgesAreBounded};
+ghost use Rattle.bounds.specs.Rests.{EdgesAreFew, GivenAreFew, MovesAreFew};
 ghost use Rattle.bounds.specs.Turns.{TurnsAreFew, VerdictsAreFew};
 
 /// The truth of a formula turns within a stretch of time at most so many times for each row, and once more, that lies within the stretch and
@@ -17,4 +19,31 @@ pub fn verdicts_are_few()
 /// reader may still need and by how often the node's front moved to a time within that stretch, however long the trace.
 pub fn edges_are_bounded()
     ensures { EdgesAreBounded }
+{}
+
+/// In a run, in any order of its events, the front of a node moves to a time of a stretch no oftener than so many times for each row in and about
+/// the stretch, and once more, at the end.
+pub fn moves_are_few()
+    ensures { MovesAreFew }
+{}
+
+/// So what an edge of the streaming network holds in a run is bounded by the rows in and about the stretch that its reader may still need, however
+/// long the trace.
+pub fn edges_are_few()
+    ensures { EdgesAreFew }
+{}
+
+/// Over a run, in any order of its events, a node gives out at most so many verdicts for each row, and for one row more, and one.
+pub fn given_are_few()
+    ensures { GivenAreFew }
+{}
+
+/// What an edge holds after one event more of a run is no more than what it held and what its node gave out at it: nothing comes back.
+pub fn edges_let_go()
+    ensures { EdgesLetGo }
+{}
+
+/// The books of an edge over a run are right: each verdict that was put is held or was let go of, once; and few are put, by the rows.
+pub fn books_are_right()
+    ensures { BooksAreRight }
 {}

@@ -1,0 +1,5 @@
+use Rattle.watch_bounds.proofs.Working.{work_is_linear as law}
+use Rattle.watch_bounds.proofs.laws.work_is_linear.Goals as goal
+
+pub returns : goal.returns
+returns c = law
