@@ -1,5 +1,5 @@
 -- Numbers that a call or a sum of 128 bits hands on: what they are once they were bits.
-use Rattle.std.proofs.Common.{◌≡◌, FitsSigned, ◌≤◌, ◌<◌, ◌*ℤ◌, ◌*◌, ◌^◌, ℤ, ℕ, pos, to_z, of_z, ◌∙◌, sym, subst, to_z-of_z, arith, mul-le-mul}
+use Rattle.std.proofs.Common.{◌≡◌, FitsSigned, ◌≤◌, ◌<◌, ◌*◌, ◌^◌, ℤ, ℕ, pos, to_z, of_z, ◌∙◌, sym, subst, refl, to_z-of_z, arith, mul-le-mul}
 use Rattle.std.specs.Int.RustNames.{unsigned_abs}
 use Rattle.std.proofs.lemmas.Int.{fits_signed_from_abs}
 use lib.Signed.{mag}
@@ -13,9 +13,9 @@ carried r z small is = let fits : FitsSigned w128 r = record { sfits = small } i
 pub widened : (r y z : ℤ) → mag r < 2 ^ 127 → r ≡ to_z w64 (of_z w64 y) → FitsSigned w64 y → y ≡ z → to_z w128 (of_z w128 r) ≡ z
 widened r y z small is fits same = carried r z small (is ∙ to_z-of_z fits ∙ same)
 
--- a number that is small fits 64 bits
-pub fits_64 : (z : ℤ) (m : ℕ) → unsigned_abs z ≤ m → m < 2 ^ 63 → FitsSigned w64 z
-fits_64 z m small few = fits_signed_from_abs w64 z (omega arith)
+-- and a small one
+pub widened_small : (r z : ℤ) (m : ℕ) → mag r < 2 ^ 127 → r ≡ to_z w64 (of_z w64 z) → unsigned_abs z ≤ m → m < 2 ^ 63 → to_z w128 (of_z w128 r) ≡ z
+widened_small r z m small is few below = widened r z z small is (fits_signed_from_abs w64 z (omega arith)) refl
 
 -- a number is no larger than its equal
 pub as_small : (x z : ℤ) (m : ℕ) → x ≡ z → unsigned_abs z ≤ m → unsigned_abs x ≤ m

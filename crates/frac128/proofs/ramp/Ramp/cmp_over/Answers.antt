@@ -1,4 +1,4 @@
-use Rattle.std.proofs.Common.{◌≡◌, pos, FitsSigned, ◌≤◌, ◌<◌, ◌*ℤ◌, ◌*◌, ◌^◌, to_z, of_z, arith, rules, to_z-of_z, ap, ◌∙◌}
+use Rattle.std.proofs.Common.{◌≡◌, pos, FitsSigned, ◌≤◌, ◌<◌, ◌*ℤ◌, ◌*◌, ◌^◌, to_z, of_z, arith, to_z-of_z, ap, ◌∙◌}
 use Rattle.std.specs.Int.RustNames.{unsigned_abs}
 use Rattle.std.proofs.lemmas.Int.{ints, fits_signed_mul}
 use mir.Syntax.{w128}
@@ -11,7 +11,8 @@ overflow_mul-other c =
     let f = c.args.self.now in
     let k = c.args.c.now in
     let run : to_z w128 (of_z w128 c.from.result) ≡ pos f.run = carried c.from.result (pos f.run) c.from.type_inv c.from.ensures in
-    let rest : to_z w128 (of_z w128 c.from-2.result) ≡ pos k.rest = carried c.from-2.result (pos k.rest) c.from-2.type_inv (c.from-2.ensures ∙ ap pos c.rest.ensures) in
+    let rest : to_z w128 (of_z w128 c.from-2.result) ≡ pos k.rest =
+    carried c.from-2.result (pos k.rest) c.from-2.type_inv (c.from-2.ensures ∙ ap pos c.rest.ensures) in
     let few : f.run < 2 ^ 32 = omega arith in
     rw (run, rest) (run_times_rest_fits f.run k.rest few (omega (arith, k.small, k.below)))
 
@@ -21,7 +22,8 @@ overflow_mul-left c =
     let x : to_z w128 (of_z w128 c.from-in-Some-narrow.result) ≡ c.args.top = let e = c.in-Some.ensures in omega (arith, ints) in
     let x_small : unsigned_abs c.args.top ≤ 2 ^ 63 = let e = c.in-Some.ensures in omega (arith, ints) in
     let den : to_z w128 (of_z w128 c.from-in-Some-narrow-2.result) ≡ pos k.den =
-    carried c.from-in-Some-narrow-2.result (pos k.den) c.from-in-Some-narrow-2.type_inv (c.from-in-Some-narrow-2.ensures ∙ ap pos c.den-in-Some-narrow.ensures) in
+    carried c.from-in-Some-narrow-2.result (pos k.den) c.from-in-Some-narrow-2.type_inv
+    (c.from-in-Some-narrow-2.ensures ∙ ap pos c.den-in-Some-narrow.ensures) in
     rw (x, den) (fits_signed_mul w128 c.args.top (pos k.den) (2 ^ 63) (2 ^ 60) x_small (omega (arith, k.small)) (omega arith))
 
 pub overflow_mul-right : goal.overflow_mul-right
@@ -30,14 +32,17 @@ overflow_mul-right c =
     let t = c.args.t.now in
     let k = c.args.c.now in
     let run : to_z w128 (of_z w128 c.from.result) ≡ pos f.run = carried c.from.result (pos f.run) c.from.type_inv c.from.ensures in
-    let rest : to_z w128 (of_z w128 c.from-2.result) ≡ pos k.rest = carried c.from-2.result (pos k.rest) c.from-2.type_inv (c.from-2.ensures ∙ ap pos c.rest.ensures) in
+    let rest : to_z w128 (of_z w128 c.from-2.result) ≡ pos k.rest =
+    carried c.from-2.result (pos k.rest) c.from-2.type_inv (c.from-2.ensures ∙ ap pos c.rest.ensures) in
     let few : f.run < 2 ^ 32 = omega arith in
     let fits : FitsSigned w128 (pos (f.run * k.rest)) = run_times_rest_fits f.run k.rest few (omega (arith, k.small, k.below)) in
-    let other : to_z w128 (of_z w128 (to_z w128 (of_z w128 c.from.result) *ℤ to_z w128 (of_z w128 c.from-2.result))) ≡ pos (f.run * k.rest) = rw (run, rest) (to_z-of_z fits) in
+    let other : to_z w128 (of_z w128 (to_z w128 (of_z w128 c.from.result) *ℤ to_z w128 (of_z w128 c.from-2.result))) ≡ pos (f.run * k.rest) =
+    rw (run, rest) (to_z-of_z fits) in
     let y_is = c.in-Some-narrow.ensures ∙ other in
     let y : to_z w128 (of_z w128 c.from-in-Some-narrow-3.result) ≡ pos (f.run * k.rest) = omega (arith, ints, y_is) in
     let y_small : unsigned_abs (pos (f.run * k.rest)) ≤ 2 ^ 63 = omega (arith, ints, y_is) in
-    let den : to_z w128 (of_z w128 c.from-den.result) ≡ pos t.den = carried c.from-den.result (pos t.den) c.from-den.type_inv (c.from-den.ensures ∙ ap pos c.den.ensures) in
+    let den : to_z w128 (of_z w128 c.from-den.result) ≡ pos t.den =
+    carried c.from-den.result (pos t.den) c.from-den.type_inv (c.from-den.ensures ∙ ap pos c.den.ensures) in
     rw (y, den) (fits_signed_mul w128 (pos (f.run * k.rest)) (pos t.den) (2 ^ 63) (2 ^ 60) y_small (omega (arith, t.small)) (omega arith))
 
 pub returns-in-Some-narrow : goal.returns-in-Some-narrow
@@ -46,18 +51,22 @@ returns-in-Some-narrow c =
     let t = c.args.t.now in
     let k = c.args.c.now in
     let run : to_z w128 (of_z w128 c.from.result) ≡ pos f.run = carried c.from.result (pos f.run) c.from.type_inv c.from.ensures in
-    let rest : to_z w128 (of_z w128 c.from-2.result) ≡ pos k.rest = carried c.from-2.result (pos k.rest) c.from-2.type_inv (c.from-2.ensures ∙ ap pos c.rest.ensures) in
+    let rest : to_z w128 (of_z w128 c.from-2.result) ≡ pos k.rest =
+    carried c.from-2.result (pos k.rest) c.from-2.type_inv (c.from-2.ensures ∙ ap pos c.rest.ensures) in
     let few : f.run < 2 ^ 32 = omega arith in
     let fits : FitsSigned w128 (pos (f.run * k.rest)) = run_times_rest_fits f.run k.rest few (omega (arith, k.small, k.below)) in
-    let other : to_z w128 (of_z w128 (to_z w128 (of_z w128 c.from.result) *ℤ to_z w128 (of_z w128 c.from-2.result))) ≡ pos (f.run * k.rest) = rw (run, rest) (to_z-of_z fits) in
+    let other : to_z w128 (of_z w128 (to_z w128 (of_z w128 c.from.result) *ℤ to_z w128 (of_z w128 c.from-2.result))) ≡ pos (f.run * k.rest) =
+    rw (run, rest) (to_z-of_z fits) in
     let x : to_z w128 (of_z w128 c.from-in-Some-narrow.result) ≡ c.args.top = let e = c.in-Some.ensures in omega (arith, ints) in
     let x_small : unsigned_abs c.args.top ≤ 2 ^ 63 = let e = c.in-Some.ensures in omega (arith, ints) in
     let y_is = c.in-Some-narrow.ensures ∙ other in
     let y : to_z w128 (of_z w128 c.from-in-Some-narrow-3.result) ≡ pos (f.run * k.rest) = omega (arith, ints, y_is) in
     let y_small : unsigned_abs (pos (f.run * k.rest)) ≤ 2 ^ 63 = omega (arith, ints, y_is) in
     let other_den : to_z w128 (of_z w128 c.from-in-Some-narrow-2.result) ≡ pos k.den =
-    carried c.from-in-Some-narrow-2.result (pos k.den) c.from-in-Some-narrow-2.type_inv (c.from-in-Some-narrow-2.ensures ∙ ap pos c.den-in-Some-narrow.ensures) in
-    let den : to_z w128 (of_z w128 c.from-den.result) ≡ pos t.den = carried c.from-den.result (pos t.den) c.from-den.type_inv (c.from-den.ensures ∙ ap pos c.den.ensures) in
+    carried c.from-in-Some-narrow-2.result (pos k.den) c.from-in-Some-narrow-2.type_inv
+    (c.from-in-Some-narrow-2.ensures ∙ ap pos c.den-in-Some-narrow.ensures) in
+    let den : to_z w128 (of_z w128 c.from-den.result) ≡ pos t.den =
+    carried c.from-den.result (pos t.den) c.from-den.type_inv (c.from-den.ensures ∙ ap pos c.den.ensures) in
     let left_fits : FitsSigned w128 (c.args.top *ℤ pos k.den) =
     fits_signed_mul w128 c.args.top (pos k.den) (2 ^ 63) (2 ^ 60) x_small (omega (arith, k.small)) (omega arith) in
     let right_fits : FitsSigned w128 (pos (f.run * k.rest) *ℤ pos t.den) =
@@ -71,13 +80,15 @@ returns-in-Some-narrow c =
 pub cmp_ratio-requires-clause-positive : goal.cmp_ratio-requires-clause-positive
 cmp_ratio-requires-clause-positive c =
     let t = c.args.t.now in
-    let den : to_z w128 (of_z w128 c.from-den.result) ≡ pos t.den = carried c.from-den.result (pos t.den) c.from-den.type_inv (c.from-den.ensures ∙ ap pos c.den.ensures) in
+    let den : to_z w128 (of_z w128 c.from-den.result) ≡ pos t.den =
+    carried c.from-den.result (pos t.den) c.from-den.type_inv (c.from-den.ensures ∙ ap pos c.den.ensures) in
     omega (arith, ints, den, t.positive)
 
 pub cmp_ratio-requires-clause-other_positive : goal.cmp_ratio-requires-clause-other_positive
 cmp_ratio-requires-clause-other_positive c =
     let k = c.args.c.now in
-    let other_den : to_z w128 (of_z w128 c.from-3.result) ≡ pos k.den = carried c.from-3.result (pos k.den) c.from-3.type_inv (c.from-3.ensures ∙ ap pos c.den-2.ensures) in
+    let other_den : to_z w128 (of_z w128 c.from-3.result) ≡ pos k.den =
+    carried c.from-3.result (pos k.den) c.from-3.type_inv (c.from-3.ensures ∙ ap pos c.den-2.ensures) in
     omega (arith, ints, other_den, k.positive)
 
 pub returns : goal.returns
@@ -86,11 +97,15 @@ returns c =
     let t = c.args.t.now in
     let k = c.args.c.now in
     let top : to_z w128 (of_z w128 c.args.top) ≡ c.args.top = to_z-of_z c.ranges.top in
-    let den : to_z w128 (of_z w128 c.from-den.result) ≡ pos t.den = carried c.from-den.result (pos t.den) c.from-den.type_inv (c.from-den.ensures ∙ ap pos c.den.ensures) in
+    let den : to_z w128 (of_z w128 c.from-den.result) ≡ pos t.den =
+    carried c.from-den.result (pos t.den) c.from-den.type_inv (c.from-den.ensures ∙ ap pos c.den.ensures) in
     let run : to_z w128 (of_z w128 c.from.result) ≡ pos f.run = carried c.from.result (pos f.run) c.from.type_inv c.from.ensures in
-    let rest : to_z w128 (of_z w128 c.from-2.result) ≡ pos k.rest = carried c.from-2.result (pos k.rest) c.from-2.type_inv (c.from-2.ensures ∙ ap pos c.rest.ensures) in
-    let other_den : to_z w128 (of_z w128 c.from-3.result) ≡ pos k.den = carried c.from-3.result (pos k.den) c.from-3.type_inv (c.from-3.ensures ∙ ap pos c.den-2.ensures) in
+    let rest : to_z w128 (of_z w128 c.from-2.result) ≡ pos k.rest =
+    carried c.from-2.result (pos k.rest) c.from-2.type_inv (c.from-2.ensures ∙ ap pos c.rest.ensures) in
+    let other_den : to_z w128 (of_z w128 c.from-3.result) ≡ pos k.den =
+    carried c.from-3.result (pos k.den) c.from-3.type_inv (c.from-3.ensures ∙ ap pos c.den-2.ensures) in
     let few : f.run < 2 ^ 32 = omega arith in
     let fits : FitsSigned w128 (pos (f.run * k.rest)) = run_times_rest_fits f.run k.rest few (omega (arith, k.small, k.below)) in
-    let other : to_z w128 (of_z w128 (to_z w128 (of_z w128 c.from.result) *ℤ to_z w128 (of_z w128 c.from-2.result))) ≡ pos (f.run * k.rest) = rw (run, rest) (to_z-of_z fits) in
+    let other : to_z w128 (of_z w128 (to_z w128 (of_z w128 c.from.result) *ℤ to_z w128 (of_z w128 c.from-2.result))) ≡ pos (f.run * k.rest) =
+    rw (run, rest) (to_z-of_z fits) in
     products_order c.cmp_ratio.result c.args.top (f.run * k.rest) t.den k.den t.positive k.positive (rw (top, den, other, other_den) at c.cmp_ratio.ensures)
