@@ -1,7 +1,6 @@
 //! `mux` as a whole: tables of answers from outside, for every cut of the input, long lines, many tags, and devices that fail.
-use crate::cases::{
-    Asked, Case, Devices, agrees, agrees_so_far, expect, expect_each, first_bytes, pieces,
-};
+use crate::expecting::{expect, expect_each};
+use program_cases::{Asked, Case, Devices, agrees, agrees_so_far, first_bytes, pieces};
 use std::alloc::Global;
 use std::test::Fail;
 

@@ -1,6 +1,7 @@
 //! `watch` as a whole: tables of answers from outside, for every cut, and `Watch` call by call.
-use crate::cases::{Asked, Case, Devices, agrees, expect, expect_each, pieces, sink};
+use crate::expecting::{expect, expect_each};
 use io_edge::MemSink;
+use program_cases::{Asked, Case, Devices, agrees, pieces, sink};
 use std::alloc::{AllocError, Global};
 use std::process::Abort;
 use std::test::Fail;

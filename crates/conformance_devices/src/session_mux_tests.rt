@@ -1,5 +1,5 @@
 //! The mux of sessions, called line by line and after its end.
-use crate::cases::expect;
+use crate::expecting::expect;
 use session_mux::{Mux, MuxFault};
 use std::test::Fail;
 use stl_grammar::parse;

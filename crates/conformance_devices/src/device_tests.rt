@@ -1,10 +1,10 @@
 //! Every command over devices of which one call fails, each in turn, that failed before, or that have too little room, and over inputs
 //! that end after each byte.
-use crate::cases::{
-    Case, Devices, agrees, agrees_so_far, expect, first_bytes, pieces, sink, source, status_of,
-    strings,
-};
+use crate::expecting::expect;
 use io_edge::{MemSink, MemSource, Sink, Source};
+use program_cases::{
+    Case, Devices, agrees, agrees_so_far, first_bytes, pieces, sink, source, status_of, strings,
+};
 use std::alloc::Global;
 use std::test::Fail;
 

@@ -1,8 +1,8 @@
 //! Streams keep pace with their source: as each read begins, a look at what was written until then.
 ghost use Rattle.std.specs.Prelude.{Some};
 
-use crate::cases::{sink, source, strings};
 use io_edge::{Failed, MemSink, MemSource, Sink, Source};
+use program_cases::{sink, source, strings};
 use std::alloc::Global;
 use std::cell::Cell;
 use std::test::Fail;
