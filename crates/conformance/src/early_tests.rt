@@ -1,5 +1,6 @@
 //! `early` as a whole: tables of answers from outside, for every cut.
-use crate::cases::{Asked, Case, Devices, agrees_so_far, expect, expect_each, pieces};
+use crate::expecting::{expect, expect_each};
+use program_cases::{Asked, Case, Devices, agrees_so_far, pieces};
 use std::test::Fail;
 
 const TRIANGLE: &str = "time,x\n0,0\n5,5\n10,0\n";

@@ -1,5 +1,6 @@
 //! `gen`: what is written for a number and so many rows, from outside.
-use crate::cases::{Case, agrees, expect, pieces};
+use crate::expecting::expect;
+use program_cases::{Case, agrees, pieces};
 use std::test::Fail;
 
 /// A number, how many rows, and the summary.

@@ -1,5 +1,6 @@
 //! Limits of numbers with decimals, each at its number and one past it.
-use crate::cases::{Asked, expect_each};
+use crate::expecting::expect_each;
+use program_cases::Asked;
 use std::test::Fail;
 
 const YES: &str = "[0,0] true\nstart true\n";

@@ -1,5 +1,6 @@
 //! `robust` as a whole: tables of margins from outside, over sources and sinks in memory.
-use crate::cases::{Asked, Case, agrees, expect, expect_each, pieces};
+use crate::expecting::{expect, expect_each};
+use program_cases::{Asked, Case, agrees, pieces};
 use std::alloc::{AllocError, Global};
 use std::test::Fail;
 

@@ -1,5 +1,6 @@
 //! `explain` as a whole: tables of explanations from outside, over sources and sinks in memory.
-use crate::cases::{Asked, Case, agrees, expect, expect_each, pieces, to_and_fro};
+use crate::expecting::{expect, expect_each};
+use program_cases::{Asked, Case, agrees, pieces, to_and_fro};
 use std::test::Fail;
 
 const TRIANGLE: &str = "time,x\n0,0\n5,5\n10,0\n";

@@ -1,5 +1,6 @@
 //! What the program refuses: formulas, bytes, texts that are too long, words of no form, and devices that fail, with what is told of it.
-use super::cases::{Asked, Case, Devices, agrees, checks, expect, expect_each, pieces};
+use crate::expecting::{expect, expect_each};
+use program_cases::{Asked, Case, Devices, agrees, checks, pieces};
 use std::alloc::{AllocError, Global};
 use std::process::Abort;
 use std::test::Fail;

@@ -1,5 +1,6 @@
 //! The verdicts of `check`, over sources and sinks in memory, with tables of answers from outside.
-use super::cases::{Asked, expect_each};
+use crate::expecting::expect_each;
+use program_cases::Asked;
 use std::test::Fail;
 
 const RISE: &str = "time,x\n0,0\n10,10\n";

@@ -1,5 +1,6 @@
 pub mod Fractions
 pub mod Wholes
+mod Carried
 mod Halving
 mod Making
 mod Rests

@@ -5,9 +5,10 @@ ghost use Rattle.stl_syntax.specs.Scaling.{scaled_node, has_large_constant};
 ghost use Rattle.stl_syntax.specs.WellFormed.{IsLeafInLimits, HasBounds, IsInOrder};
 
 use crate::Atom;
+use std::alloc::AllocError;
 
 /// A node of a formula; its children are named by their places in post-order.
-#[derive(Debug, Clone, Drop)]
+#[derive(Debug, Drop)]
 pub enum Node {
     Const(bool),
     Atom(Atom),
@@ -55,6 +56,28 @@ pub enum Node {
         low_in: bool,
         high_in: bool,
     },
+}
+
+impl Clone for Node {
+    ghost is_clone = { λ x y. y ≡ x };
+
+    #[rattlefmt::skip]
+    fn clone(&self) -> Result<Node, AllocError> {
+        Ok(match *self {
+            Node::Const(holds) => Node::Const(holds),
+            Node::Atom(ref atom) => Node::Atom(atom.clone()?),
+            Node::Not(of) => Node::Not(of),
+            Node::And(left, right) => Node::And(left, right),
+            Node::Or(left, right) => Node::Or(left, right),
+            Node::Implies(left, right) => Node::Implies(left, right),
+            Node::Until { left, right, low, high } => Node::Until { left, right, low, high },
+            Node::Eventually { of, low, high, low_in, high_in } => Node::Eventually { of, low, high, low_in, high_in },
+            Node::Always { of, low, high, low_in, high_in } => Node::Always { of, low, high, low_in, high_in },
+            Node::Since { left, right, low, high } => Node::Since { left, right, low, high },
+            Node::Once { of, low, high, low_in, high_in } => Node::Once { of, low, high, low_in, high_in },
+            Node::Historically { of, low, high, low_in, high_in } => Node::Historically { of, low, high, low_in, high_in },
+        })
+    }
 }
 
 impl Node {

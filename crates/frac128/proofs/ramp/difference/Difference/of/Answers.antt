@@ -1,35 +1,77 @@
-use Rattle.std.proofs.Common.{rules, to_z-of_z, ◌≡◌, pos, ◌≤◌, ◌^◌, arith, to_z, of_z, mul-le-mul}
-use Rattle.std.specs.Int.RustNames.{unsigned_abs}
-use Rattle.std.proofs.lemmas.Int.{ints}
+use Rattle.std.proofs.Common.{refl, ◌≡◌, pos, ◌≤◌, ◌^◌, arith, to_z, of_z, mul-le-mul}
 use mir.Syntax.{w128}
+use Rattle.frac128.proofs.Carried.{carried, widened_small, as_small}
 use Rattle.frac128.proofs.RampDifferences.{RampDifference, gap_of_ramps}
 use Rattle.frac128.proofs.ramp.difference.Difference.of.Goals as goal
 
+pub determinant-requires : goal.determinant-requires
+determinant-requires c =
+    let f = c.args.upper.now in
+    let g = c.args.lower.now in
+    let few : f.run ≤ 2 ^ 32 = omega arith in
+    let other_few : g.run ≤ 2 ^ 32 = omega arith in
+    let run = as_small _ (pos f.run) (2 ^ 32) (carried c.from-run.result (pos f.run) c.from-run.type_inv c.from-run.ensures) few in
+    let other_run =
+    as_small _ (pos g.run) (2 ^ 32) (carried c.from-other_run.result (pos g.run) c.from-other_run.type_inv c.from-other_run.ensures) other_few in
+    let a = as_small _ c.offset.result (2 ^ 66) (carried c.offset.result c.offset.result c.offset.type_inv refl) c.offset.ensures.small in
+    let b = as_small _ c.offset-2.result (2 ^ 66) (carried c.offset-2.result c.offset-2.result c.offset-2.type_inv refl) c.offset-2.ensures.small in
+    omega (arith, mul-le-mul a other_run, mul-le-mul b run)
+
+pub determinant-requires-2 : goal.determinant-requires-2
+determinant-requires-2 c =
+    let f = c.args.upper.now in
+    let g = c.args.lower.now in
+    let few : f.run ≤ 2 ^ 32 = omega arith in
+    let other_few : g.run ≤ 2 ^ 32 = omega arith in
+    let run = as_small _ (pos f.run) (2 ^ 32) (carried c.from-run.result (pos f.run) c.from-run.type_inv c.from-run.ensures) few in
+    let other_run =
+    as_small _ (pos g.run) (2 ^ 32) (carried c.from-other_run.result (pos g.run) c.from-other_run.type_inv c.from-other_run.ensures) other_few in
+    let rise =
+    as_small _ f.rise (2 ^ 31) (widened_small c.from.result f.rise (2 ^ 31) c.from.type_inv c.from.ensures f.small_rise (omega arith)) f.small_rise in
+    let other_rise =
+    as_small _ g.rise (2 ^ 31) (widened_small c.from-2.result g.rise (2 ^ 31) c.from-2.type_inv c.from-2.ensures g.small_rise (omega arith)) g.small_rise in
+    omega (arith, mul-le-mul rise other_run, mul-le-mul other_rise run)
+
 pub invariant_of-result : goal.invariant_of-result
 invariant_of-result c =
-    let a : unsigned_abs (to_z w128 (of_z w128 c.offset.result)) ≤ 2 ^ 66 = omega (arith, ints) in
-    let b : unsigned_abs (to_z w128 (of_z w128 c.offset-2.result)) ≤ 2 ^ 66 = omega (arith, ints) in
-    let run : unsigned_abs (to_z w128 (of_z w128 c.from-run.result)) ≤ 2 ^ 32 = omega (arith, ints) in
-    let other_run : unsigned_abs (to_z w128 (of_z w128 c.from-other_run.result)) ≤ 2 ^ 32 = omega (arith, ints) in
-    let rise : unsigned_abs (to_z w128 (of_z w128 c.from.result)) ≤ 2 ^ 31 = omega (arith, ints) in
-    let other_rise : unsigned_abs (to_z w128 (of_z w128 c.from-2.result)) ≤ 2 ^ 31 = omega (arith, ints) in
+    let f = c.args.upper.now in
+    let g = c.args.lower.now in
+    let few : f.run ≤ 2 ^ 32 = omega arith in
+    let other_few : g.run ≤ 2 ^ 32 = omega arith in
+    let run = as_small _ (pos f.run) (2 ^ 32) (carried c.from-run.result (pos f.run) c.from-run.type_inv c.from-run.ensures) few in
+    let other_run =
+    as_small _ (pos g.run) (2 ^ 32) (carried c.from-other_run.result (pos g.run) c.from-other_run.type_inv c.from-other_run.ensures) other_few in
+    let a = as_small _ c.offset.result (2 ^ 66) (carried c.offset.result c.offset.result c.offset.type_inv refl) c.offset.ensures.small in
+    let b = as_small _ c.offset-2.result (2 ^ 66) (carried c.offset-2.result c.offset-2.result c.offset-2.type_inv refl) c.offset-2.ensures.small in
+    let rise =
+    as_small _ f.rise (2 ^ 31) (widened_small c.from.result f.rise (2 ^ 31) c.from.type_inv c.from.ensures f.small_rise (omega arith)) f.small_rise in
+    let other_rise =
+    as_small _ g.rise (2 ^ 31) (widened_small c.from-2.result g.rise (2 ^ 31) c.from-2.type_inv c.from-2.ensures g.small_rise (omega arith)) g.small_rise in
+    let base = carried c.determinant.result c.determinant.result c.determinant.type_inv refl in
+    let climb = carried c.determinant-2.result c.determinant-2.result c.determinant-2.type_inv refl in
     record {
-      small_base = omega (arith, ints, mul-le-mul a other_run, mul-le-mul b run, c.determinant.ensures.small);
-      small_climb = omega (arith, ints, mul-le-mul rise other_run, mul-le-mul other_rise run, c.determinant-2.ensures.small);
+      small_base = as_small _ c.determinant.result (2 ^ 99) base (omega (arith, mul-le-mul a other_run, mul-le-mul b run, c.determinant.ensures.small));
+      small_climb = as_small _ c.determinant-2.result (2 ^ 64) climb
+      (omega (arith, mul-le-mul rise other_run, mul-le-mul other_rise run, c.determinant-2.ensures.small));
     }
 
 pub returns : goal.returns
 returns c =
     let f = c.args.upper.now in
     let g = c.args.lower.now in
-    let run : to_z w128 (of_z w128 c.from-run.result) ≡ pos f.run = omega (arith, ints) in
-    let other_run : to_z w128 (of_z w128 c.from-other_run.result) ≡ pos g.run = omega (arith, ints) in
-    let rise : to_z w128 (of_z w128 c.from.result) ≡ f.rise = omega (arith, ints) in
-    let other_rise : to_z w128 (of_z w128 c.from-2.result) ≡ g.rise = omega (arith, ints) in
-    let offset : to_z w128 (of_z w128 c.offset.result) ≡ c.offset.result = search (rules, to_z-of_z) in
-    let other_offset : to_z w128 (of_z w128 c.offset-2.result) ≡ c.offset-2.result = search (rules, to_z-of_z) in
-    let base : to_z w128 (of_z w128 c.determinant.result) ≡ c.determinant.result = search (rules, to_z-of_z) in
-    let climb : to_z w128 (of_z w128 c.determinant-2.result) ≡ c.determinant-2.result = search (rules, to_z-of_z) in
+    let run : to_z w128 (of_z w128 c.from-run.result) ≡ pos f.run = carried c.from-run.result (pos f.run) c.from-run.type_inv c.from-run.ensures in
+    let other_run : to_z w128 (of_z w128 c.from-other_run.result) ≡ pos g.run =
+    carried c.from-other_run.result (pos g.run) c.from-other_run.type_inv c.from-other_run.ensures in
+    let rise : to_z w128 (of_z w128 c.from.result) ≡ f.rise =
+    widened_small c.from.result f.rise (2 ^ 31) c.from.type_inv c.from.ensures f.small_rise (omega arith) in
+    let other_rise : to_z w128 (of_z w128 c.from-2.result) ≡ g.rise =
+    widened_small c.from-2.result g.rise (2 ^ 31) c.from-2.type_inv c.from-2.ensures g.small_rise (omega arith) in
+    let offset : to_z w128 (of_z w128 c.offset.result) ≡ c.offset.result = carried c.offset.result c.offset.result c.offset.type_inv refl in
+    let other_offset : to_z w128 (of_z w128 c.offset-2.result) ≡ c.offset-2.result = carried c.offset-2.result c.offset-2.result c.offset-2.type_inv refl in
+    let base : to_z w128 (of_z w128 c.determinant.result) ≡ c.determinant.result =
+    carried c.determinant.result c.determinant.result c.determinant.type_inv refl in
+    let climb : to_z w128 (of_z w128 c.determinant-2.result) ≡ c.determinant-2.result =
+    carried c.determinant-2.result c.determinant-2.result c.determinant-2.type_inv refl in
     let r : RampDifference f g c.offset.result c.offset-2.result c.determinant.result c.determinant-2.result = record {
       first = c.offset.ensures.value;
       second = c.offset-2.ensures.value;
