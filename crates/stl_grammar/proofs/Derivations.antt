@@ -60,11 +60,17 @@ right_binds by_and = 4
 right_binds by_or = 3
 right_binds by_implies = 1
 
--- each binds, and its left side more tightly than `implies`
+-- each binds
 pub one_binds : (o : Connective) → 1 ≤ binds o
 one_binds by_and = omega arith
 one_binds _ = omega arith
 
+-- and less than an operator with a bound
+pub has_three : (o : Connective) → binds o ≤ 3
+has_three by_and = omega arith
+has_three _ = omega arith
+
+-- its left side is no `implies`
 pub left_two : (o : Connective) → 2 ≤ left_binds o
 left_two by_and = omega arith
 left_two _ = omega arith
@@ -145,6 +151,12 @@ mutual
         → Operand s k ts ns → Bounded s.time (owner of) us a b x y → Operand s (k + length ns) vs ms
         → Derived s r k (ts ++ word (timed_word of) ∷ (us ++ vs)) (ns ++ ms ++ timed_node of a b x y (top k ns) (top (k + length ns) ms) ∷ [])
     alone : {r k : ℕ} {ts : List Token} {ns : List Node} → Operand s k ts ns → Derived s r k ts ns
+
+-- what binds tightly binds less tightly too
+pub looser : {s : Scale} {r r' k : ℕ} {ts : List Token} {ns : List Node} → r ≤ r' → Derived s r' k ts ns → Derived s r k ts ns
+looser l (joined o m d e) = joined o (omega arith) d e
+looser l (beside of i m p w q) = beside of i (omega arith) p w q
+looser l (alone p) = alone p
 
 -- bounds of the grammar are those of the table
 either_opens : {o : Owner} {t : Token} {x : Bool} → may_be_open o ≡ true → IsOpening t x → Opens o t x

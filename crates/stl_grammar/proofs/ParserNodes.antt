@@ -1,6 +1,6 @@
 -- A parser that has taken a formula's tokens keeps the formula's nodes.
 use Rattle.std.proofs.Common.{◌≡◌, ℕ, suc, ◌+◌, ◌-◌, ◌<◌, ◌≤◌, List, [], ◌∷◌, ◌++◌, length, refl, ap, sym, ◌∙◌}
-use Rattle.std.proofs.Common.{Bool, true, false, arith, append_assoc, length-append, inl, inr, ◌⊎◌, ◌||◌}
+use Rattle.std.proofs.Common.{Bool, true, false, arith, append_assoc, length-append, max, ◌||◌, if◌then◌else◌}
 use Rattle.std.specs.Prelude.{codes, reverse, nat_le, nat_lt, ℤ, Option, Some, None}
 use Rattle.std.proofs.lemmas.List.{append-nil}
 use Rattle.std.proofs.lemmas.Bool.{or_parts}
@@ -19,40 +19,40 @@ use Rattle.stl_grammar.specs.Machine as Machine
 use Rattle.stl_grammar.specs.Machine.{looks_back}
 use Rattle.stl_grammar.specs.Spelling.{Spells}
 use Rattle.stl_grammar.specs.Taken.{Taken}
-use Rattle.stl_grammar.specs.Drafts.{ticks_of, past_low, past_high, past_low_in, past_high_in, one_in, two_in, nodes_in}
-use Rattle.stl_grammar.specs.Parsing.{Parse, infix_rank, rank, top_rank, node_of_frame, folded_drafts, folded_frames}
-use Rattle.stl_grammar.specs.Parsing.{folded, coefficient, signed, may_be_open, back, bounded_frame, back_frame, parse_step}
-use Rattle.stl_grammar.specs.Parsing.{between}
-use Rattle.stl_grammar.specs.Refusing.{bad_in}
+use Rattle.stl_grammar.specs.Drafts.{ticks_of, past_low, past_high, past_low_in, past_high_in, node_in, nodes_in}
+use Rattle.stl_grammar.specs.Parsing.{Parse, rank, top_rank, node_of_frame, folded_drafts, folded_frames}
+use Rattle.stl_grammar.specs.Parsing.{folded, coefficient, signed, back, bounded_frame, back_frame, parse_step, between}
+use Rattle.stl_grammar.specs.Refusing.{bad_in, owner, back_owner, is_beside}
 use Rattle.stl_grammar.specs.declared.decimal.Decimal.{Decimal}
-use Rattle.stl_grammar.specs.declared.token.Keyword.TheVariants.{True, False, Not, And, Or, Implies, Until, Since, Eventually, Always, Once, Historically, Inf}
+use Rattle.stl_grammar.specs.declared.token.Keyword.TheVariants.{Not, Inf}
 use Rattle.stl_grammar.specs.declared.token.Token.{Token as Code}
 use Rattle.stl_grammar.specs.declared.token.Token.TheVariants.{Keyword as IsKeyword, Number, Relation, OpenParen, CloseParen}
 use Rattle.stl_grammar.specs.declared.token.Token.TheVariants.{OpenBracket, CloseBracket, Comma, Star, Plus, Minus}
 use Rattle.stl_grammar.specs.declared.draft.Window.{Window}
 use Rattle.stl_grammar.specs.declared.draft.PastBound.{PastBound}
-use Rattle.stl_grammar.specs.declared.draft.PastBound.TheVariants.{Whole, From, Within}
-use Rattle.stl_grammar.specs.declared.draft.Prefix.{Prefix}
-use Rattle.stl_grammar.specs.declared.draft.Prefix.TheVariants.{Not as Negation, Eventually as AtSome, Always as AtEach}
-use Rattle.stl_grammar.specs.declared.draft.Prefix.TheVariants.{Once as BackAtSome, Historically as BackAtEach}
+use Rattle.stl_grammar.specs.declared.draft.PastBound.TheVariants.{Whole, From}
+use Rattle.stl_grammar.specs.declared.draft.Prefix.TheVariants.{Not as Negation}
 use Rattle.stl_grammar.specs.declared.draft.Infix.{Infix}
-use Rattle.stl_grammar.specs.declared.draft.Infix.TheVariants.{And as Both, Or as Either, Implies as Then, Until as UpTo, Since as After}
+use Rattle.stl_grammar.specs.declared.draft.Infix.TheVariants.{And as Both, Or as Either, Implies as Then}
 use Rattle.stl_grammar.specs.declared.draft.Frame.{Frame}
 use Rattle.stl_grammar.specs.declared.draft.Frame.TheVariants.{Paren as Opened, Prefix as Before, Infix as Between}
 use Rattle.stl_grammar.specs.declared.draft.Draft.{Draft}
-use Rattle.stl_grammar.specs.declared.draft.Draft.TheVariants.{Const, Sum, One, Two}
+use Rattle.stl_grammar.specs.declared.draft.Draft.TheVariants.{Const, Sum}
 use Rattle.stl_grammar.specs.declared.place.Timed.{Timed}
-use Rattle.stl_grammar.specs.declared.place.Timed.TheVariants.{Until as TUntil, Since as TSince, Eventually as TEventually}
-use Rattle.stl_grammar.specs.declared.place.Timed.TheVariants.{Always as TAlways, Once as TOnce, Historically as THistorically}
+use Rattle.stl_grammar.specs.declared.place.Timed.TheVariants.{Until as TUntil, Since as TSince, Once as TOnce, Historically as THistorically}
 use Rattle.stl_grammar.specs.declared.place.Back.{Back}
 use Rattle.stl_grammar.specs.declared.place.Back.TheVariants.{Since as BSince, Once as BOnce, Historically as BHistorically}
 use Rattle.stl_grammar.specs.declared.place.Place.{Place}
-use Rattle.stl_grammar.specs.declared.place.Place.TheVariants.{Operand, Bound, Low, Comma as AtComma, High, Closing}
+use Rattle.stl_grammar.specs.declared.place.Place.TheVariants.{Operand as AtOperand, Bound, Low, Comma as AtComma, High, Closing}
 use Rattle.stl_grammar.specs.declared.place.Place.TheVariants.{ClosingInf, Term as AtTerm, Star as AtStar, Name as AtName}
 use Rattle.stl_grammar.specs.declared.place.Place.TheVariants.{Sign, Constant, Number as AtNumber, End}
-use Rattle.stl_grammar.proofs.BuildLemmas.{nodes_in-append, length-nodes_in}
-use Rattle.stl_grammar.proofs.OneParse.{begins_bracket, operand_bracket, operand_length}
 use Rattle.stl_grammar.specs.FormulaRefusals.{MayEnd}
+use Rattle.stl_grammar.proofs.BuildLemmas.{nodes_in-append, length-nodes_in}
+use Rattle.stl_grammar.proofs.Derivations.{Connective, by_and, by_or, by_implies, connective_keyword, connective_word, connective_node, binds}
+use Rattle.stl_grammar.proofs.Derivations.{left_binds, right_binds, timed_keyword, timed_word, timed_node, constant_keyword, constant_word}
+use Rattle.stl_grammar.proofs.Derivations.{Opens, opens_in, opens_out, Closes, closes_in, closes_out, Bounded, left_out, within, endless}
+use Rattle.stl_grammar.proofs.Derivations.{Operand, negated, prefixed, constant, enclosed, compared, Derived, joined, beside, alone, formula_derived}
+use Rattle.stl_grammar.proofs.Derivations.{is_bracket, operand_begins}
 use Rattle.stl_grammar.proofs.Rescaled.{rescaled}
 use Rattle.stl_grammar.proofs.ParserReads.{Reads, reads, taken_reads, reads_split, reads_none, keyword_spelled, relation_spelled}
 use Rattle.stl_grammar.proofs.ParserReads.{open_paren_spelled, close_paren_spelled, open_bracket_spelled, close_bracket_spelled}
@@ -149,9 +149,6 @@ one_ends s k ns frames drafts q f x e r h (xs, j, i, g) =
     )
 
 -- bounds
-window : Decimal → Decimal → Bool → Bool → Window
-window low high low_in high_in = record { low = low; high = high; low_in = low_in; high_in = high_in }
-
 -- the steps of a bound whose end is out
 opening_step : (text : List ℕ) (of : Timed) (frames : List Frame) (drafts : List Draft) (n : ℕ) → Machine.may_be_open (owner of) ≡ true
     → parse_step text (at (Bound of) frames drafts [] n) CloseBracket ≡ Some (at (Low of false) frames drafts [] n)
@@ -161,29 +158,36 @@ opening_step text _ frames drafts n e = refl
 
 closing_step : (text : List ℕ) (of : Timed) (x : Bool) (low high : Decimal) (frames : List Frame) (drafts : List Draft) (n : ℕ)
     → Machine.may_be_open (owner of) ≡ true → parse_step text (at (Closing of x low high) frames drafts [] n) OpenBracket
-    ≡ Some (at Operand (bounded_frame of (record { low = low; high = high; low_in = x; high_in = false }) (length drafts - 1) ∷ frames) drafts [] n)
+    ≡ Some (at AtOperand (bounded_frame of (record { low = low; high = high; low_in = x; high_in = false }) (length drafts - 1) ∷ frames) drafts [] n)
 closing_step text TUntil x low high frames drafts n e = absurd (cc)
 closing_step text TSince x low high frames drafts n e = absurd (cc)
 closing_step text _ x low high frames drafts n e = refl
 
 past_step : (text : List ℕ) (b : Back) (x : Bool) (low : Decimal) (frames : List Frame) (drafts : List Draft) (n : ℕ)
     → Machine.may_be_open (back_owner b) ≡ true → parse_step text (at (ClosingInf b x low) frames drafts [] n) OpenBracket
-    ≡ Some (at Operand (back_frame b (From low x) (length drafts - 1) ∷ frames) drafts [] n)
+    ≡ Some (at AtOperand (back_frame b (From low x) (length drafts - 1) ∷ frames) drafts [] n)
 past_step text BSince x low frames drafts n e = absurd (cc)
 past_step text _ x low frames drafts n e = refl
 
-skip_step : (text : List ℕ) (of : Timed) (b : Back) (c : Code) (frames : List Frame) (drafts : List Draft) (n : ℕ) → back of ≡ Some b → is_bracket c ≡ false
-    → parse_step text (at (Bound of) frames drafts [] n) c ≡ parse_step text (at Operand (back_frame b Whole (length drafts - 1) ∷ frames) drafts [] n) c
+is_code_bracket : Code → Bool
+is_code_bracket OpenBracket = true
+is_code_bracket CloseBracket = true
+is_code_bracket _ = false
+
+skip_step : (text : List ℕ) (of : Timed) (b : Back) (c : Code) (frames : List Frame) (drafts : List Draft) (n : ℕ) → back of ≡ Some b → is_code_bracket c ≡ false
+    → parse_step text (at (Bound of) frames drafts [] n) c ≡ parse_step text (at AtOperand (back_frame b Whole (length drafts - 1) ∷ frames) drafts [] n) c
+unfolding is_code_bracket
 skip_step text of b OpenBracket frames drafts n e f = absurd (cc)
 skip_step text of b CloseBracket frames drafts n e f = absurd (cc)
 skip_step text of b (IsKeyword w) frames drafts n e f = rw e refl
 skip_step text of b _ frames drafts n e f = rw e refl
 
-bad_skips : (of : Timed) (c : Code) → bad_in (Bound of) c ≡ false → bad_in Operand c ≡ false
+bad_skips : (of : Timed) (c : Code) → bad_in (Bound of) c ≡ false → bad_in AtOperand c ≡ false
 bad_skips of (Number d) e = e
 bad_skips of _ e = refl
 
-spelled_bracket : (text : List ℕ) (c : Code) (t : Token) → Spells text c t → Derivations.is_bracket t ≡ false → is_bracket c ≡ false
+spelled_bracket : (text : List ℕ) (c : Code) (t : Token) → Spells text c t → is_bracket t ≡ false → is_code_bracket c ≡ false
+unfolding is_code_bracket
 spelled_bracket text OpenBracket t h e = let x = rw h at e in absurd (cc)
 spelled_bracket text CloseBracket t h e = let x = rw h at e in absurd (cc)
 spelled_bracket text _ t h e = refl
@@ -245,14 +249,14 @@ module _ (text : List ℕ) (frames : List Frame) (drafts : List Draft) (n : ℕ)
 
   closes_bound : {q : Parse} {t : Token} {ts : List Token} {y : Bool} (of : Timed) (x : Bool) (low high : Decimal) → Closes (owner of) t y
       → Reads text (at (Closing of x low high) frames drafts [] n) (t ∷ ts) q
-      → Reads text (at Operand (bounded_frame of (record { low = low; high = high; low_in = x; high_in = y }) (length drafts - 1) ∷ frames) drafts [] n) ts q
+      → Reads text (at AtOperand (bounded_frame of (record { low = low; high = high; low_in = x; high_in = y }) (length drafts - 1) ∷ frames) drafts [] n) ts q
   closes_bound of x low high closes_in r = stepped r CloseBracket _ (λ c h. close_bracket_spelled text c h) refl
   closes_bound of x low high (closes_out e) r =
       stepped r OpenBracket _ (λ c h. open_bracket_spelled text c h) (closing_step text of x low high frames drafts n e)
 
   closes_inf : {q : Parse} {t : Token} {ts : List Token} {y : Bool} (b : Back) (x : Bool) (low : Decimal) → Closes (back_owner b) t y
       → Reads text (at (ClosingInf b x low) frames drafts [] n) (t ∷ ts) q
-      → Reads text (at Operand (back_frame b (From low x) (length drafts - 1) ∷ frames) drafts [] n) ts q
+      → Reads text (at AtOperand (back_frame b (From low x) (length drafts - 1) ∷ frames) drafts [] n) ts q
   closes_inf b x low closes_in r = stepped r CloseBracket _ (λ c h. close_bracket_spelled text c h) refl
   closes_inf b x low (closes_out e) r = stepped r OpenBracket _ (λ c h. open_bracket_spelled text c h) (past_step text b x low frames drafts n e)
 
@@ -273,15 +277,15 @@ module _ (text : List ℕ) (frames : List Frame) (drafts : List Draft) (n : ℕ)
   -- a bound leaves the frame of its operator
   bound_reads : {digits a : ℕ} {b : Option ℕ} {us ts : List Token} {x y : Bool} {q : Parse} {s : Scale} {k : ℕ} {ns : List Node} (of : Timed)
       → Bounded digits (owner of) us a b x y → Operand s k ts ns → Reads text (at (Bound of) frames drafts [] n) (us ++ ts) q
-      → (f : Frame) × HasFrame digits (length drafts - 1) of a b x y f × Reads text (at Operand (f ∷ frames) drafts [] n) ts q
+      → (f : Frame) × HasFrame digits (length drafts - 1) of a b x y f × Reads text (at AtOperand (f ∷ frames) drafts [] n) ts q
   bound_reads {digits} of (left_out e) p r =
       let (b, f) = looking_back of e in
       let g = operand_begins p in
       rw f (back_frame b Whole (length drafts - 1), behind b Whole, rw g.is (skips b g.head g.rest g.other (rw (f, g.is) at r)))
     where
-      skips : {q : Parse} (b : Back) (t : Token) (ts : List Token) → Derivations.is_bracket t ≡ false
+      skips : {q : Parse} (b : Back) (t : Token) (ts : List Token) → is_bracket t ≡ false
           → Reads text (at (Bound (back_timed b)) frames drafts [] n) (t ∷ ts) q
-          → Reads text (at Operand (back_frame b Whole (length drafts - 1) ∷ frames) drafts [] n) (t ∷ ts) q
+          → Reads text (at AtOperand (back_frame b Whole (length drafts - 1) ∷ frames) drafts [] n) (t ∷ ts) q
       skips b t ts f (reads c h g s r) =
           reads c h (bad_skips (back_timed b) c g)
           (sym (skip_step text (back_timed b) b c frames drafts n (back_is b) (spelled_bracket text c t h f)) ∙ s) r
@@ -289,21 +293,25 @@ module _ (text : List ℕ) (frames : List Frame) (drafts : List Draft) (n : ℕ)
       let (low, e, l) = lower_reads of x (opens_bound of o r) in
       let (high, f, m) = upper_reads of x low l in
       let w : Window = record { low = low; high = high; low_in = x; high_in = y } in
-      (bounded_frame of w (length drafts - 1), rw (e digits, f digits) at (ahead {digits = digits} {left = length drafts - 1} of w), closes_bound of x low high c m)
-  bound_reads {digits} of (endless {x = x} e o c) p r =
+      let d : HasFrame digits (length drafts - 1) of (ticks_of digits low) (Some (ticks_of digits high)) x y (bounded_frame of w (length drafts - 1)) = ahead of w in
+      (bounded_frame of w (length drafts - 1), rw (e digits, f digits) at d, closes_bound of x low high c m)
+  bound_reads {digits} {ts = ts} of (endless {a = a} {j} {x = x} e o c) p r =
       let (b, f) = looking_back of e in
       rw f (behind_reads b (rw f at o) (rw f at c) (rw f at r))
     where
       behind_reads : {q : Parse} {t u : Token} {y : Bool} (b : Back) → Opens (owner (back_timed b)) t x → Closes (owner (back_timed b)) u y
           → Reads text (at (Bound (back_timed b)) frames drafts [] n) (t ∷ number a j ∷ comma ∷ word (codes "inf") ∷ u ∷ ts) q
           → (f : Frame) × HasFrame digits (length drafts - 1) (back_timed b) (ticks digits a j) None x true f
-          × Reads text (at Operand (f ∷ frames) drafts [] n) ts q
-      behind_reads b o c r =
+          × Reads text (at AtOperand (f ∷ frames) drafts [] n) ts q
+      behind_reads {u = u} {y} b o c r =
+          let z : Closes (back_owner b) u y = rw (back_owner_is b) c in
           let (low, e, l) = lower_reads (back_timed b) x (opens_bound (back_timed b) o r) in
+          let d : HasFrame digits (length drafts - 1) (back_timed b) (ticks_of digits low) None x true (back_frame b (From low x) (length drafts - 1)) =
+          behind b (From low x) in
           let m = stepped l (IsKeyword Inf) (at (ClosingInf b x low) frames drafts [] n) (λ c h. keyword_spelled text Inf c h) (rw (back_is b) refl) in (
             back_frame b (From low x) (length drafts - 1),
-            rw (e digits) at (behind {digits = digits} {left = length drafts - 1} b (From low x)),
-            closes_inf b x low (rw (back_owner_is b) c) m,
+            rw (e digits) at d,
+            closes_inf b x low z m,
           )
 
   -- terms
@@ -330,7 +338,7 @@ module _ (text : List ℕ) (frames : List Frame) (drafts : List Draft) (n : ℕ)
       (m.3 (at Sign frames drafts (terms ++ term_of less (coefficient u.0) (between m.0 m.1 text) ∷ []) n) refl)
 
   first_reads : {ts : List Token} {k : ℕ} {w : List ℕ} {q : Parse} (us : List Token) → IsTerm ts k w
-      → Reads text (at Operand frames drafts [] n) (ts ++ us) q → Reads text (at Sign frames drafts (term_of false k w ∷ []) (suc n)) us q
+      → Reads text (at AtOperand frames drafts [] n) (ts ++ us) q → Reads text (at Sign frames drafts (term_of false k w ∷ []) (suc n)) us q
   first_reads us (term_name g) r =
       let m = stepped_name g r in
       rw (ap (λ z. at Sign frames drafts (term_of false 1 z ∷ []) (suc n)) m.2) at
@@ -376,7 +384,7 @@ module _ (text : List ℕ) (frames : List Frame) (drafts : List Draft) (n : ℕ)
       (d ∷ [], n, rw (u.1, u.2) refl, sym (reads_none (u.4 (folded 5 (at End frames (drafts ++ d ∷ []) [] n)) refl)))
 
 module _ (text : List ℕ) (frames : List Frame) (drafts : List Draft) (n : ℕ) where
-  atom_reads : (s : Scale) {q : Parse} {ts : List Token} {a : Atom} → IsAtom s.value ts a → Reads text (at Operand frames drafts [] n) ts q
+  atom_reads : (s : Scale) {q : Parse} {ts : List Token} {a : Atom} → IsAtom s.value ts a → Reads text (at AtOperand frames drafts [] n) ts q
       → OperandEnds s (Leaf a ∷ []) frames drafts q
   atom_reads s (first {k = k} {w = w} {ts = ts} {us = us} {vs = vs} {terms = more} {rel = rel} t u c) r =
       let x = first_reads text frames drafts n (us ++ relation rel ∷ vs) t (rw (append_assoc ts us (relation rel ∷ vs)) at r) in
@@ -392,7 +400,7 @@ module _ (text : List ℕ) (frames : List Frame) (drafts : List Draft) (n : ℕ)
           constant_reads text frames drafts (suc n) s terms rel c
           (stepped y (Relation rel) (at (Constant rel) frames drafts terms (suc n)) (λ c h. relation_spelled text rel c h) refl)
 
-      signed_reads : {us : List Token} {q : Parse} {t : Term} → AreTerms us (t ∷ more) → Reads text (at Operand frames drafts [] n) (us ++ relation rel ∷ vs) q
+      signed_reads : {us : List Token} {q : Parse} {t : Term} → AreTerms us (t ∷ more) → Reads text (at AtOperand frames drafts [] n) (us ++ relation rel ∷ vs) q
           → OperandEnds s (Leaf (record { terms = t ∷ more; rel = rel; limit = lim }) ∷ []) frames drafts q
       signed_reads (more_plus {k = k} {w = w} {ts = ts} {us = us} i j) r =
           let x = stepped r Plus (at (AtTerm false) frames drafts [] (suc n)) (λ c h. plus_spelled text c h) refl in
@@ -467,12 +475,12 @@ has_room by_implies = record { left = omega arith; two = omega arith; few = omeg
 
 connective_step : (text : List ℕ) (o : Connective) (m : Parse) (frames : List Frame) (drafts : List Draft) → top_rank frames < left_binds o
     → Ended (left_binds o) m frames drafts → parse_step text m (IsKeyword (connective_keyword o))
-    ≡ Some (at Operand (Between (infix_of o) (length drafts - 1) ∷ frames) drafts [] (suc m.made))
+    ≡ Some (at AtOperand (Between (infix_of o) (length drafts - 1) ∷ frames) drafts [] (suc m.made))
 connective_step text o m frames drafts l e = ap (λ z. parse_step text z (IsKeyword (connective_keyword o))) (parts m e.place e.terms) ∙ by_word o l e
   where
     by_word : (o : Connective) → top_rank frames < left_binds o → Ended (left_binds o) m frames drafts
         → parse_step text (at End m.frames m.drafts [] m.made) (IsKeyword (connective_keyword o))
-        ≡ Some (at Operand (Between (infix_of o) (length drafts - 1) ∷ frames) drafts [] (suc m.made))
+        ≡ Some (at AtOperand (Between (infix_of o) (length drafts - 1) ∷ frames) drafts [] (suc m.made))
     by_word by_and l e = rw (e.frame ∙ frames_stay 3 frames l, e.draft ∙ drafts_stay 3 frames drafts l) refl
     by_word by_or l e = rw (e.frame ∙ frames_stay 2 frames l, e.draft ∙ drafts_stay 2 frames drafts l) refl
     by_word by_implies l e = rw (e.frame ∙ frames_stay 2 frames l, e.draft ∙ drafts_stay 2 frames drafts l) refl
@@ -485,7 +493,7 @@ beside_step text TSince frames drafts n e l = let f : nat_le 4 (top_rank frames)
 beside_step text _ frames drafts n e l = absurd (cc)
 
 before_step : (text : List ℕ) (of : Timed) (frames : List Frame) (drafts : List Draft) (n : ℕ) → is_beside of ≡ false
-    → parse_step text (at Operand frames drafts [] n) (IsKeyword (timed_keyword of)) ≡ Some (at (Bound of) frames drafts [] (suc n))
+    → parse_step text (at AtOperand frames drafts [] n) (IsKeyword (timed_keyword of)) ≡ Some (at (Bound of) frames drafts [] (suc n))
 before_step text TUntil frames drafts n e = absurd (cc)
 before_step text TSince frames drafts n e = absurd (cc)
 before_step text _ frames drafts n e = refl
@@ -496,7 +504,7 @@ before_node TSince a b x y p q e = absurd (cc)
 before_node _ a b x y p q e = refl
 
 constant_step : (text : List ℕ) (b : Bool) (frames : List Frame) (drafts : List Draft) (n : ℕ)
-    → parse_step text (at Operand frames drafts [] n) (IsKeyword (constant_keyword b)) ≡ Some (folded 5 (at End frames (drafts ++ Const b ∷ []) [] (suc n)))
+    → parse_step text (at AtOperand frames drafts [] n) (IsKeyword (constant_keyword b)) ≡ Some (folded 5 (at End frames (drafts ++ Const b ∷ []) [] (suc n)))
 constant_step text true frames drafts n = refl
 constant_step text false frames drafts n = refl
 
@@ -509,7 +517,7 @@ module _ (text : List ℕ) (s : Scale) where
   mutual
     derived_left : {r k : ℕ} {ts : List Token} {ns : List Node} → Derived s r k ts ns → r ≤ 5
         → (frames : List Frame) (drafts : List Draft) (n : ℕ) (q : Parse) → top_rank frames < max 2 r
-        → length drafts ≡ k → Reads text (at Operand frames drafts [] n) ts q → Leaves s r ns frames drafts q
+        → length drafts ≡ k → Reads text (at AtOperand frames drafts [] n) ts q → Leaves s r ns frames drafts q
     derived_left {r} {k} (joined o {ts = ts} {us} {ns} {ms} i d d') five frames drafts n q l e t =
         let room = has_room o in
         let sp = reads_split ts (word (connective_word o) ∷ us) t in
@@ -517,7 +525,7 @@ module _ (text : List ℕ) (s : Scale) where
         let (xs, g, h) = derived_left d (omega (arith, room.few)) frames drafts n sp.0 (omega (arith, m, room.two)) e sp.1 in
         let f : Frame = Between (infix_of o) (length (drafts ++ xs) - 1) in
         let b : rank f ≡ binds o = infix_binds o (length (drafts ++ xs) - 1) in
-        let step = stepped sp.2 (IsKeyword (connective_keyword o)) (at Operand (f ∷ frames) (drafts ++ xs) [] (suc sp.0.made))
+        let step = stepped sp.2 (IsKeyword (connective_keyword o)) (at AtOperand (f ∷ frames) (drafts ++ xs) [] (suc sp.0.made))
         (λ c j. keyword_spelled text (connective_keyword o) c j) (connective_step text o sp.0 frames (drafts ++ xs) m h) in
         let (ys, j, y) = derived_left d' room.last (f ∷ frames) (drafts ++ xs) (suc sp.0.made) q (omega (arith, b, room.right)) (count_is s k drafts xs ns e g) step in
         two_ends s k r ns ms frames drafts xs ys q f (connective_node o) e g j (λ last. infix_node s o (length (drafts ++ xs) - 1) last) (omega (arith, b, i))
@@ -540,9 +548,9 @@ module _ (text : List ℕ) (s : Scale) where
 
     operand_left : {k : ℕ} {ts : List Token} {ns : List Node} → Operand s k ts ns
         → (frames : List Frame) (drafts : List Draft) (n : ℕ) (q : Parse) → length drafts ≡ k
-        → Reads text (at Operand frames drafts [] n) ts q → OperandEnds s ns frames drafts q
+        → Reads text (at AtOperand frames drafts [] n) ts q → OperandEnds s ns frames drafts q
     operand_left {k} (negated {ns = ns} p) frames drafts n q e r =
-        let step = stepped r (IsKeyword Not) (at Operand (Before Negation ∷ frames) drafts [] (suc n)) (λ c h. keyword_spelled text Not c h) refl in
+        let step = stepped r (IsKeyword Not) (at AtOperand (Before Negation ∷ frames) drafts [] (suc n)) (λ c h. keyword_spelled text Not c h) refl in
         one_ends s k ns frames drafts q (Before Negation) _ e refl refl (operand_left p (Before Negation ∷ frames) drafts (suc n) q e step)
     operand_left {k} (prefixed of {a = a} {b} {x} {y} {ns = ns} i w p) frames drafts n q e r =
         let step = stepped r (IsKeyword (timed_keyword of)) (at (Bound of) frames drafts [] (suc n)) (λ c h. keyword_spelled text (timed_keyword of) c h)
@@ -555,7 +563,7 @@ module _ (text : List ℕ) (s : Scale) where
         (λ c h. keyword_spelled text (constant_keyword b) c h) (constant_step text b frames drafts n) in
         (Const b ∷ [], suc n, refl, sym (reads_none step))
     operand_left (enclosed {ts = ts} d) frames drafts n q e r =
-        let step = stepped r OpenParen (at Operand (Opened ∷ frames) drafts [] n) (λ c h. open_paren_spelled text c h) refl in
+        let step = stepped r OpenParen (at AtOperand (Opened ∷ frames) drafts [] n) (λ c h. open_paren_spelled text c h) refl in
         let sp = reads_split ts (close_paren ∷ []) step in
         let (xs, g, h) = derived_left d (omega arith) (Opened ∷ frames) drafts n sp.0 (omega arith) e sp.1 in
         let end = stepped sp.2 CloseParen (folded 5 (at End frames (drafts ++ xs) [] sp.0.made)) (λ c j.

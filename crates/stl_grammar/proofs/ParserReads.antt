@@ -62,6 +62,10 @@ unfolding keyword_of
 spelled True = refl
 spelled _ = refl
 
+-- a word is spelled as no other
+pub spelling_same : (w v : Keyword) → spelling w ≡ spelling v → w ≡ v
+spelling_same w v e = let f : Some w ≡ Some v = sym (spelled w) ∙ (ap keyword_of e ∙ spelled v) in cc
+
 spelled_reserved : (w : Keyword) → is_among (spelling w) reserved ≡ true
 spelled_reserved True = refl
 spelled_reserved _ = refl
@@ -85,9 +89,7 @@ spelled_number d t h = split (nat_le d.decimals 6) refl
 -- the code of a word of the grammar
 pub keyword_spelled : (text : List ℕ) (w : Keyword) (c : Code) → Spells text c (word (spelling w)) → c ≡ IsKeyword w
 keyword_spelled text w (IsKeyword v) h =
-    let e : spelling w ≡ spelling v = cc in
-    let f : Some w ≡ Some v = sym (spelled w) ∙ (ap keyword_of e ∙ spelled v) in
-    cc
+    let e : spelling w ≡ spelling v = cc in ap (λ z. IsKeyword z) (sym (spelling_same w v e))
 keyword_spelled text w (Name from to) h =
     let e : spelling w ≡ h.0 = cc (h.1) in
     let g : IsTrue (is_name (spelling w)) = rw e h.2.good in
