@@ -96,7 +96,7 @@ record TimedHole (pre : List Token) : Type 0 where
   disjuncts : Fills (Binds 3) (Binds 2) p
   conjuncts : Fills (Binds 4) (Binds 3) c
 
-no_hole : TimedHole []
+abbrev no_hole : TimedHole []
 no_hole = record {
   q = [];
   p = [];
@@ -209,7 +209,7 @@ right_beside : (of : Timed) → is_beside of ≡ true → (us bs : List Token) �
 right_beside of i us bs p f = record {
   fills = λ vs v k.
       let x = p k in let y = v (k + length x.0) in
-      rw (append_assoc us (word (timed_word of) ∷ bs) vs) (_, beside of i (omega arith) x.1 (fits (owner of) f).4 y.1);
+      rw (append_assoc us (word (timed_word of) ∷ bs) vs) (_, beside of {r = 4} i (omega arith) x.1 (fits (owner of) f).4 y.1);
   none = λ e. absurd (cc);
 }
 
@@ -266,29 +266,14 @@ EndsAtom us = (ws : List Token) × (terms : List Term) × (r : Rel) × (vs : Lis
 abbrev EndsTerm : List Token → Type 0
 EndsTerm us = (ts : List Token) × (k : ℕ) × (w : List ℕ) × (rest : List Token) × IsTerm ts k w × EndsAtom rest × (us ≡ ts ++ rest)
 
+term_splits : {us : List Token} (x : EndsTerm us) → us ≡ x.0 ++ x.5.0 ++ relation x.5.2 ∷ x.5.3
+term_splits x = let y = x.5 in x.6 ∙ (ap (λ z. x.0 ++ z) y.7 ∙ sym (append_assoc x.0 y.0 (relation y.2 ∷ y.3)))
+
 mutual
   sign_tail : {us : List Token} → SignTail us → EndsAtom us
   sign_tail (a_relation r {us} c) = let x = constant_tail c in ([], [], r, us, x.0, no_terms, x.1, refl)
-  sign_tail (a_plus t) = let x = term_tail t in let y = x.5 in (
-    plus ∷ x.0 ++ y.0,
-    _,
-    y.2,
-    y.3,
-    y.4,
-    more_plus x.4 y.5,
-    y.6,
-    ap (λ z. plus ∷ z) (x.6 ∙ (ap (λ z. x.0 ++ z) y.7 ∙ sym (append_assoc x.0 y.0 (relation y.2 ∷ y.3)))),
-  )
-  sign_tail (a_minus t) = let x = term_tail t in let y = x.5 in (
-    minus ∷ x.0 ++ y.0,
-    _,
-    y.2,
-    y.3,
-    y.4,
-    more_minus x.4 y.5,
-    y.6,
-    ap (λ z. minus ∷ z) (x.6 ∙ (ap (λ z. x.0 ++ z) y.7 ∙ sym (append_assoc x.0 y.0 (relation y.2 ∷ y.3)))),
-  )
+  sign_tail (a_plus t) = let x = term_tail t in let y = x.5 in (plus ∷ x.0 ++ y.0, _, y.2, y.3, y.4, more_plus x.4 y.5, y.6, ap (λ z. plus ∷ z) (term_splits x))
+  sign_tail (a_minus t) = let x = term_tail t in let y = x.5 in (minus ∷ x.0 ++ y.0, _, y.2, y.3, y.4, more_minus x.4 y.5, y.6, ap (λ z. minus ∷ z) (term_splits x))
 
   term_tail : {us : List Token} → TermTail us → EndsTerm us
   term_tail (plain_name w {us} e s) = (word w ∷ [], 1, w, us, term_name e, sign_tail s, refl)
@@ -302,19 +287,13 @@ mutual
 
 -- atoms by what is left of them
 term_operand : (us : List Token) → EndsTerm us → AnOperand us
-term_operand us x k = let y = x.5 in
-    let e : us ≡ x.0 ++ y.0 ++ relation y.2 ∷ y.3 = x.6 ∙ (ap (λ z. x.0 ++ z) y.7 ∙ sym (append_assoc x.0 y.0 (relation y.2 ∷ y.3))) in
-    rw e (_, compared (first x.4 y.5 y.6))
+term_operand us x k = let y = x.5 in rw (term_splits x) (_, compared (first x.4 y.5 y.6))
 
 plus_operand : (us : List Token) → TermTail us → AnOperand (plus ∷ us)
-plus_operand us t k = let x = term_tail t in let y = x.5 in
-    let e : us ≡ x.0 ++ y.0 ++ relation y.2 ∷ y.3 = x.6 ∙ (ap (λ z. x.0 ++ z) y.7 ∙ sym (append_assoc x.0 y.0 (relation y.2 ∷ y.3))) in
-    rw e (_, compared (signed (more_plus x.4 y.5) y.6))
+plus_operand us t k = let x = term_tail t in let y = x.5 in rw (term_splits x) (_, compared (signed (more_plus x.4 y.5) y.6))
 
 minus_operand : (us : List Token) → TermTail us → AnOperand (minus ∷ us)
-minus_operand us t k = let x = term_tail t in let y = x.5 in
-    let e : us ≡ x.0 ++ y.0 ++ relation y.2 ∷ y.3 = x.6 ∙ (ap (λ z. x.0 ++ z) y.7 ∙ sym (append_assoc x.0 y.0 (relation y.2 ∷ y.3))) in
-    rw e (_, compared (signed (more_minus x.4 y.5) y.6))
+minus_operand us t k = let x = term_tail t in let y = x.5 in rw (term_splits x) (_, compared (signed (more_minus x.4 y.5) y.6))
 
 -- what stands before a place: the rest of a bound leads to an operand, and the rest of an atom to its end
 abbrev Holds : Place → Bool → List Mark → List Token → Type 0
@@ -354,9 +333,11 @@ module _ (h : Bool) (marks : List Mark) (n : ℕ) (p : Place) (whole : List Toke
 
   before : (of : Timed) {o : Owner} → is_beside of ≡ false → owner of ≡ o → Awaits h marks whole → (w : List ℕ) → w ≡ timed_word of
       → (us : List Token) → Bound o us → Awaits h (operator ∷ marks) (whole ++ word w ∷ [] ++ us)
-  before of i e x w f us b = rw f (shifted_awaits h (operator ∷ marks) whole _ us (inside_operator (word (timed_word of) ∷ us) x (fills_before of i us (rw (← e) at b))))
+  before of i e x w f us b =
+      rw f (shifted_awaits h (operator ∷ marks) whole _ us (inside_operator (word (timed_word of) ∷ us) x (fills_before of i us (rw (← e) at b))))
 
-  begins_word : Awaits h marks whole → (w : List ℕ) (k : Kind) → OfKind k w → (next : State) → begin_word now k ≡ Some next → HoldsAt next (whole ++ word w ∷ [])
+  begins_word : Awaits h marks whole → (w : List ℕ) (k : Kind) → OfKind k w → (next : State) → begin_word now k ≡ Some next
+      → HoldsAt next (whole ++ word w ∷ [])
   begins_word x w a_constant (b, f) next e = same_state _ next _ e (rw f (finish x _ (λ k. (_, constant b))))
   begins_word x w a_negation f next e = same_state _ next _ e (rw f (inside_operator _ x fills_not))
   begins_word x w a_future (of, f, i, o) next e = same_state _ next _ e (before of i o x w f)
@@ -427,7 +408,7 @@ module _ (h : Bool) (marks : List Mark) (n : ℕ) (p : Place) (whole : List Toke
   connects x w _ f next e = absurd (none-some next e)
 
 a_parens : (f : List Token) → Binds 1 f → AnOperand (open_paren ∷ f ++ close_paren ∷ [])
-a_parens f p k = (_, parens (p k).1)
+a_parens f p k = (_, enclosed (p k).1)
 
 closes_base : {marks : List Mark} {pre : List Token} → Base marks pre → (n : ℕ) (next : State) → closed marks n ≡ Some next → (f : List Token) → Binds 1 f
     → HoldsAt next (pre ++ (f ++ close_paren ∷ []))
@@ -447,64 +428,57 @@ module _ (h : Bool) (marks : List Mark) (n : ℕ) (whole : List Token) where
   abbrev at : Place → State
   at p = record { place = p; had = h; marks = marks; nodes = n }
 
-  low_holds : (o : Owner) → Holds (at_low o) h marks whole → (t : Token) (next : State)
-      → step_at (at_low o) (at (at_low o)) t ≡ Some next → HoldsAt next (whole ++ t ∷ [])
+  abbrev Steps : Place → Type 0
+  Steps p = Holds p h marks whole → (t : Token) (next : State) → step_at p (at p) t ≡ Some next → HoldsAt next (whole ++ t ∷ [])
+
+  low_holds : (o : Owner) → Steps (at_low o)
   low_holds o x (number a j) next e = same_state _ next _ e (λ us b. shifted_awaits h marks whole _ us (x (number a j ∷ us) (lower a j b)))
   low_holds o x _ next e = absurd (none-some next e)
 
-  comma_holds : (o : Owner) (a j : ℕ) → Holds (at_comma o a j) h marks whole → (t : Token) (next : State)
-      → step_at (at_comma o a j) (at (at_comma o a j)) t ≡ Some next
-      → HoldsAt next (whole ++ t ∷ [])
+  comma_holds : (o : Owner) (a j : ℕ) → Steps (at_comma o a j)
   comma_holds o a j x comma next e = same_state _ next _ e (λ us b. shifted_awaits h marks whole _ us (x (comma ∷ us) (then_high b)))
   comma_holds o a j x _ next e = absurd (none-some next e)
 
-  high_holds : (o : Owner) (a j : ℕ) → Holds (at_high o a j) h marks whole → (t : Token) (next : State)
-      → step_at (at_high o a j) (at (at_high o a j)) t ≡ Some next
-      → HoldsAt next (whole ++ t ∷ [])
+  high_holds : (o : Owner) (a j : ℕ) → Steps (at_high o a j)
   high_holds o a j x (number b k) next e = same_state _ next _ e (λ us c. shifted_awaits h marks whole _ us (x (number b k ∷ us) (upper b k c)))
   high_holds o a j x (word w) next e = infinite h marks n (at_high o a j) whole o x w (kind w) (kind_of w) next e
   high_holds o a j x _ next e = absurd (none-some next e)
 
-  term_holds : (m : ℕ) → Holds (at_term m) h marks whole → (t : Token) (next : State)
-      → step_at (at_term m) (at (at_term m)) t ≡ Some next → HoldsAt next (whole ++ t ∷ [])
+  term_holds : (m : ℕ) → Steps (at_term m)
   term_holds m x (number a j) next e = same_state _ next _ e (λ us b. shifted h _ whole _ us (x (number a j ∷ us) (a_coefficient a j b)))
   term_holds m x (word w) next e = names h marks n (at_term m) whole m w (kind w) (kind_of w) (λ g us b. x (word w ∷ us) (plain_name w g b)) next e
   term_holds m x _ next e = absurd (none-some next e)
 
-  star_holds : (m : ℕ) → Holds (at_star m) h marks whole → (t : Token) (next : State)
-      → step_at (at_star m) (at (at_star m)) t ≡ Some next → HoldsAt next (whole ++ t ∷ [])
+  star_holds : (m : ℕ) → Steps (at_star m)
   star_holds m x star next e = same_state _ next _ e (λ us b. shifted h _ whole _ us (x (star ∷ us) (a_star b)))
   star_holds m x _ next e = absurd (none-some next e)
 
-  name_holds : (m : ℕ) → Holds (at_name m) h marks whole → (t : Token) (next : State)
-      → step_at (at_name m) (at (at_name m)) t ≡ Some next → HoldsAt next (whole ++ t ∷ [])
+  name_holds : (m : ℕ) → Steps (at_name m)
   name_holds m x (word w) next e = names h marks n (at_name m) whole m w (kind w) (kind_of w) (λ g us b. x (word w ∷ us) (the_name w g b)) next e
   name_holds m x _ next e = absurd (none-some next e)
 
-  sign_holds : (m : ℕ) → Holds (at_sign m) h marks whole → (t : Token) (next : State)
-      → step_at (at_sign m) (at (at_sign m)) t ≡ Some next → HoldsAt next (whole ++ t ∷ [])
+  sign_holds : (m : ℕ) → Steps (at_sign m)
   sign_holds m x plus next e = same_state _ next _ e (λ us b. shifted h _ whole _ us (x (plus ∷ us) (a_plus b)))
   sign_holds m x minus next e = same_state _ next _ e (λ us b. shifted h _ whole _ us (x (minus ∷ us) (a_minus b)))
   sign_holds m x (relation r) next e = same_state _ next _ e (λ us b. shifted h _ whole _ us (x (relation r ∷ us) (a_relation r b)))
   sign_holds m x _ next e = absurd (none-some next e)
 
-  constant_holds : Holds at_constant h marks whole → (t : Token) (next : State)
-      → step_at at_constant (at at_constant) t ≡ Some next → HoldsAt next (whole ++ t ∷ [])
+  constant_holds : Steps at_constant
   constant_holds x (number a j) next e = same_state _ next _ e (x (number a j ∷ []) (a_number a j))
   constant_holds x plus next e = same_state _ next _ e (λ us b. shifted h _ whole _ us (x (plus ∷ us) (after_plus b)))
   constant_holds x minus next e = same_state _ next _ e (λ us b. shifted h _ whole _ us (x (minus ∷ us) (after_minus b)))
   constant_holds x _ next e = absurd (none-some next e)
 
-  number_holds : Holds at_number h marks whole → (t : Token) (next : State) → step_at at_number (at at_number) t ≡ Some next → HoldsAt next (whole ++ t ∷ [])
+  number_holds : Steps at_number
   number_holds x (number a j) next e = same_state _ next _ e (x (number a j ∷ []) (the_number a j))
   number_holds x _ next e = absurd (none-some next e)
 
-  end_holds : Holds at_end h marks whole → (t : Token) (next : State) → step_at at_end (at at_end) t ≡ Some next → HoldsAt next (whole ++ t ∷ [])
+  end_holds : Steps at_end
   end_holds x (word w) next e = connects h marks n at_end whole x w (kind w) (kind_of w) next e
   end_holds x close_paren next e = closes_paren x n next e
   end_holds x _ next e = absurd (none-some next e)
 
-  step_holds : (p : Place) → Holds p h marks whole → (t : Token) (next : State) → step (at p) t ≡ Some next → HoldsAt next (whole ++ t ∷ [])
+  step_holds : (p : Place) → Steps p
   step_holds at_operand x t next e = begins h marks n at_operand whole x t next e
   step_holds (at_bound o) x t next e = bounds h marks n (at_bound o) whole o x t next e
   step_holds (at_low o) x t next e = low_holds o x t next e

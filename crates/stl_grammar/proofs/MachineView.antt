@@ -204,6 +204,12 @@ record View (s : State) (before : List Token) : Type 0 where
 same_view : (a b : State) (before : List Token) → Some a ≡ Some b → View a before → View b before
 same_view a b before e v = let f : a ≡ b = same_Some a b e in rw (← f) v
 
+-- a view of the next state by its parts
+viewed : {p : Place} {h : Bool} {marks : List Mark} {n : ℕ} {next : State} {before : List Token}
+    → Some (record { place = p; had = h; marks = marks; nodes = n }) ≡ Some next → Shape p before → pending before ≡ all_pending marks
+    → nodes_made before ≡ n → terms_made before ≡ terms_at p → View next before
+viewed {before = before} e s q c t = same_view _ _ before e (record { shape = s; pend = q; count = c; terms = t })
+
 count_token : (t : Token) (what : What) (before : List Token) (n : ℕ) → expected before ≡ what → nodes_made before ≡ n
     → nodes_made (t ∷ before) ≡ (if makes_node what t then suc n else n)
 count_token t what before n e f =
@@ -240,65 +246,31 @@ module _ (h : Bool) (marks : List Mark) (n : ℕ) (before : List Token) where
   -- a word in the place of an operand
   word_view : (p : Place) → Begins before → pending before ≡ all_pending marks → nodes_made before ≡ n → terms_made before ≡ 0
       → (w : List ℕ) (k : Kind) → kind w ≡ k → (next : State) → begin_word (now p) k ≡ Some next → View next (word w ∷ before)
-  word_view p b q c t w a_constant f next e = same_view _ next _ e (record {
-    shape = end_word f;
-    pend = pending_word w a_constant before f ∙ (ap after_operand q ∙ operand_pending marks);
-    count = count_word w a_constant Operand before n f (begins_expected before b) c;
-    terms = terms_word w a_constant before f;
-  })
-  word_view p b q c t w a_negation f next e = same_view _ next _ e (record {
-    shape = an_operand (a_word a_negation f refl);
-    pend = pending_word w a_negation before f ∙ ap (λ z. an_operator ∷ z) q;
-    count = count_word w a_negation Operand before n f (begins_expected before b) c;
-    terms = terms_word w a_negation before f;
-  })
-  word_view p b q c t w a_future f next e = same_view _ next _ e (record {
-    shape = a_bound a_future f refl;
-    pend = pending_word w a_future before f ∙ ap (λ z. an_operator ∷ z) q;
-    count = count_word w a_future Operand before n f (begins_expected before b) c;
-    terms = terms_word w a_future before f;
-  })
-  word_view p b q c t w a_past f next e = same_view _ next _ e (record {
-    shape = a_bound a_past f refl;
-    pend = pending_word w a_past before f ∙ ap (λ z. an_operator ∷ z) q;
-    count = count_word w a_past Operand before n f (begins_expected before b) c;
-    terms = terms_word w a_past before f;
-  })
-  word_view p b q c t w a_name f next e = same_view _ next _ e (record {
-    shape = a_sign f;
-    pend = pending_word w a_name before f ∙ q;
-    count = count_word w a_name Operand before n f (begins_expected before b) c;
-    terms = terms_word w a_name before f ∙ ap (λ z. suc z) t;
-  })
+  word_view p b q c t w a_constant f next e = viewed e (end_word f) (pending_word w a_constant before f ∙ (ap after_operand q ∙ operand_pending marks))
+      (count_word w a_constant Operand before n f (begins_expected before b) c) (terms_word w a_constant before f)
+  word_view p b q c t w a_negation f next e = viewed e (an_operand (a_word a_negation f refl))
+      (pending_word w a_negation before f ∙ ap (λ z. an_operator ∷ z) q)
+      (count_word w a_negation Operand before n f (begins_expected before b) c) (terms_word w a_negation before f)
+  word_view p b q c t w a_future f next e = viewed e (a_bound a_future f refl) (pending_word w a_future before f ∙ ap (λ z. an_operator ∷ z) q)
+      (count_word w a_future Operand before n f (begins_expected before b) c) (terms_word w a_future before f)
+  word_view p b q c t w a_past f next e = viewed e (a_bound a_past f refl) (pending_word w a_past before f ∙ ap (λ z. an_operator ∷ z) q)
+      (count_word w a_past Operand before n f (begins_expected before b) c) (terms_word w a_past before f)
+  word_view p b q c t w a_name f next e = viewed e (a_sign f) (pending_word w a_name before f ∙ q)
+      (count_word w a_name Operand before n f (begins_expected before b) c) (terms_word w a_name before f ∙ ap (λ z. suc z) t)
   word_view p b q c t w _ f next e = absurd (none-some next e)
 
   begin_view : (p : Place) → Begins before → pending before ≡ all_pending marks → nodes_made before ≡ n → terms_made before ≡ 0
       → (t : Token) (next : State) → begin_operand (now p) t ≡ Some next → View next (t ∷ before)
   begin_view p b q c z (word w) next e = word_view p b q c z w (kind w) refl next e
-  begin_view p b q c z (number m k) next e = same_view _ next _ e (record {
-    shape = a_star (at_first b);
-    pend = ap (λ x. pending_after x (number m k) (pending before)) (terms_constant before m k (at_first b)) ∙ q;
-    count = count_token (number m k) Operand before n (begins_expected before b) c;
-    terms = z;
-  })
-  begin_view p b q c z open_paren next e = same_view _ next _ e (record {
-    shape = an_operand a_parenthesis;
-    pend = ap (λ x. a_paren ∷ x) q;
-    count = count_token open_paren Operand before n (begins_expected before b) c;
-    terms = refl;
-  })
-  begin_view p b q c z plus next e = same_view _ next _ e (record {
-    shape = first_term a_plus b;
-    pend = q;
-    count = count_token plus Operand before n (begins_expected before b) c;
-    terms = z;
-  })
-  begin_view p b q c z minus next e = same_view _ next _ e (record {
-    shape = first_term a_minus b;
-    pend = q;
-    count = count_token minus Operand before n (begins_expected before b) c;
-    terms = z;
-  })
+  begin_view p b q c z (number m k) next e = viewed e (a_star (at_first b))
+      (ap (λ x. pending_after x (number m k) (pending before)) (terms_constant before m k (at_first b)) ∙ q)
+      (count_token (number m k) Operand before n (begins_expected before b) c) z
+  begin_view p b q c z open_paren next e = viewed e (an_operand a_parenthesis) (ap (λ x. a_paren ∷ x) q)
+      (count_token open_paren Operand before n (begins_expected before b) c) refl
+  begin_view p b q c z plus next e = viewed e (first_term a_plus b) q
+      (count_token plus Operand before n (begins_expected before b) c) z
+  begin_view p b q c z minus next e = viewed e (first_term a_minus b) q
+      (count_token minus Operand before n (begins_expected before b) c) z
   begin_view p b q c z _ next e = absurd (none-some next e)
 
 -- brackets
@@ -352,27 +324,20 @@ module _ (h : Bool) (marks : List Mark) (n : ℕ) where
       back false r d = let x = rw (d, r) at e in absurd (none-some next x)
 
       split : (b : Bool) → opens o t ≡ b → View next (t ∷ word w ∷ more)
-      split true d = let s = opens_bracket o t d in same_view _ next _ (rw d at e) (record {
-        shape = a_low k s f g;
-        pend = bracket_pending t (word w ∷ more) s ∙ q;
-        count = bracket_nodes t (word w ∷ more) s ∙ c;
-        terms = bracket_terms t (word w ∷ more) s;
-      })
+      split true d = let s = opens_bracket o t d in viewed (rw d at e) (a_low k s f g) (bracket_pending t (word w ∷ more) s ∙ q)
+          (bracket_nodes t (word w ∷ more) s ∙ c) (bracket_terms t (word w ∷ more) s)
       split false d = back (looks_back o) refl d
 
   low_view : {o : Owner} {before : List Token} → Shape (at_low o) before → pending before ≡ all_pending marks → nodes_made before ≡ n → terms_made before ≡ 0
       → (t : Token) (next : State) → step_at (at_low o) (there (at_low o)) t ≡ Some next → View next (t ∷ before)
-  low_view (a_low {t = b} {w = w} {before = more} {o = o} k s f g) q c z (number a j) next e = same_view _ next _ e (record {
-    shape = a_comma k s f g;
-    pend = ap (λ x. pending_after x (number a j) (pending (b ∷ word w ∷ more))) (low_constant b w a j more s) ∙ q;
-    count = count_token (number a j) Number (b ∷ word w ∷ more) n (shape_expected (at_low o) (b ∷ word w ∷ more) marks (a_low k s f g) q) c;
-    terms = z;
-  })
+  low_view (a_low {t = b} {w = w} {before = more} {o = o} k s f g) q c z (number a j) next e = viewed e (a_comma k s f g)
+      (ap (λ x. pending_after x (number a j) (pending (b ∷ word w ∷ more))) (low_constant b w a j more s) ∙ q)
+      (count_token (number a j) Number (b ∷ word w ∷ more) n (shape_expected (at_low o) (b ∷ word w ∷ more) marks (a_low k s f g) q) c) z
   low_view (a_low k s f g) q c z _ next e = absurd (none-some next e)
 
   comma_view : {o : Owner} {a j : ℕ} {before : List Token} → Shape (at_comma o a j) before → pending before ≡ all_pending marks → nodes_made before ≡ n
       → (t : Token) (next : State) → step_at (at_comma o a j) (there (at_comma o a j)) t ≡ Some next → View next (t ∷ before)
-  comma_view (a_comma k s f g) q c comma next e = same_view _ next _ e (record { shape = a_high k s f g; pend = q; count = c; terms = refl })
+  comma_view (a_comma k s f g) q c comma next e = viewed e (a_high k s f g) q c refl
   comma_view (a_comma k s f g) q c _ next e = absurd (none-some next e)
 
   inf_view : (o : Owner) (a j : ℕ) (before : List Token) → pending (comma ∷ before) ≡ all_pending marks → nodes_made (comma ∷ before) ≡ n
@@ -380,18 +345,14 @@ module _ (h : Bool) (marks : List Mark) (n : ℕ) where
   inf_view o a j before q c w an_inf f next e = split (looks_back o) refl
     where
       split : (b : Bool) → looks_back o ≡ b → View next (word w ∷ comma ∷ before)
-      split true d = same_view _ next _ (rw d at e) (record {
-        shape = closing_inf f;
-        pend = pending_word w an_inf (comma ∷ before) f ∙ q;
-        count = count_word w an_inf Number (comma ∷ before) n f refl c;
-        terms = terms_word w an_inf (comma ∷ before) f;
-      })
+      split true d = viewed (rw d at e) (closing_inf f) (pending_word w an_inf (comma ∷ before) f ∙ q)
+          (count_word w an_inf Number (comma ∷ before) n f refl c) (terms_word w an_inf (comma ∷ before) f)
       split false d = let x = rw d at e in absurd (none-some next x)
   inf_view o a j before q c w _ f next e = absurd (none-some next e)
 
   high_view : {o : Owner} {a j : ℕ} {before : List Token} → Shape (at_high o a j) before → pending before ≡ all_pending marks → nodes_made before ≡ n
       → (t : Token) (next : State) → step_at (at_high o a j) (there (at_high o a j)) t ≡ Some next → View next (t ∷ before)
-  high_view (a_high k s f g) q c (number b i) next e = same_view _ next _ e (record { shape = closing_number; pend = q; count = c; terms = refl })
+  high_view (a_high k s f g) q c (number b i) next e = viewed e closing_number q c refl
   high_view (a_high {t = b} {w = w} {before = more} {o = o} {a = a} {j} k s f g) q c (word v) next e =
       inf_view o a j (number a j ∷ b ∷ word w ∷ more) q c v (kind v) refl next e
   high_view (a_high k s f g) q c _ next e = absurd (none-some next e)
@@ -405,24 +366,16 @@ module _ (h : Bool) (marks : List Mark) (n : ℕ) where
   closing_view o before x q c t next e = split (closes o t) refl
     where
       split : (b : Bool) → closes o t ≡ b → View next (t ∷ before)
-      split true d = let s = closes_bracket o t d in same_view _ next _ (rw d at e) (record {
-        shape = an_operand (closing_begins x t s);
-        pend = bracket_pending t before s ∙ q;
-        count = bracket_nodes t before s ∙ c;
-        terms = bracket_terms t before s;
-      })
+      split true d = let s = closes_bracket o t d in viewed (rw d at e) (an_operand (closing_begins x t s)) (bracket_pending t before s ∙ q)
+          (bracket_nodes t before s ∙ c) (bracket_terms t before s)
       split false d = let y = rw d at e in absurd (none-some next y)
 
   -- a name after m other terms
   name_view : {m : ℕ} {what : What} (p : Place) → is_operand what ≡ false → (before : List Token) → expected before ≡ what
       → pending before ≡ all_pending marks → nodes_made before ≡ n
       → terms_made before ≡ m → (w : List ℕ) (k : Kind) → kind w ≡ k → (next : State) → step_name m (there p) k ≡ Some next → View next (word w ∷ before)
-  name_view {what = what} p y before x q c z w a_name f next e = same_view _ next _ e (record {
-    shape = a_sign f;
-    pend = pending_word w a_name before f ∙ q;
-    count = count_word w a_name what before n f x c ∙ ap (λ b. if b then suc n else n) y;
-    terms = terms_word w a_name before f ∙ ap (λ i. suc i) z;
-  })
+  name_view {what = what} p y before x q c z w a_name f next e = viewed e (a_sign f) (pending_word w a_name before f ∙ q)
+      (count_word w a_name what before n f x c ∙ ap (λ b. if b then suc n else n) y) (terms_word w a_name before f ∙ ap (λ i. suc i) z)
   name_view p y before x q c z w _ f next e = absurd (none-some next e)
 
   term_terms : {m : ℕ} {before : List Token} → Shape (at_term m) before → Terms before
@@ -431,19 +384,16 @@ module _ (h : Bool) (marks : List Mark) (n : ℕ) where
 
   term_view : (m : ℕ) (before : List Token) → Shape (at_term m) before → pending before ≡ all_pending marks → nodes_made before ≡ n → terms_made before ≡ m
       → (t : Token) (next : State) → step_at (at_term m) (there (at_term m)) t ≡ Some next → View next (t ∷ before)
-  term_view m before x q c z (number i k) next e = same_view _ next _ e (record {
-    shape = a_star (term_terms x);
-    pend = ap (λ b. pending_after b (number i k) (pending before)) (terms_constant before i k (term_terms x)) ∙ q;
-    count = count_token (number i k) Term before n (shape_expected (at_term m) before marks x q) c;
-    terms = z;
-  })
+  term_view m before x q c z (number i k) next e = viewed e (a_star (term_terms x))
+      (ap (λ b. pending_after b (number i k) (pending before)) (terms_constant before i k (term_terms x)) ∙ q)
+      (count_token (number i k) Term before n (shape_expected (at_term m) before marks x q) c) z
   term_view m before x q c z (word w) next e =
       name_view (at_term m) refl before (shape_expected (at_term m) before marks x q) q c z w (kind w) refl next e
   term_view m before x q c z _ next e = absurd (none-some next e)
 
   star_view : (m : ℕ) (before : List Token) → pending before ≡ all_pending marks → nodes_made before ≡ n → terms_made before ≡ m
       → (t : Token) (next : State) → step_at (at_star m) (there (at_star m)) t ≡ Some next → View next (t ∷ before)
-  star_view m before q c z star next e = same_view _ next _ e (record { shape = the_name; pend = q; count = c; terms = z })
+  star_view m before q c z star next e = viewed e the_name q c z
   star_view m before q c z _ next e = absurd (none-some next e)
 
   coefficient_view : (m : ℕ) (before : List Token) → Shape (at_name m) before → pending before ≡ all_pending marks
@@ -455,74 +405,47 @@ module _ (h : Bool) (marks : List Mark) (n : ℕ) where
 
   sign_view : {m : ℕ} {before : List Token} → Shape (at_sign m) before → pending before ≡ all_pending marks → nodes_made before ≡ n → terms_made before ≡ m
       → (t : Token) (next : State) → step_at (at_sign m) (there (at_sign m)) t ≡ Some next → View next (t ∷ before)
-  sign_view (a_sign {w = w} {before = more} f) q c z plus next e = same_view _ next _ e (record {
-    shape = next_term a_plus;
-    pend = q;
-    count = count_token plus Relation (word w ∷ more) n (expected_word w a_name more f) c;
-    terms = z;
-  })
-  sign_view (a_sign {w = w} {before = more} f) q c z minus next e = same_view _ next _ e (record {
-    shape = next_term a_minus;
-    pend = q;
-    count = count_token minus Relation (word w ∷ more) n (expected_word w a_name more f) c;
-    terms = z;
-  })
-  sign_view (a_sign f) q c z (relation r) next e = same_view _ next _ e (record { shape = the_constant; pend = q; count = c; terms = refl })
+  sign_view (a_sign {w = w} {before = more} f) q c z plus next e = viewed e (next_term a_plus) q
+      (count_token plus Relation (word w ∷ more) n (expected_word w a_name more f) c) z
+  sign_view (a_sign {w = w} {before = more} f) q c z minus next e = viewed e (next_term a_minus) q
+      (count_token minus Relation (word w ∷ more) n (expected_word w a_name more f) c) z
+  sign_view (a_sign f) q c z (relation r) next e = viewed e the_constant q c refl
   sign_view (a_sign f) q c z _ next e = absurd (none-some next e)
 
   constant_view : {before : List Token} → Shape at_constant before → pending before ≡ all_pending marks → nodes_made before ≡ n
       → (t : Token) (next : State) → step_at at_constant (there at_constant) t ≡ Some next → View next (t ∷ before)
   constant_view the_constant q c (number i k) next e =
-      same_view _ next _ e (record { shape = end_number; pend = ap after_operand q ∙ operand_pending marks; count = c; terms = refl })
-  constant_view the_constant q c plus next e = same_view _ next _ e (record { shape = the_number a_plus; pend = q; count = c; terms = refl })
-  constant_view the_constant q c minus next e = same_view _ next _ e (record { shape = the_number a_minus; pend = q; count = c; terms = refl })
+      viewed e end_number (ap after_operand q ∙ operand_pending marks) c refl
+  constant_view the_constant q c plus next e = viewed e (the_number a_plus) q c refl
+  constant_view the_constant q c minus next e = viewed e (the_number a_minus) q c refl
   constant_view the_constant q c _ next e = absurd (none-some next e)
 
   number_view : {before : List Token} → Shape at_number before → pending before ≡ all_pending marks → nodes_made before ≡ n
       → (t : Token) (next : State) → step_at at_number (there at_number) t ≡ Some next → View next (t ∷ before)
-  number_view (the_number {t = s} {r = r} {before = more} y) q c (number i k) next e = same_view _ next _ e (record {
-    shape = end_signed y;
-    pend = ap (λ b. pending_after b (number i k) (pending (s ∷ relation r ∷ more))) (signed_constant s r i k more y)
-        ∙ (ap after_operand q ∙ operand_pending marks);
-    count = count_token (number i k) Constant (s ∷ relation r ∷ more) n (shape_expected at_number (s ∷ relation r ∷ more) marks (the_number y) q) c;
-    terms = signed_terms s r more y;
-  })
+  number_view (the_number {t = s} {r = r} {before = more} y) q c (number i k) next e = viewed e (end_signed y)
+      (ap (λ b. pending_after b (number i k) (pending (s ∷ relation r ∷ more))) (signed_constant s r i k more y) ∙ (ap after_operand q ∙ operand_pending marks))
+      (count_token (number i k) Constant (s ∷ relation r ∷ more) n (shape_expected at_number (s ∷ relation r ∷ more) marks (the_number y) q) c) (signed_terms s r more y)
   number_view (the_number y) q c _ next e = absurd (none-some next e)
 
   connective_view : (before : List Token) → pending before ≡ all_pending marks → nodes_made before ≡ n
       → (w : List ℕ) (k : Kind) → kind w ≡ k → (next : State) → step_connective (there at_end) k ≡ Some next → View next (word w ∷ before)
-  connective_view before q c w a_join f next e = same_view _ next _ e (record {
-    shape = an_operand (a_word a_join f refl);
-    pend = pending_word w a_join before f ∙ q;
-    count = count_word w a_join (expected before) before n f refl c;
-    terms = terms_word w a_join before f;
-  })
-  connective_view before q c w an_implication f next e = same_view _ next _ e (record {
-    shape = an_operand (a_word an_implication f refl);
-    pend = pending_word w an_implication before f ∙ ap (λ z. an_implies ∷ z) q;
-    count = count_word w an_implication (expected before) before n f refl c;
-    terms = terms_word w an_implication before f;
-  })
+  connective_view before q c w a_join f next e = viewed e (an_operand (a_word a_join f refl)) (pending_word w a_join before f ∙ q)
+      (count_word w a_join (expected before) before n f refl c) (terms_word w a_join before f)
+  connective_view before q c w an_implication f next e = viewed e (an_operand (a_word an_implication f refl))
+      (pending_word w an_implication before f ∙ ap (λ z. an_implies ∷ z) q)
+      (count_word w an_implication (expected before) before n f refl c) (terms_word w an_implication before f)
   connective_view before q c w an_until f next e = split h refl
     where
       split : (b : Bool) → h ≡ b → View next (word w ∷ before)
       split true d = let x = rw d at e in absurd (none-some next x)
-      split false d = same_view _ next _ (rw d at e) (record {
-        shape = a_bound an_until f refl;
-        pend = pending_word w an_until before f ∙ q;
-        count = count_word w an_until (expected before) before n f refl c;
-        terms = terms_word w an_until before f;
-      })
+      split false d = viewed (rw d at e) (a_bound an_until f refl) (pending_word w an_until before f ∙ q)
+          (count_word w an_until (expected before) before n f refl c) (terms_word w an_until before f)
   connective_view before q c w a_since f next e = split h refl
     where
       split : (b : Bool) → h ≡ b → View next (word w ∷ before)
       split true d = let x = rw d at e in absurd (none-some next x)
-      split false d = same_view _ next _ (rw d at e) (record {
-        shape = a_bound a_since f refl;
-        pend = pending_word w a_since before f ∙ q;
-        count = count_word w a_since (expected before) before n f refl c;
-        terms = terms_word w a_since before f;
-      })
+      split false d = viewed (rw d at e) (a_bound a_since f refl) (pending_word w a_since before f ∙ q)
+          (count_word w a_since (expected before) before n f refl c) (terms_word w a_since before f)
   connective_view before q c w _ f next e = absurd (none-some next e)
 
   paren_view : (before : List Token) → pending before ≡ all_pending marks → nodes_made before ≡ n → (next : State)

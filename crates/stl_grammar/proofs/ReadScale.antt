@@ -228,9 +228,6 @@ module _ (s : Scale) (m : List Token → ℕ) (d : ℕ) (P : Node → Type 0) (h
     operand_any (compared a) x f = inl (h.atom a x f)
 
 -- the decimals of bounds
-abbrev HasUnevenBound : Node → Type 0
-HasUnevenBound n = Any IsUneven (bounds_of n)
-
 time_measure : (s : Scale) → 0 < s.time → Measures s time_digits s.time HasUnevenBound
 time_measure s some = record {
   some = some;
