@@ -7,14 +7,14 @@ use Rattle.stl_syntax.specs.declared.atom.Atom.{Atom}
 use Rattle.stl_syntax.specs.declared.node.Node.{Node}
 use Rattle.stl_syntax.specs.declared.node.Node.TheVariants.{Const, Atom as Leaf, Not, And, Or, Implies, Until, Eventually, Always, Since, Once, Historically}
 use Rattle.stl_grammar.specs.Grammar.{top, Token, word, number, open_paren, close_paren, open_bracket, close_bracket, comma}
-use Rattle.stl_grammar.specs.Grammar.{IsTerm, scaled, more_plus, more_minus, IsAtom, first, signed, IsOpening, IsClosing, inside, outside}
+use Rattle.stl_grammar.specs.Grammar.{scaled, more_plus, more_minus, IsAtom, first, signed, IsOpening, IsClosing, inside, outside}
 use Rattle.stl_grammar.specs.Grammar.{name as term_name}
 use Rattle.stl_grammar.specs.Grammar.{IsFutureWindow, bound, IsPastWindow, nothing, bounded, unbounded, IsFuture, IsPast}
 use Rattle.stl_grammar.specs.Grammar.IsPast.{nothing as since_nothing, bounded as since_bounded, unbounded as since_unbounded}
 use Rattle.stl_grammar.specs.Grammar.{IsFormula, IsDisjunct, IsConjunct, IsTimed, IsOperand, disjunct, implies}
 use Rattle.stl_grammar.specs.Grammar.{conjunct, or, timed, and, operand, until, since, not, eventually, always}
 use Rattle.stl_grammar.specs.Grammar.{once, historically, always_true, always_false, parens, atom}
-use Rattle.stl_grammar.specs.Machine.{Owner, of_until, of_since, of_future, of_past, looks_back, may_be_open, opens, closes}
+use Rattle.stl_grammar.specs.Machine.{Owner, of_until, of_since, of_future, of_past, looks_back, may_be_open}
 use Rattle.stl_grammar.specs.Refusing.{owner, is_beside}
 use Rattle.stl_grammar.specs.Spelling.{spelling}
 use Rattle.stl_grammar.specs.declared.token.Keyword.{Keyword}

@@ -1,5 +1,5 @@
 -- The machine reads every formula.
-use Rattle.std.proofs.Common.{◌≡◌, ℕ, suc, ◌+◌, ◌≤◌, List, [], ◌∷◌, ◌++◌, length, refl, ap, sym, ◌∙◌, Bool, true, false, arith, append_assoc, length-append}
+use Rattle.std.proofs.Common.{◌≡◌, ℕ, suc, ◌+◌, ◌≤◌, List, [], ◌∷◌, ◌++◌, length, refl, ap, sym, ◌∙◌, Bool, true, false, arith, length-append}
 use Rattle.std.specs.Prelude.{codes, reverse, Option, Some, None}
 use Rattle.std.proofs.lemmas.List.{reverse-append}
 use Rattle.stl_syntax.specs.declared.scale.Scale.{Scale}
@@ -15,7 +15,7 @@ use Rattle.stl_grammar.specs.FormulaRefusals.{MayBegin, MayEnd}
 use Rattle.stl_grammar.specs.Refusing.{owner, is_beside}
 use Rattle.stl_grammar.specs.declared.place.Timed.{Timed}
 use Rattle.stl_grammar.specs.declared.place.Timed.TheVariants.{Until as TUntil, Since as TSince}
-use Rattle.stl_grammar.proofs.Derivations.{Connective, by_and, by_or, by_implies, connective_word, binds, left_binds, right_binds, left_two, timed_word}
+use Rattle.stl_grammar.proofs.Derivations.{Connective, by_and, by_or, by_implies, connective_word, binds, right_binds, left_two, timed_word}
 use Rattle.stl_grammar.proofs.Derivations.{Opens, opens_in, opens_out, Closes, closes_in, closes_out, constant_word, Bounded, left_out, within, endless, Operand, negated, prefixed, constant, enclosed, compared}
 use Rattle.stl_grammar.proofs.Derivations.{Derived, joined, beside, alone, formula_derived, is_bracket, operand_begins}
 use Rattle.stl_grammar.proofs.WordKinds.{name_kind}

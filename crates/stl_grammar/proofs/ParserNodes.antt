@@ -49,7 +49,7 @@ use Rattle.stl_grammar.specs.declared.place.Place.TheVariants.{Sign, Constant, N
 use Rattle.stl_grammar.specs.FormulaRefusals.{MayEnd}
 use Rattle.stl_grammar.proofs.BuildLemmas.{nodes_in-append, length-nodes_in}
 use Rattle.stl_grammar.proofs.Derivations.{Connective, by_and, by_or, by_implies, connective_keyword, connective_word, connective_node, binds}
-use Rattle.stl_grammar.proofs.Derivations.{left_binds, right_binds, timed_keyword, timed_word, timed_node, constant_keyword, constant_word}
+use Rattle.stl_grammar.proofs.Derivations.{left_binds, right_binds, timed_keyword, timed_word, timed_node, constant_keyword}
 use Rattle.stl_grammar.proofs.Derivations.{Opens, opens_in, opens_out, Closes, closes_in, closes_out, Bounded, left_out, within, endless}
 use Rattle.stl_grammar.proofs.Derivations.{Operand, negated, prefixed, constant, enclosed, compared, Derived, joined, beside, alone, formula_derived}
 use Rattle.stl_grammar.proofs.Derivations.{is_bracket, operand_begins}
