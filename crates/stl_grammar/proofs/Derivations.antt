@@ -332,6 +332,7 @@ pub record Begins (ts : List Token) : Type 0 where
   -- it opens no bound
   pub other : is_bracket head ≡ false
 
+-- each operand begins so
 pub operand_begins : {s : Scale} {k : ℕ} {ts : List Token} {ns : List Node} → Operand s k ts ns → Begins ts
 operand_begins (compared (first (term_name f) u c)) = record { head = _; rest = _; is = refl; other = refl }
 operand_begins (compared (first (scaled f) u c)) = record { head = _; rest = _; is = refl; other = refl }

@@ -150,7 +150,8 @@ module _ (s : Scale) (dt dv : ℕ) where
     derived_ten : {r k : ℕ} {ts : List Token} {ns : List Node} → Derived s r k ts ns → Low ts → All IsTen ns
     derived_ten (joined o {ts = ts} {us} {ns} {ms} l d e) h =
         let w : Token = word (connective_word o) in
-        two_ten ns ms _ (derived_ten d (low_left dt dv ts (w ∷ us) h)) (derived_ten e (low_rest dt dv w us (low_right dt dv ts (w ∷ us) h))) (connective_ten o _ _)
+        two_ten ns ms _ (derived_ten d (low_left dt dv ts (w ∷ us) h)) (derived_ten e (low_rest dt dv w us (low_right dt dv ts (w ∷ us) h)))
+        (connective_ten o _ _)
     derived_ten (beside of {ts = ts} {us} {vs} {ns} {ms} e l p w q) h =
         let i = low_rest dt dv (word (timed_word of)) (us ++ vs) (low_right dt dv ts (word (timed_word of) ∷ (us ++ vs)) h) in
         two_ten ns ms _ (operand_ten p (low_left dt dv ts (word (timed_word of) ∷ (us ++ vs)) h)) (operand_ten q (low_right dt dv us vs i))

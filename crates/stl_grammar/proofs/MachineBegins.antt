@@ -272,8 +272,10 @@ term_splits x = let y = x.5 in x.6 ∙ (ap (λ z. x.0 ++ z) y.7 ∙ sym (append_
 mutual
   sign_tail : {us : List Token} → SignTail us → EndsAtom us
   sign_tail (a_relation r {us} c) = let x = constant_tail c in ([], [], r, us, x.0, no_terms, x.1, refl)
-  sign_tail (a_plus t) = let x = term_tail t in let y = x.5 in (plus ∷ x.0 ++ y.0, _, y.2, y.3, y.4, more_plus x.4 y.5, y.6, ap (λ z. plus ∷ z) (term_splits x))
-  sign_tail (a_minus t) = let x = term_tail t in let y = x.5 in (minus ∷ x.0 ++ y.0, _, y.2, y.3, y.4, more_minus x.4 y.5, y.6, ap (λ z. minus ∷ z) (term_splits x))
+  sign_tail (a_plus t) =
+      let x = term_tail t in let y = x.5 in (plus ∷ x.0 ++ y.0, _, y.2, y.3, y.4, more_plus x.4 y.5, y.6, ap (λ z. plus ∷ z) (term_splits x))
+  sign_tail (a_minus t) =
+      let x = term_tail t in let y = x.5 in (minus ∷ x.0 ++ y.0, _, y.2, y.3, y.4, more_minus x.4 y.5, y.6, ap (λ z. minus ∷ z) (term_splits x))
 
   term_tail : {us : List Token} → TermTail us → EndsTerm us
   term_tail (plain_name w {us} e s) = (word w ∷ [], 1, w, us, term_name e, sign_tail s, refl)

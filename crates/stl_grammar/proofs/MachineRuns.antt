@@ -16,7 +16,8 @@ use Rattle.stl_grammar.specs.Refusing.{owner, is_beside}
 use Rattle.stl_grammar.specs.declared.place.Timed.{Timed}
 use Rattle.stl_grammar.specs.declared.place.Timed.TheVariants.{Until as TUntil, Since as TSince}
 use Rattle.stl_grammar.proofs.Derivations.{Connective, by_and, by_or, by_implies, connective_word, binds, right_binds, left_two, timed_word}
-use Rattle.stl_grammar.proofs.Derivations.{Opens, opens_in, opens_out, Closes, closes_in, closes_out, constant_word, Bounded, left_out, within, endless, Operand, negated, prefixed, constant, enclosed, compared}
+use Rattle.stl_grammar.proofs.Derivations.{constant_word, Opens, opens_in, opens_out, Closes, closes_in, closes_out, Bounded, left_out, within, endless}
+use Rattle.stl_grammar.proofs.Derivations.{Operand, negated, prefixed, constant, enclosed, compared}
 use Rattle.stl_grammar.proofs.Derivations.{Derived, joined, beside, alone, formula_derived, is_bracket, operand_begins}
 use Rattle.stl_grammar.proofs.WordKinds.{name_kind}
 

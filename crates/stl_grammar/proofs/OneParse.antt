@@ -291,7 +291,8 @@ module _ (s : Scale) (n : ℕ) (same : OperandSame s n) where
           (first_part ts us vs (word (timed_word of)) n l) p q (simp append_assoc (simp append_assoc at h)) in
           let o : of ≡ of' = same_timed of of' (same_word _ _ _ _ x.1) in
           let j : us ++ vs ++ r ≡ us' ++ vs' ++ r' = same_rest _ _ _ _ x.1 in
-          let y = bound_same (vs ++ r) (vs' ++ r') w w' (sym (append_assoc us vs r) ∙ (j ∙ append_assoc us' vs' r')) (no_bracket_first r p') (no_bracket_first r' q') in
+          let y = bound_same (vs ++ r) (vs' ++ r') w w' (sym (append_assoc us vs r) ∙ (j ∙ append_assoc us' vs' r'))
+          (no_bracket_first r p') (no_bracket_first r' q') in
           let z = same.one_operand r r' (last_part ts us vs (word (timed_word of)) n l) p' (rw x.0 q') y.4 in
           (rw (o, x.0, y.0, y.1, y.2, y.3, z.0) refl, z.1)
 
@@ -338,7 +339,8 @@ module _ (s : Scale) (n : ℕ) (same : OperandSame s n) where
   conjunct_same : {k : ℕ} {ts us : List Token} {ns ms : List Node} (r r' : List Token) → length ts ≤ n → Ends after_conjunct r → Ends after_conjunct r'
       → IsConjunct s k ts ns → IsConjunct s k us ms → ts ++ r ≡ us ++ r' → (ns ≡ ms) × (r ≡ r')
   conjunct_same {k} r r' l f g p q h =
-      listed_same (IsTimed s) (codes "and") And after_conjunct (none_of (codes "and") after_conjunct refl) n (record { one_way = timed_same s n same }) k r r' l f g
+      listed_same (IsTimed s) (codes "and") And after_conjunct (none_of (codes "and") after_conjunct refl) n (record { one_way = timed_same s n same })
+      k r r' l f g
       (conjunct_list p) (conjunct_list q) h
 
   disjunct_same : {k : ℕ} {ts us : List Token} {ns ms : List Node} (r r' : List Token) → length ts ≤ n → Ends after_disjunct r → Ends after_disjunct r'

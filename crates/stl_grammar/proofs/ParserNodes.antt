@@ -100,7 +100,8 @@ count_is : (s : Scale) (k : ℕ) (drafts xs : List Draft) (ns : List Node) → l
 count_is s k drafts xs ns e f = let g = same_length s xs ns f in omega (arith, length-append drafts xs)
 
 -- one more
-nodes_push : (s : Scale) (xs : List Draft) (ns : List Node) (d : Draft) (x : Node) → nodes_in s xs ≡ ns → node_in s d ≡ x → nodes_in s (xs ++ d ∷ []) ≡ ns ++ x ∷ []
+nodes_push : (s : Scale) (xs : List Draft) (ns : List Node) (d : Draft) (x : Node) → nodes_in s xs ≡ ns → node_in s d ≡ x
+    → nodes_in s (xs ++ d ∷ []) ≡ ns ++ x ∷ []
 nodes_push s xs ns d x e f = nodes_in-append s xs (d ∷ []) ∙ (ap (λ z. z ++ node_in s d ∷ []) e ∙ ap (λ z. ns ++ z ∷ []) f)
 
 -- a state by its parts
@@ -174,7 +175,8 @@ is_code_bracket OpenBracket = true
 is_code_bracket CloseBracket = true
 is_code_bracket _ = false
 
-skip_step : (text : List ℕ) (of : Timed) (b : Back) (c : Code) (frames : List Frame) (drafts : List Draft) (n : ℕ) → back of ≡ Some b → is_code_bracket c ≡ false
+skip_step : (text : List ℕ) (of : Timed) (b : Back) (c : Code) (frames : List Frame) (drafts : List Draft) (n : ℕ) → back of ≡ Some b
+    → is_code_bracket c ≡ false
     → parse_step text (at (Bound of) frames drafts [] n) c ≡ parse_step text (at AtOperand (back_frame b Whole (length drafts - 1) ∷ frames) drafts [] n) c
 unfolding is_code_bracket
 skip_step text of b OpenBracket frames drafts n e f = absurd (cc)
@@ -293,7 +295,8 @@ module _ (text : List ℕ) (frames : List Frame) (drafts : List Draft) (n : ℕ)
       let (low, e, l) = lower_reads of x (opens_bound of o r) in
       let (high, f, m) = upper_reads of x low l in
       let w : Window = record { low = low; high = high; low_in = x; high_in = y } in
-      let d : HasFrame digits (length drafts - 1) of (ticks_of digits low) (Some (ticks_of digits high)) x y (bounded_frame of w (length drafts - 1)) = ahead of w in
+      let d : HasFrame digits (length drafts - 1) of (ticks_of digits low) (Some (ticks_of digits high)) x y (bounded_frame of w (length drafts - 1)) =
+      ahead of w in
       (bounded_frame of w (length drafts - 1), rw (e digits, f digits) at d, closes_bound of x low high c m)
   bound_reads {digits} {ts = ts} of (endless {a = a} {j} {x = x} e o c) p r =
       let (b, f) = looking_back of e in
@@ -400,7 +403,8 @@ module _ (text : List ℕ) (frames : List Frame) (drafts : List Draft) (n : ℕ)
           constant_reads text frames drafts (suc n) s terms rel c
           (stepped y (Relation rel) (at (Constant rel) frames drafts terms (suc n)) (λ c h. relation_spelled text rel c h) refl)
 
-      signed_reads : {us : List Token} {q : Parse} {t : Term} → AreTerms us (t ∷ more) → Reads text (at AtOperand frames drafts [] n) (us ++ relation rel ∷ vs) q
+      signed_reads : {us : List Token} {q : Parse} {t : Term} → AreTerms us (t ∷ more)
+          → Reads text (at AtOperand frames drafts [] n) (us ++ relation rel ∷ vs) q
           → OperandEnds s (Leaf (record { terms = t ∷ more; rel = rel; limit = lim }) ∷ []) frames drafts q
       signed_reads (more_plus {k = k} {w = w} {ts = ts} {us = us} i j) r =
           let x = stepped r Plus (at (AtTerm false) frames drafts [] (suc n)) (λ c h. plus_spelled text c h) refl in
@@ -527,7 +531,8 @@ module _ (text : List ℕ) (s : Scale) where
         let b : rank f ≡ binds o = infix_binds o (length (drafts ++ xs) - 1) in
         let step = stepped sp.2 (IsKeyword (connective_keyword o)) (at AtOperand (f ∷ frames) (drafts ++ xs) [] (suc sp.0.made))
         (λ c j. keyword_spelled text (connective_keyword o) c j) (connective_step text o sp.0 frames (drafts ++ xs) m h) in
-        let (ys, j, y) = derived_left d' room.last (f ∷ frames) (drafts ++ xs) (suc sp.0.made) q (omega (arith, b, room.right)) (count_is s k drafts xs ns e g) step in
+        let (ys, j, y) = derived_left d' room.last (f ∷ frames) (drafts ++ xs) (suc sp.0.made) q
+        (omega (arith, b, room.right)) (count_is s k drafts xs ns e g) step in
         two_ends s k r ns ms frames drafts xs ys q f (connective_node o) e g j (λ last. infix_node s o (length (drafts ++ xs) - 1) last) (omega (arith, b, i))
         (ended_less r (right_binds o) q (f ∷ frames) (drafts ++ xs ++ ys) (omega (arith, room.more, i)) y)
     derived_left {r} {k} (beside of {a = a} {b} {x} {y} {ts} {us} {vs} {ns} {ms} i four p w p') five frames drafts n q l e t =

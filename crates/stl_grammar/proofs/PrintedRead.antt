@@ -35,8 +35,8 @@ use Rattle.stl_grammar.specs.declared.place.Timed.{Timed}
 use Rattle.stl_grammar.specs.declared.place.Timed.TheVariants.{Until as TUntil, Since as TSince, Eventually as TEventually}
 use Rattle.stl_grammar.specs.declared.place.Timed.TheVariants.{Always as TAlways, Once as TOnce, Historically as THistorically}
 use Rattle.stl_grammar.proofs.Derivations.{Connective, by_and, by_or, by_implies, connective_word, connective_node, timed_word, timed_node, upper}
-use Rattle.stl_grammar.proofs.Derivations.{Opens, opens_in, opens_out, Closes, closes_in, closes_out, by_brackets, Bounded, left_out, within, endless, Operand, negated, prefixed, constant}
-use Rattle.stl_grammar.proofs.Derivations.{enclosed, compared, Derived, joined, beside, alone, one_binds, as_formula}
+use Rattle.stl_grammar.proofs.Derivations.{Opens, opens_in, opens_out, Closes, closes_in, closes_out, by_brackets, Bounded, left_out, within, endless}
+use Rattle.stl_grammar.proofs.Derivations.{Operand, negated, prefixed, constant, enclosed, compared, Derived, joined, beside, alone, one_binds, as_formula}
 use Rattle.stl_grammar.proofs.TokenEnds.{derived_ends, operand_ends, short_atom, short_signed}
 use Rattle.stl_grammar.proofs.TokenNeat.{ArePlain, IsNeat, constant_plain, neat_joined, neat_word, neat_parens, neat_bound}
 use Rattle.stl_grammar.proofs.PrintedTokens.{Separates, Lexed, LexedAny, Parts, any_lexed, then_lexed, parted_any}
@@ -477,7 +477,8 @@ module _ (s : Scale) (all : List Node) (order : IsPostOrder all) where
       let b = last_is pre ns post k n a l in
       let r = λ (inner : List ℕ) (i : IsPrinted s (subformula all (top k ns)) inner).
       tree_read t pre (n ∷ post) (a ∙ simp append_assoc) l (all_left IsFit ns (n ∷ []) f) inner i in
-      let x = one_read s (subformula all) k (top k (ns ++ n ∷ [])) ns n text e (all_last IsFit ns n f) (reads_of s (subformula all) k ns r) (rw b at h) in rw b x
+      let x = one_read s (subformula all) k (top k (ns ++ n ∷ [])) ns n text e (all_last IsFit ns n f) (reads_of s (subformula all) k ns r) (rw b at h) in
+      rw b x
   tree_read {k} (two {ns = ns} {ms} n t u e) pre post a l f text h =
       let b = last_is pre (ns ++ ms) post k n a l in
       let g = all_left IsFit (ns ++ ms) (n ∷ []) f in

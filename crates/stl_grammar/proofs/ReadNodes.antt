@@ -161,7 +161,8 @@ timed_bounds _ p q w h = h
 
 -- the operand after a bound
 bound_fine : {digits a : ℕ} {o : Owner} {b : Option ℕ} {us : List Token} {x y : Bool}
-    → Bounded digits o us a b x y → {s : Scale} {k : ℕ} {ts : List Token} {ns : List Node} → Operand s k ts ns → (h : Bool) (marks : List Mark) (n : ℕ) → Fine (st (at_bound o) h marks n) (us ++ ts)
+    → Bounded digits o us a b x y → {s : Scale} {k : ℕ} {ts : List Token} {ns : List Node} → Operand s k ts ns
+    → (h : Bool) (marks : List Mark) (n : ℕ) → Fine (st (at_bound o) h marks n) (us ++ ts)
     → Fine (st at_operand h marks n) ts
 unfolding kind
 bound_fine {o = o} (left_out e) p h marks n f =
