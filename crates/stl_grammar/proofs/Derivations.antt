@@ -60,17 +60,17 @@ right_binds by_and = 4
 right_binds by_or = 3
 right_binds by_implies = 1
 
--- each binds
+-- each connective binds more tightly than parentheses, which count 0
 pub one_binds : (o : Connective) → 1 ≤ binds o
 one_binds by_and = omega arith
 one_binds _ = omega arith
 
--- and less than an operator with a bound
+-- and less tightly than an operator with a bound
 pub has_three : (o : Connective) → binds o ≤ 3
 has_three by_and = omega arith
 has_three _ = omega arith
 
--- its left side is no `implies`
+-- the left side of a connective is no `implies` by itself
 pub left_two : (o : Connective) → 2 ≤ left_binds o
 left_two by_and = omega arith
 left_two _ = omega arith
@@ -183,7 +183,7 @@ since_bound since_nothing = left_out refl
 since_bound since_bounded = within opens_in closes_in
 since_bound since_unbounded = endless refl opens_in closes_in
 
--- and the other way
+-- bounds of the table are those of the grammar
 opening_of : {o : Owner} {t : Token} {x : Bool} → Opens o t x → IsOpening t x
 opening_of opens_in = inside
 opening_of (opens_out e) = outside
@@ -261,7 +261,7 @@ mutual
   operand_derived (parens f) = enclosed (formula_derived 1 (omega arith) f)
   operand_derived (atom a) = compared a
 
--- and the other way
+-- derivations of the table are those of the grammar: an `until` or `since`
 side : {s : Scale} {k a : ℕ} {b : Option ℕ} {x y : Bool} {ts us vs : List Token} {ns ms : List Node} (of : Timed) → is_beside of ≡ true
     → IsOperand s k ts ns → Bounded s.time (owner of) us a b x y → IsOperand s (k + length ns) vs ms
     → IsTimed s k (ts ++ word (timed_word of) ∷ (us ++ vs)) (ns ++ ms ++ timed_node of a b x y (top k ns) (top (k + length ns) ms) ∷ [])
@@ -315,7 +315,7 @@ mutual
   as_formula (beside of e m p w q) = disjunct (conjunct (timed (side of e (as_operand p) w (as_operand q))))
   as_formula (alone p) = disjunct (conjunct (timed (operand (as_operand p))))
 
--- a bracket
+-- the token may open or close a bound
 abbrev pub is_bracket : Token → Bool
 is_bracket open_bracket = true
 is_bracket close_bracket = true
@@ -332,7 +332,7 @@ pub record Begins (ts : List Token) : Type 0 where
   -- it opens no bound
   pub other : is_bracket head ≡ false
 
--- each operand begins so
+-- no operand begins with a bracket, so a bound that is left out is seen to be
 pub operand_begins : {s : Scale} {k : ℕ} {ts : List Token} {ns : List Node} → Operand s k ts ns → Begins ts
 operand_begins (compared (first (term_name f) u c)) = record { head = _; rest = _; is = refl; other = refl }
 operand_begins (compared (first (scaled f) u c)) = record { head = _; rest = _; is = refl; other = refl }

@@ -117,19 +117,19 @@ skips o e h marks n open_bracket f = absurd (cc)
 skips o e h marks n close_bracket f = absurd (cc)
 skips o e h marks n _ f = rw e refl
 
--- the brackets of a bound, and `inf`
+-- the state after the bracket that opens a bound
 pub opens_step : {o : Owner} {t : Token} {x : Bool} → Opens o t x → (h : Bool) (marks : List Mark) (n : ℕ)
     → step_from (st (at_bound o) h marks n) t ≡ st (at_low o) h marks n
 opens_step opens_in h marks n = refl
 opens_step (opens_out e) h marks n = rw e refl
 
--- at its end
+-- after the bracket that closes it
 pub closes_step : {o : Owner} {t : Token} {x : Bool} → Closes o t x → (h : Bool) (marks : List Mark) (n : ℕ)
     → step_from (st (at_closing o) h marks n) t ≡ st at_operand h marks n
 closes_step closes_in h marks n = refl
 closes_step (closes_out e) h marks n = rw e refl
 
--- in place of an upper end
+-- and after `inf` in place of an upper end
 pub inf_step : (o : Owner) → looks_back o ≡ true → (a j : ℕ) (h : Bool) (marks : List Mark) (n : ℕ)
     → step_from (st (at_high o a j) h marks n) (word (codes "inf")) ≡ st (at_closing o) h marks n
 unfolding kind
@@ -213,7 +213,7 @@ constant_steps false h marks n = refl
 pub record Leaves (r : ℕ) (marks all : List Mark) : Type 0 where
   -- nothing but an `implies` is left
   pub implied : Implied (without_operators marks) all
-  -- nor is that
+  -- nor is an `implies` left where the tokens bind more tightly than it
   pub same : 2 ≤ r → all ≡ without_operators marks
 
 leaves_all : (r : ℕ) (marks : List Mark) → Leaves r marks (without_operators marks)

@@ -54,9 +54,8 @@ use Rattle.stl_grammar.proofs.Derivations.{Opens, opens_in, opens_out, Closes, c
 use Rattle.stl_grammar.proofs.Derivations.{Operand, negated, prefixed, constant, enclosed, compared, Derived, joined, beside, alone, formula_derived}
 use Rattle.stl_grammar.proofs.Derivations.{is_bracket, operand_begins}
 use Rattle.stl_grammar.proofs.Rescaled.{rescaled}
-use Rattle.stl_grammar.proofs.ParserReads.{Reads, reads, taken_reads, reads_split, reads_none, keyword_spelled, relation_spelled}
-use Rattle.stl_grammar.proofs.ParserReads.{open_paren_spelled, close_paren_spelled, open_bracket_spelled, close_bracket_spelled}
-use Rattle.stl_grammar.proofs.ParserReads.{comma_spelled, star_spelled, plus_spelled, minus_spelled, stepped, stepped_number, stepped_name}
+use Rattle.stl_grammar.proofs.ParserReads.{Reads, reads, taken_reads, reads_split, reads_none, relation_spelled}
+use Rattle.stl_grammar.proofs.ParserReads.{stepped, stepped_keyword, stepped_symbol, stepped_number, stepped_name}
 
 -- frames that bind less tightly stay
 frames_stay : (r : ℕ) (frames : List Frame) → top_rank frames < r → folded_frames r frames ≡ frames
@@ -246,21 +245,21 @@ module _ (text : List ℕ) (frames : List Frame) (drafts : List Draft) (n : ℕ)
   -- the brackets of a bound, and what stands between
   opens_bound : {q : Parse} {t : Token} {ts : List Token} {x : Bool} (of : Timed) → Opens (owner of) t x
       → Reads text (at (Bound of) frames drafts [] n) (t ∷ ts) q → Reads text (at (Low of x) frames drafts [] n) ts q
-  opens_bound of opens_in r = stepped r OpenBracket _ (λ c h. open_bracket_spelled text c h) refl
-  opens_bound of (opens_out e) r = stepped r CloseBracket _ (λ c h. close_bracket_spelled text c h) (opening_step text of frames drafts n e)
+  opens_bound of opens_in r = stepped_symbol r OpenBracket refl _ refl
+  opens_bound of (opens_out e) r = stepped_symbol r CloseBracket refl _ (opening_step text of frames drafts n e)
 
   closes_bound : {q : Parse} {t : Token} {ts : List Token} {y : Bool} (of : Timed) (x : Bool) (low high : Decimal) → Closes (owner of) t y
       → Reads text (at (Closing of x low high) frames drafts [] n) (t ∷ ts) q
       → Reads text (at AtOperand (bounded_frame of (record { low = low; high = high; low_in = x; high_in = y }) (length drafts - 1) ∷ frames) drafts [] n) ts q
-  closes_bound of x low high closes_in r = stepped r CloseBracket _ (λ c h. close_bracket_spelled text c h) refl
+  closes_bound of x low high closes_in r = stepped_symbol r CloseBracket refl _ refl
   closes_bound of x low high (closes_out e) r =
-      stepped r OpenBracket _ (λ c h. open_bracket_spelled text c h) (closing_step text of x low high frames drafts n e)
+      stepped_symbol r OpenBracket refl _ (closing_step text of x low high frames drafts n e)
 
   closes_inf : {q : Parse} {t : Token} {ts : List Token} {y : Bool} (b : Back) (x : Bool) (low : Decimal) → Closes (back_owner b) t y
       → Reads text (at (ClosingInf b x low) frames drafts [] n) (t ∷ ts) q
       → Reads text (at AtOperand (back_frame b (From low x) (length drafts - 1) ∷ frames) drafts [] n) ts q
-  closes_inf b x low closes_in r = stepped r CloseBracket _ (λ c h. close_bracket_spelled text c h) refl
-  closes_inf b x low (closes_out e) r = stepped r OpenBracket _ (λ c h. open_bracket_spelled text c h) (past_step text b x low frames drafts n e)
+  closes_inf b x low closes_in r = stepped_symbol r CloseBracket refl _ refl
+  closes_inf b x low (closes_out e) r = stepped_symbol r OpenBracket refl _ (past_step text b x low frames drafts n e)
 
   lower_reads : {q : Parse} {a j : ℕ} {ts : List Token} (of : Timed) (x : Bool)
       → Reads text (at (Low of x) frames drafts [] n) (number a j ∷ comma ∷ ts) q
@@ -268,7 +267,7 @@ module _ (text : List ℕ) (frames : List Frame) (drafts : List Draft) (n : ℕ)
   lower_reads {a = a} {j} of x r =
       let u = stepped_number r in
       let y = u.4 (at (AtComma of x u.0) frames drafts [] n) refl in
-      (u.0, is_number u.0 a j u.1 u.2, stepped y Comma (at (High of x u.0) frames drafts [] n) (λ c h. comma_spelled text c h) refl)
+      (u.0, is_number u.0 a j u.1 u.2, stepped_symbol y Comma refl (at (High of x u.0) frames drafts [] n) refl)
 
   upper_reads : {q : Parse} {b k : ℕ} {ts : List Token} (of : Timed) (x : Bool) (low : Decimal)
       → Reads text (at (High of x low) frames drafts [] n) (number b k ∷ ts) q
@@ -311,7 +310,7 @@ module _ (text : List ℕ) (frames : List Frame) (drafts : List Draft) (n : ℕ)
           let (low, e, l) = lower_reads (back_timed b) x (opens_bound (back_timed b) o r) in
           let d : HasFrame digits (length drafts - 1) (back_timed b) (ticks_of digits low) None x true (back_frame b (From low x) (length drafts - 1)) =
           behind b (From low x) in
-          let m = stepped l (IsKeyword Inf) (at (ClosingInf b x low) frames drafts [] n) (λ c h. keyword_spelled text Inf c h) (rw (back_is b) refl) in (
+          let m = stepped_keyword Inf l (at (ClosingInf b x low) frames drafts [] n) (rw (back_is b) refl) in (
             back_frame b (From low x) (length drafts - 1),
             rw (e digits) at d,
             closes_inf b x low z m,
@@ -334,7 +333,7 @@ module _ (text : List ℕ) (frames : List Frame) (drafts : List Draft) (n : ℕ)
   term_reads us less terms (scaled {n = k} {w = w} g) r =
       let u = stepped_number r in
       let y = u.4 (at (AtStar less u.0) frames drafts terms n) refl in
-      let z = stepped y Star (at (AtName less u.0) frames drafts terms n) (λ c h. star_spelled text c h) refl in
+      let z = stepped_symbol y Star refl (at (AtName less u.0) frames drafts terms n) refl in
       let m = stepped_name g z in
       let e : term_of less (coefficient u.0) (between m.0 m.1 text) ≡ term_of less k w = rw (coefficient_is u.0 u.3, u.1, m.2) refl in
       rw (ap (λ z. at Sign frames drafts (terms ++ z ∷ []) n) e) at
@@ -349,7 +348,7 @@ module _ (text : List ℕ) (frames : List Frame) (drafts : List Draft) (n : ℕ)
   first_reads us (scaled {n = k} {w = w} g) r =
       let u = stepped_number r in
       let y = u.4 (at (AtStar false u.0) frames drafts [] (suc n)) refl in
-      let z = stepped y Star (at (AtName false u.0) frames drafts [] (suc n)) (λ c h. star_spelled text c h) refl in
+      let z = stepped_symbol y Star refl (at (AtName false u.0) frames drafts [] (suc n)) refl in
       let m = stepped_name g z in
       let e : term_of false (coefficient u.0) (between m.0 m.1 text) ≡ term_of false k w = rw (coefficient_is u.0 u.3, u.1, m.2) refl in
       rw (ap (λ z. at Sign frames drafts (z ∷ []) (suc n)) e) at
@@ -360,31 +359,34 @@ module _ (text : List ℕ) (frames : List Frame) (drafts : List Draft) (n : ℕ)
       → Reads text (at Sign frames drafts terms n) (us ++ vs) q → Reads text (at Sign frames drafts (terms ++ more) n) vs q
   terms_read vs terms no_terms r = rw (append-nil terms) r
   terms_read vs terms (more_plus {k = k} {w = w} {ts = ts} {us = us} {terms = more} t u) r =
-      let x = stepped r Plus (at (AtTerm false) frames drafts terms n) (λ c h. plus_spelled text c h) refl in
+      let x = stepped_symbol r Plus refl (at (AtTerm false) frames drafts terms n) refl in
       let y = term_reads (us ++ vs) false terms t (rw (append_assoc ts us vs) at x) in
       rw (append_assoc terms (term_of false k w ∷ []) more) at (terms_read vs (terms ++ term_of false k w ∷ []) u y)
   terms_read vs terms (more_minus {k = k} {w = w} {ts = ts} {us = us} {terms = more} t u) r =
-      let x = stepped r Minus (at (AtTerm true) frames drafts terms n) (λ c h. minus_spelled text c h) refl in
+      let x = stepped_symbol r Minus refl (at (AtTerm true) frames drafts terms n) refl in
       let y = term_reads (us ++ vs) true terms t (rw (append_assoc ts us vs) at x) in
       rw (append_assoc terms (term_of true k w ∷ []) more) at (terms_read vs (terms ++ term_of true k w ∷ []) u y)
 
-  -- a constant ends its atom
+  -- a constant ends its atom, with its number
+  abbrev limited : Bool → Decimal → List Term → Rel → Draft
+  limited less d terms rel = Sum (record { terms = terms; rel = rel; negative = less; limit = d })
+
+  number_ends : (s : Scale) (less : Bool) (place : Place) {q : Parse} {m k : ℕ} (terms : List Term) (rel : Rel)
+      → ((d : Decimal) → parse_step text (at place frames drafts terms n) (Number d)
+      ≡ Some (folded 5 (at End frames (drafts ++ limited less d terms rel ∷ []) [] n)))
+      → Reads text (at place frames drafts terms n) (number m k ∷ []) q
+      → OperandEnds s (Leaf (record { terms = terms; rel = rel; limit = signed less (ticks s.value m k) }) ∷ []) frames drafts q
+  number_ends s less place terms rel f r =
+      let u = stepped_number r in
+      (limited less u.0 terms rel ∷ [], n, rw (u.1, u.2) refl, sym (reads_none (u.4 _ (f u.0))))
+
   constant_reads : (s : Scale) {q : Parse} {vs : List Token} {c : ℤ} (terms : List Term) (rel : Rel) → IsConstant s.value vs c
       → Reads text (at (Constant rel) frames drafts terms n) vs q → OperandEnds s (Leaf (record { terms = terms; rel = rel; limit = c }) ∷ []) frames drafts q
-  constant_reads s terms rel plain r =
-      let u = stepped_number r in
-      let d : Draft = Sum (record { terms = terms; rel = rel; negative = false; limit = u.0 }) in
-      (d ∷ [], n, rw (u.1, u.2) refl, sym (reads_none (u.4 (folded 5 (at End frames (drafts ++ d ∷ []) [] n)) refl)))
+  constant_reads s terms rel plain r = number_ends s false (Constant rel) terms rel (λ d. refl) r
   constant_reads s terms rel positive r =
-      let x = stepped r Plus (at (AtNumber rel false) frames drafts terms n) (λ c h. plus_spelled text c h) refl in
-      let u = stepped_number x in
-      let d : Draft = Sum (record { terms = terms; rel = rel; negative = false; limit = u.0 }) in
-      (d ∷ [], n, rw (u.1, u.2) refl, sym (reads_none (u.4 (folded 5 (at End frames (drafts ++ d ∷ []) [] n)) refl)))
+      number_ends s false (AtNumber rel false) terms rel (λ d. refl) (stepped_symbol r Plus refl (at (AtNumber rel false) frames drafts terms n) refl)
   constant_reads s terms rel negative r =
-      let x = stepped r Minus (at (AtNumber rel true) frames drafts terms n) (λ c h. minus_spelled text c h) refl in
-      let u = stepped_number x in
-      let d : Draft = Sum (record { terms = terms; rel = rel; negative = true; limit = u.0 }) in
-      (d ∷ [], n, rw (u.1, u.2) refl, sym (reads_none (u.4 (folded 5 (at End frames (drafts ++ d ∷ []) [] n)) refl)))
+      number_ends s true (AtNumber rel true) terms rel (λ d. refl) (stepped_symbol r Minus refl (at (AtNumber rel true) frames drafts terms n) refl)
 
 module _ (text : List ℕ) (frames : List Frame) (drafts : List Draft) (n : ℕ) where
   atom_reads : (s : Scale) {q : Parse} {ts : List Token} {a : Atom} → IsAtom s.value ts a → Reads text (at AtOperand frames drafts [] n) ts q
@@ -407,11 +409,11 @@ module _ (text : List ℕ) (frames : List Frame) (drafts : List Draft) (n : ℕ)
           → Reads text (at AtOperand frames drafts [] n) (us ++ relation rel ∷ vs) q
           → OperandEnds s (Leaf (record { terms = t ∷ more; rel = rel; limit = lim }) ∷ []) frames drafts q
       signed_reads (more_plus {k = k} {w = w} {ts = ts} {us = us} i j) r =
-          let x = stepped r Plus (at (AtTerm false) frames drafts [] (suc n)) (λ c h. plus_spelled text c h) refl in
+          let x = stepped_symbol r Plus refl (at (AtTerm false) frames drafts [] (suc n)) refl in
           let y = term_reads text frames drafts (suc n) (us ++ relation rel ∷ vs) false [] i (rw (append_assoc ts us (relation rel ∷ vs)) at x) in
           rest (terms_read text frames drafts (suc n) (relation rel ∷ vs) (term_of text frames drafts n false k w ∷ []) j y)
       signed_reads (more_minus {k = k} {w = w} {ts = ts} {us = us} i j) r =
-          let x = stepped r Minus (at (AtTerm true) frames drafts [] (suc n)) (λ c h. minus_spelled text c h) refl in
+          let x = stepped_symbol r Minus refl (at (AtTerm true) frames drafts [] (suc n)) refl in
           let y = term_reads text frames drafts (suc n) (us ++ relation rel ∷ vs) true [] i (rw (append_assoc ts us (relation rel ∷ vs)) at x) in
           rest (terms_read text frames drafts (suc n) (relation rel ∷ vs) (term_of text frames drafts n true k w ∷ []) j y)
 
@@ -529,8 +531,7 @@ module _ (text : List ℕ) (s : Scale) where
         let (xs, g, h) = derived_left d (omega (arith, room.few)) frames drafts n sp.0 (omega (arith, m, room.two)) e sp.1 in
         let f : Frame = Between (infix_of o) (length (drafts ++ xs) - 1) in
         let b : rank f ≡ binds o = infix_binds o (length (drafts ++ xs) - 1) in
-        let step = stepped sp.2 (IsKeyword (connective_keyword o)) (at AtOperand (f ∷ frames) (drafts ++ xs) [] (suc sp.0.made))
-        (λ c j. keyword_spelled text (connective_keyword o) c j) (connective_step text o sp.0 frames (drafts ++ xs) m h) in
+        let step = stepped_keyword (connective_keyword o) sp.2 (at AtOperand (f ∷ frames) (drafts ++ xs) [] (suc sp.0.made)) (connective_step text o sp.0 frames (drafts ++ xs) m h) in
         let (ys, j, y) = derived_left d' room.last (f ∷ frames) (drafts ++ xs) (suc sp.0.made) q
         (omega (arith, b, room.right)) (count_is s k drafts xs ns e g) step in
         two_ends s k r ns ms frames drafts xs ys q f (connective_node o) e g j (λ last. infix_node s o (length (drafts ++ xs) - 1) last) (omega (arith, b, i))
@@ -541,8 +542,7 @@ module _ (text : List ℕ) (s : Scale) where
         let m : top_rank frames < 4 = omega arith in
         let at_end : Reads text (at End frames (drafts ++ xs) [] j) (word (timed_word of) ∷ (us ++ vs)) q =
         rw (← operand_state frames (drafts ++ xs) j (omega (arith, m)), ← g) sp.2 in
-        let step = stepped at_end (IsKeyword (timed_keyword of)) (at (Bound of) frames (drafts ++ xs) [] (suc j))
-        (λ c h. keyword_spelled text (timed_keyword of) c h) (beside_step text of frames (drafts ++ xs) j i m) in
+        let step = stepped_keyword (timed_keyword of) at_end (at (Bound of) frames (drafts ++ xs) [] (suc j)) (beside_step text of frames (drafts ++ xs) j i m) in
         let (z, h, more) = bound_reads text frames (drafts ++ xs) (suc j) of w p' step in
         let b : rank z ≡ 4 = frame_rank h ∙ rw i refl in
         let (ys, j', f', g') = operand_left p' (z ∷ frames) (drafts ++ xs) (suc j) q (count_is s k drafts xs ns e f) more in
@@ -555,24 +555,21 @@ module _ (text : List ℕ) (s : Scale) where
         → (frames : List Frame) (drafts : List Draft) (n : ℕ) (q : Parse) → length drafts ≡ k
         → Reads text (at AtOperand frames drafts [] n) ts q → OperandEnds s ns frames drafts q
     operand_left {k} (negated {ns = ns} p) frames drafts n q e r =
-        let step = stepped r (IsKeyword Not) (at AtOperand (Before Negation ∷ frames) drafts [] (suc n)) (λ c h. keyword_spelled text Not c h) refl in
+        let step = stepped_keyword Not r (at AtOperand (Before Negation ∷ frames) drafts [] (suc n)) refl in
         one_ends s k ns frames drafts q (Before Negation) _ e refl refl (operand_left p (Before Negation ∷ frames) drafts (suc n) q e step)
     operand_left {k} (prefixed of {a = a} {b} {x} {y} {ns = ns} i w p) frames drafts n q e r =
-        let step = stepped r (IsKeyword (timed_keyword of)) (at (Bound of) frames drafts [] (suc n)) (λ c h. keyword_spelled text (timed_keyword of) c h)
-        (before_step text of frames drafts n i) in
+        let step = stepped_keyword (timed_keyword of) r (at (Bound of) frames drafts [] (suc n)) (before_step text of frames drafts n i) in
         let (z, h, more) = bound_reads text frames drafts (suc n) of w p step in
         one_ends s k ns frames drafts q z _ e (frame_rank h ∙ rw i refl) (frame_node s h (top k ns) ∙ before_node of a b x y (length drafts - 1) (top k ns) i)
         (operand_left p (z ∷ frames) drafts (suc n) q e more)
     operand_left (constant b) frames drafts n q e r =
-        let step = stepped r (IsKeyword (constant_keyword b)) (folded 5 (at End frames (drafts ++ Const b ∷ []) [] (suc n)))
-        (λ c h. keyword_spelled text (constant_keyword b) c h) (constant_step text b frames drafts n) in
+        let step = stepped_keyword (constant_keyword b) r (folded 5 (at End frames (drafts ++ Const b ∷ []) [] (suc n))) (constant_step text b frames drafts n) in
         (Const b ∷ [], suc n, refl, sym (reads_none step))
     operand_left (enclosed {ts = ts} d) frames drafts n q e r =
-        let step = stepped r OpenParen (at AtOperand (Opened ∷ frames) drafts [] n) (λ c h. open_paren_spelled text c h) refl in
+        let step = stepped_symbol r OpenParen refl (at AtOperand (Opened ∷ frames) drafts [] n) refl in
         let sp = reads_split ts (close_paren ∷ []) step in
         let (xs, g, h) = derived_left d (omega arith) (Opened ∷ frames) drafts n sp.0 (omega arith) e sp.1 in
-        let end = stepped sp.2 CloseParen (folded 5 (at End frames (drafts ++ xs) [] sp.0.made)) (λ c j.
-        close_paren_spelled text c j) (close_step text sp.0 frames (drafts ++ xs) h) in
+        let end = stepped_symbol sp.2 CloseParen refl (folded 5 (at End frames (drafts ++ xs) [] sp.0.made)) (close_step text sp.0 frames (drafts ++ xs) h) in
         (xs, sp.0.made, g, sym (reads_none end))
     operand_left (compared a) frames drafts n q e r = atom_reads text frames drafts n s a r
 
