@@ -70,16 +70,12 @@ time_low : (pre post : List Token) (a j : ℕ)
     → (j ≤ time_digits (pre ++ number a j ∷ comma ∷ post)) × (first_decimals post ≤ time_digits (pre ++ number a j ∷ comma ∷ post))
 time_low [] post a j = (omega arith, omega arith)
 time_low (number n i ∷ pre) post a j = let x = time_low pre post a j in (omega (arith, x.0), omega (arith, x.1))
-time_low (word w ∷ pre) post a j = time_low pre post a j
-time_low (relation r ∷ pre) post a j = time_low pre post a j
 time_low (t ∷ pre) post a j = time_low pre post a j
 
 -- the constant after a relation has no more decimals than all
 pub value_low : (pre post : List Token) (r : Rel) → first_decimals post ≤ value_digits (pre ++ relation r ∷ post)
 value_low [] post r = omega arith
 value_low (relation q ∷ pre) post r = let x = value_low pre post r in omega (arith, x)
-value_low (word w ∷ pre) post r = value_low pre post r
-value_low (number n k ∷ pre) post r = value_low pre post r
 value_low (t ∷ pre) post r = value_low pre post r
 
 whole_low : (ts : List Token) → IsLow (time_digits ts) (value_digits ts) ts

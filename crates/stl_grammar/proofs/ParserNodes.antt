@@ -531,7 +531,8 @@ module _ (text : List ℕ) (s : Scale) where
         let (xs, g, h) = derived_left d (omega (arith, room.few)) frames drafts n sp.0 (omega (arith, m, room.two)) e sp.1 in
         let f : Frame = Between (infix_of o) (length (drafts ++ xs) - 1) in
         let b : rank f ≡ binds o = infix_binds o (length (drafts ++ xs) - 1) in
-        let step = stepped_keyword (connective_keyword o) sp.2 (at AtOperand (f ∷ frames) (drafts ++ xs) [] (suc sp.0.made)) (connective_step text o sp.0 frames (drafts ++ xs) m h) in
+        let step = stepped_keyword (connective_keyword o) sp.2 (at AtOperand (f ∷ frames) (drafts ++ xs) [] (suc sp.0.made))
+        (connective_step text o sp.0 frames (drafts ++ xs) m h) in
         let (ys, j, y) = derived_left d' room.last (f ∷ frames) (drafts ++ xs) (suc sp.0.made) q
         (omega (arith, b, room.right)) (count_is s k drafts xs ns e g) step in
         two_ends s k r ns ms frames drafts xs ys q f (connective_node o) e g j (λ last. infix_node s o (length (drafts ++ xs) - 1) last) (omega (arith, b, i))
@@ -542,7 +543,8 @@ module _ (text : List ℕ) (s : Scale) where
         let m : top_rank frames < 4 = omega arith in
         let at_end : Reads text (at End frames (drafts ++ xs) [] j) (word (timed_word of) ∷ (us ++ vs)) q =
         rw (← operand_state frames (drafts ++ xs) j (omega (arith, m)), ← g) sp.2 in
-        let step = stepped_keyword (timed_keyword of) at_end (at (Bound of) frames (drafts ++ xs) [] (suc j)) (beside_step text of frames (drafts ++ xs) j i m) in
+        let step = stepped_keyword (timed_keyword of) at_end (at (Bound of) frames (drafts ++ xs) [] (suc j))
+        (beside_step text of frames (drafts ++ xs) j i m) in
         let (z, h, more) = bound_reads text frames (drafts ++ xs) (suc j) of w p' step in
         let b : rank z ≡ 4 = frame_rank h ∙ rw i refl in
         let (ys, j', f', g') = operand_left p' (z ∷ frames) (drafts ++ xs) (suc j) q (count_is s k drafts xs ns e f) more in
@@ -563,7 +565,8 @@ module _ (text : List ℕ) (s : Scale) where
         one_ends s k ns frames drafts q z _ e (frame_rank h ∙ rw i refl) (frame_node s h (top k ns) ∙ before_node of a b x y (length drafts - 1) (top k ns) i)
         (operand_left p (z ∷ frames) drafts (suc n) q e more)
     operand_left (constant b) frames drafts n q e r =
-        let step = stepped_keyword (constant_keyword b) r (folded 5 (at End frames (drafts ++ Const b ∷ []) [] (suc n))) (constant_step text b frames drafts n) in
+        let step = stepped_keyword (constant_keyword b) r (folded 5 (at End frames (drafts ++ Const b ∷ []) [] (suc n)))
+        (constant_step text b frames drafts n) in
         (Const b ∷ [], suc n, refl, sym (reads_none step))
     operand_left (enclosed {ts = ts} d) frames drafts n q e r =
         let step = stepped_symbol r OpenParen refl (at AtOperand (Opened ∷ frames) drafts [] n) refl in

@@ -110,8 +110,6 @@ time_covers : (pre post : List Token) (a j b k : ℕ) → (j ≤ time_digits (pr
     × (k ≤ time_digits (pre ++ number a j ∷ comma ∷ number b k ∷ post))
 time_covers [] post a j b k = (omega arith, omega arith)
 time_covers (number n i ∷ pre) post a j b k = let x = time_covers pre post a j b k in (omega (arith, x.0), omega (arith, x.1))
-time_covers (word w ∷ pre) post a j b k = time_covers pre post a j b k
-time_covers (relation r ∷ pre) post a j b k = time_covers pre post a j b k
 time_covers (t ∷ pre) post a j b k = time_covers pre post a j b k
 
 covers_all : (ts : List Token) (digits : ℕ) → time_digits ts ≤ digits → AreFree [] ts → Covers digits ts

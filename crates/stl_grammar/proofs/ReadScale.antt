@@ -94,15 +94,11 @@ lexes_exact (token bytes text e _ l) = lexes_exact l
 exact_left : (ts us : List Token) → AreExact (ts ++ us) → AreExact ts
 exact_left [] us h = tt
 exact_left (number n k ∷ ts) us h = (h.0, exact_left ts us h.1)
-exact_left (word w ∷ ts) us h = exact_left ts us h
-exact_left (relation r ∷ ts) us h = exact_left ts us h
 exact_left (t ∷ ts) us h = exact_left ts us h
 
 exact_right : (ts us : List Token) → AreExact (ts ++ us) → AreExact us
 exact_right [] us h = h
 exact_right (number n k ∷ ts) us h = exact_right ts us h.1
-exact_right (word w ∷ ts) us h = exact_right ts us h
-exact_right (relation r ∷ ts) us h = exact_right ts us h
 exact_right (t ∷ ts) us h = exact_right ts us h
 
 -- a number with all the digits

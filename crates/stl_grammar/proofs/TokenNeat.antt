@@ -36,8 +36,6 @@ pub plain_append : (ts us : List Token) → begins_star us ≡ false → ArePlai
 plain_append [] us e a b = b
 plain_append (number n k ∷ []) us e a b = (before_none k us e, b)
 plain_append (number n k ∷ t ∷ ts) us e a b = (before_more k t ts us a.0, plain_append (t ∷ ts) us e a.1 b)
-plain_append (word w ∷ ts) us e a b = plain_append ts us e a b
-plain_append (relation r ∷ ts) us e a b = plain_append ts us e a b
 plain_append (_ ∷ ts) us e a b = plain_append ts us e a b
 
 pub record IsNeat (s : Scale) (ts : List Token) : Type 0 where
