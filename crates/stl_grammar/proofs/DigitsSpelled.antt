@@ -4,8 +4,8 @@ use Rattle.stl_grammar.specs.Grammar.{first_decimals, value_digits, time_digits}
 use Rattle.stl_grammar.specs.Taken.{plain}
 use Rattle.stl_grammar.specs.Building.{decimals_first, value_decimals, time_decimals}
 use Rattle.stl_grammar.specs.declared.token.Token.{Token as Code}
-use Rattle.stl_grammar.specs.declared.token.Token.TheVariants.{Keyword as IsKeyword, Name, Number, Relation, OpenParen}
-use Rattle.stl_grammar.specs.declared.token.Token.TheVariants.{CloseParen, OpenBracket, CloseBracket, Comma, Star, Plus, Minus}
+use Rattle.stl_grammar.specs.declared.token.Token.TheVariants.{Keyword as IsKeyword, Number, Relation}
+use Rattle.stl_grammar.specs.declared.token.Token.TheVariants.{Comma, Plus, Minus}
 
 first_same : (text : List ℕ) (codes : List Code) → first_decimals (map (plain text) codes) ≡ decimals_first codes
 first_same text ((IsKeyword w) ∷ codes) = refl

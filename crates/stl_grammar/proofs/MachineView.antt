@@ -17,7 +17,7 @@ use Rattle.stl_grammar.specs.Machine.{a_future, a_past, an_inf, a_name, Owner, o
 use Rattle.stl_grammar.specs.Machine.{looks_back, opens, closes, Place, at_operand, at_bound, at_low, at_comma, at_high}
 use Rattle.stl_grammar.specs.Machine.{at_closing, at_term, at_star, at_name, at_sign, at_constant, at_number, at_end, Mark}
 use Rattle.stl_grammar.specs.Machine.{paren, operator, implication, State, start, without_operators, closed, begin_word}
-use Rattle.stl_grammar.specs.Machine.{begin_operand, step_bound, step_inf, step_name, step_connective, step, step_at, run}
+use Rattle.stl_grammar.specs.Machine.{begin_operand, step_inf, step_name, step_connective, step, step_at, run}
 use Rattle.stl_grammar.specs.Machine.{in_paren, expected_at, all_pending, terms_at, fifth_at, disorder_at, future_at}
 use Rattle.stl_grammar.proofs.WordKinds.{ends_operand, has_operand, is_implication, is_inf, looks_ahead, is_word}
 use Rattle.stl_grammar.proofs.WordKinds.{among_constants, among_prefixes, among_implies, among_inf, among_ahead}

@@ -33,8 +33,7 @@ use Rattle.stl_grammar.proofs.MachineView.{run_expected, run_depth, run_nodes, r
 use Rattle.stl_grammar.specs.declared.decimal.Decimal.{Decimal}
 use Rattle.stl_grammar.specs.declared.token.Keyword.TheVariants.{Until, Eventually, Always, Inf}
 use Rattle.stl_grammar.specs.declared.token.Token.{Token as Code}
-use Rattle.stl_grammar.specs.declared.token.Token.TheVariants.{Keyword as IsKeyword, Name, Number, Relation, OpenParen}
-use Rattle.stl_grammar.specs.declared.token.Token.TheVariants.{CloseParen, OpenBracket, CloseBracket, Comma, Star, Plus, Minus}
+use Rattle.stl_grammar.specs.declared.token.Token.TheVariants.{Keyword as IsKeyword, Name, Number}
 use Rattle.stl_grammar.specs.declared.place.Place.{Place}
 use Rattle.stl_grammar.specs.declared.place.Place.TheVariants.{High}
 use Rattle.stl_grammar.specs.declared.place.Place.TheVariants.{Term as AtTerm}
@@ -52,7 +51,6 @@ SpellsLarge _ t = ⊥
 
 -- the code spells the token exactly, or a large number
 pub spells_plain : (text : List ℕ) (c : Code) (t : Token) → Spells text c t → (t ≡ plain text c) ⊎ SpellsLarge c t
-spells_plain text (IsKeyword w) t h = inl h
 spells_plain text (Name from to) t (name, e, at) =
     let size : to - from ≡ length name = omega (arith, at.ends) in
     let same : between from to text ≡ name = rw (size, at.stands) (take_at name at.after (length name) refl) in
@@ -63,15 +61,7 @@ spells_plain text (Number d) t h = by_size (nat_le d.decimals 6) refl h
         → (t ≡ plain text (Number d)) ⊎ SpellsLarge (Number d) t
     by_size true e h = inl h
     by_size false e h = inr (e, h)
-spells_plain text (Relation r) t h = inl h
-spells_plain text OpenParen t h = inl h
-spells_plain text CloseParen t h = inl h
-spells_plain text OpenBracket t h = inl h
-spells_plain text CloseBracket t h = inl h
-spells_plain text Comma t h = inl h
-spells_plain text Star t h = inl h
-spells_plain text Plus t h = inl h
-spells_plain text Minus t h = inl h
+spells_plain text _ t h = inl h
 
 -- a name that the code spells stands in the text
 some_name : (w : List ℕ) → IsTrue (is_name w) → 0 < length w

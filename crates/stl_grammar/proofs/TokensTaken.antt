@@ -3,7 +3,7 @@ use Rattle.std.proofs.Common.{◌≡◌, ℕ, suc, ◌+◌, ◌<◌, ◌≤◌, 
 use Rattle.std.specs.Prelude.{nat_lt}
 use Rattle.std.proofs.lemmas.Bool.{or_parts}
 use Rattle.std.proofs.lemmas.Bool.Decides.{nat_tests}
-use Rattle.stl_grammar.specs.Tokens.{Token, word, number, relation, comma, plus, minus, Lexes, nothing, blank as skip, token}
+use Rattle.stl_grammar.specs.Tokens.{Token, number, relation, comma, plus, minus, Lexes, nothing, blank as skip, token}
 use Rattle.stl_grammar.specs.Grammar.{first_decimals, value_digits, time_digits}
 use Rattle.stl_grammar.specs.FormulaRefusals.{MayBegin, RefusedAt, TokenFault, blank, here, later, is_unbounded, expected}
 use Rattle.stl_grammar.specs.FormulaRefusals.{pending, nodes_made, begins_fifth_term, passes_limit, is_bad_number}
