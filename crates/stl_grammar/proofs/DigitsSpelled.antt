@@ -4,8 +4,8 @@ use Rattle.stl_grammar.specs.Grammar.{first_decimals, value_digits, time_digits}
 use Rattle.stl_grammar.specs.Taken.{plain}
 use Rattle.stl_grammar.specs.Building.{decimals_first, value_decimals, time_decimals}
 use Rattle.stl_grammar.specs.declared.token.Token.{Token as Code}
-use Rattle.stl_grammar.specs.declared.token.Token.TheVariants.{Keyword as IsKeyword, Name, Number, Relation, OpenParen}
-use Rattle.stl_grammar.specs.declared.token.Token.TheVariants.{CloseParen, OpenBracket, CloseBracket, Comma, Star, Plus, Minus}
+use Rattle.stl_grammar.specs.declared.token.Token.TheVariants.{Keyword as IsKeyword, Number, Relation}
+use Rattle.stl_grammar.specs.declared.token.Token.TheVariants.{Comma, Plus, Minus}
 
 first_same : (text : List ℕ) (codes : List Code) → first_decimals (map (plain text) codes) ≡ decimals_first codes
 first_same text ((IsKeyword w) ∷ codes) = refl
@@ -26,17 +26,7 @@ value_same text (_ ∷ codes) = value_same text codes
 pub time_same : (text : List ℕ) (codes : List Code) → time_digits (map (plain text) codes) ≡ time_decimals codes
 time_same text [] = refl
 time_same text (Number d ∷ []) = refl
-time_same text (Number d ∷ (IsKeyword w) ∷ codes) = ap (λ n. max 0 n) (time_same text ((IsKeyword w) ∷ codes))
-time_same text (Number d ∷ (Name from to) ∷ codes) = ap (λ n. max 0 n) (time_same text ((Name from to) ∷ codes))
-time_same text (Number d ∷ (Number e) ∷ codes) = ap (λ n. max 0 n) (time_same text ((Number e) ∷ codes))
-time_same text (Number d ∷ (Relation r) ∷ codes) = ap (λ n. max 0 n) (time_same text ((Relation r) ∷ codes))
-time_same text (Number d ∷ OpenParen ∷ codes) = ap (λ n. max 0 n) (time_same text (OpenParen ∷ codes))
-time_same text (Number d ∷ CloseParen ∷ codes) = ap (λ n. max 0 n) (time_same text (CloseParen ∷ codes))
-time_same text (Number d ∷ OpenBracket ∷ codes) = ap (λ n. max 0 n) (time_same text (OpenBracket ∷ codes))
-time_same text (Number d ∷ CloseBracket ∷ codes) = ap (λ n. max 0 n) (time_same text (CloseBracket ∷ codes))
 time_same text (Number d ∷ Comma ∷ codes) = ap (λ n. max (max d.decimals n) (time_digits (map (plain text) codes)))
     (first_same text codes) ∙ ap (λ n. max (max d.decimals (decimals_first codes)) n) (time_same text codes)
-time_same text (Number d ∷ Star ∷ codes) = ap (λ n. max 0 n) (time_same text (Star ∷ codes))
-time_same text (Number d ∷ Plus ∷ codes) = ap (λ n. max 0 n) (time_same text (Plus ∷ codes))
-time_same text (Number d ∷ Minus ∷ codes) = ap (λ n. max 0 n) (time_same text (Minus ∷ codes))
+time_same text (Number d ∷ c ∷ codes) = ap (λ n. max 0 n) (time_same text (c ∷ codes))
 time_same text (_ ∷ codes) = time_same text codes

@@ -4,9 +4,9 @@ use Rattle.std.specs.Prelude.{nat_lt}
 use Rattle.std.proofs.lemmas.Bool.Decides.{nat_tests}
 use Rattle.stl_grammar.specs.Machine.{in_paren}
 use Rattle.stl_grammar.specs.Refusing.{marks_of, marks_in, parens_in, parens_of}
-use Rattle.stl_grammar.specs.declared.draft.Infix.TheVariants.{And as Both, Or as Either, Implies as Then, Until as UpTo, Since as After}
+use Rattle.stl_grammar.specs.declared.draft.Infix.TheVariants.{Implies as Then}
 use Rattle.stl_grammar.specs.declared.draft.Frame.{Frame}
-use Rattle.stl_grammar.specs.declared.draft.Frame.TheVariants.{Paren as Opened, Prefix as Before, Infix as Between}
+use Rattle.stl_grammar.specs.declared.draft.Frame.TheVariants.{Paren as Opened, Infix as Between}
 
 -- a frame adds its own marks
 pub marks_more : (f : Frame) (frames : List Frame) → length (marks_of (f ∷ frames)) ≡ marks_in f + length (marks_of frames)
@@ -37,9 +37,5 @@ parens_few (f ∷ frames) = omega (arith, parens_few frames, parens_one f)
 pub paren_counted : (frames : List Frame) → nat_lt 0 (parens_of frames) ≡ in_paren (marks_of frames)
 paren_counted [] = refl
 paren_counted (Opened ∷ frames) = grind (arith, nat_tests)
-paren_counted (Before o ∷ frames) = let e : 0 + parens_of frames ≡ parens_of frames = omega arith in rw e (paren_counted frames)
 paren_counted (Between Then left ∷ frames) = let e : 0 + parens_of frames ≡ parens_of frames = omega arith in rw e (paren_counted frames)
-paren_counted (Between Either left ∷ frames) = let e : 0 + parens_of frames ≡ parens_of frames = omega arith in rw e (paren_counted frames)
-paren_counted (Between Both left ∷ frames) = let e : 0 + parens_of frames ≡ parens_of frames = omega arith in rw e (paren_counted frames)
-paren_counted (Between (UpTo w) left ∷ frames) = let e : 0 + parens_of frames ≡ parens_of frames = omega arith in rw e (paren_counted frames)
-paren_counted (Between (After b) left ∷ frames) = let e : 0 + parens_of frames ≡ parens_of frames = omega arith in rw e (paren_counted frames)
+paren_counted (_ ∷ frames) = let e : 0 + parens_of frames ≡ parens_of frames = omega arith in rw e (paren_counted frames)

@@ -1,6 +1,6 @@
 -- Where the tokens of a formula have fewer decimals than the scale has digits, its numbers are multiples of ten.
-use Rattle.std.proofs.Common.{◌≡◌, ℕ, suc, ◌+◌, ◌-◌, ◌*◌, ◌^◌, ◌%◌, ◌<◌, ◌≤◌, List, [], ◌∷◌, ◌++◌, length}
-use Rattle.std.proofs.Common.{refl, ap, sym, ◌∙◌, Bool, true, false, arith, append_assoc, inl, inr, ◌⊎◌}
+use Rattle.std.proofs.Common.{◌≡◌, ℕ, suc, ◌-◌, ◌*◌, ◌^◌, ◌%◌, ◌<◌, ◌≤◌, List, [], ◌∷◌, ◌++◌}
+use Rattle.std.proofs.Common.{refl, ap, sym, ◌∙◌, Bool, arith, append_assoc, inl, inr, ◌⊎◌}
 use Rattle.std.specs.Prelude.{codes, nat_abs, Option, All}
 use Rattle.std.proofs.Math.Nat.{pow-suc}
 use Rattle.std.proofs.lemmas.List.{append-nil}
@@ -10,15 +10,16 @@ use Rattle.std.proofs.lemmas.List.Elements.{All-append, All-cons, All-nil, All-h
 use Rattle.stl_syntax.specs.Characters.{ticks}
 use Rattle.stl_syntax.specs.declared.scale.Scale.{Scale}
 use Rattle.stl_syntax.specs.declared.node.Node.{Node}
-use Rattle.stl_syntax.specs.declared.node.Node.TheVariants.{Const, Atom as Leaf, Not, And, Or, Implies, Until, Eventually, Always, Since, Once, Historically}
-use Rattle.stl_grammar.specs.Grammar.{top, Token, word, number, relation, open_paren, close_paren, open_bracket}
-use Rattle.stl_grammar.specs.Grammar.{close_bracket, comma, plus, minus, first_decimals, value_digits, time_digits}
-use Rattle.stl_grammar.specs.Grammar.{IsConstant, plain, positive, negative, IsAtom, first, signed}
-use Rattle.stl_grammar.specs.Grammar.{IsFutureWindow, bound, IsPastWindow, nothing, bounded, unbounded, IsPast}
-use Rattle.stl_grammar.specs.Grammar.IsPast.{nothing as since_nothing, bounded as since_bounded, unbounded as since_unbounded}
-use Rattle.stl_grammar.specs.Grammar.{IsFormula, IsDisjunct, IsConjunct, IsTimed, IsOperand, disjunct, implies}
-use Rattle.stl_grammar.specs.Grammar.{conjunct, or, timed, and, operand, until, since, not, eventually, always}
-use Rattle.stl_grammar.specs.Grammar.{once, historically, always_true, always_false, parens, atom}
+use Rattle.stl_syntax.specs.declared.node.Node.TheVariants.{Const, Atom as Leaf}
+use Rattle.stl_grammar.specs.Grammar.{Token, word, number, relation, open_paren, close_paren, comma, plus, minus}
+use Rattle.stl_grammar.specs.Grammar.{first_decimals, value_digits, time_digits, IsConstant, plain, positive, negative, IsAtom, first, signed}
+use Rattle.stl_grammar.specs.Machine.{Owner, of_until, of_future}
+use Rattle.stl_grammar.specs.Refusing.{owner}
+use Rattle.stl_grammar.specs.declared.place.Timed.{Timed}
+use Rattle.stl_grammar.specs.declared.place.Timed.TheVariants.{Until as TUntil, Eventually as TEventually, Always as TAlways}
+use Rattle.stl_grammar.proofs.Derivations.{Connective, by_and, connective_word, connective_node, timed_word, timed_node, Bounded, left_out, within, endless}
+use Rattle.stl_grammar.proofs.Derivations.{has_upper, Operand, negated, prefixed, constant, enclosed, compared, Derived, joined, beside, alone}
+use Rattle.stl_grammar.proofs.Derivations.{formula_derived}
 use Rattle.stl_grammar.specs.Laws.{with_upper, bounds_of, constants_of, Any, IsUneven, NeedsDigits, PrintedTextsAreRead}
 use Rattle.stl_grammar.proofs.NumberLemmas.{abs_neg}
 use Rattle.stl_grammar.proofs.PrintedRead.{printed_read}
@@ -69,16 +70,12 @@ time_low : (pre post : List Token) (a j : ℕ)
     → (j ≤ time_digits (pre ++ number a j ∷ comma ∷ post)) × (first_decimals post ≤ time_digits (pre ++ number a j ∷ comma ∷ post))
 time_low [] post a j = (omega arith, omega arith)
 time_low (number n i ∷ pre) post a j = let x = time_low pre post a j in (omega (arith, x.0), omega (arith, x.1))
-time_low (word w ∷ pre) post a j = time_low pre post a j
-time_low (relation r ∷ pre) post a j = time_low pre post a j
 time_low (t ∷ pre) post a j = time_low pre post a j
 
 -- the constant after a relation has no more decimals than all
 pub value_low : (pre post : List Token) (r : Rel) → first_decimals post ≤ value_digits (pre ++ relation r ∷ post)
 value_low [] post r = omega arith
 value_low (relation q ∷ pre) post r = let x = value_low pre post r in omega (arith, x)
-value_low (word w ∷ pre) post r = value_low pre post r
-value_low (number n k ∷ pre) post r = value_low pre post r
 value_low (t ∷ pre) post r = value_low pre post r
 
 whole_low : (ts : List Token) → IsLow (time_digits ts) (value_digits ts) ts
@@ -97,6 +94,18 @@ abs_ticks {d} us (plain {n = n} {k}) l = ticks_ten d n k l
 abs_ticks {d} us (positive {n = n} {k}) l = ticks_ten d n k l
 abs_ticks {d} us (negative {n = n} {k}) l = ap (λ z. z % 10) (abs_neg (ticks d n k)) ∙ ticks_ten d n k l
 
+-- the numbers of an operator's node are those of its bound
+pub node_bounds : (of : Timed) {d a : ℕ} {b : Option ℕ} {us : List Token} {x y : Bool} (p q : ℕ) → Bounded d (owner of) us a b x y
+    → bounds_of (timed_node of a b x y p q) ≡ with_upper a b
+node_bounds TUntil {a = a} p q w = ap (λ z. with_upper a z) (has_upper of_until refl w)
+node_bounds TEventually {a = a} p q w = ap (λ z. with_upper a z) (has_upper of_future refl w)
+node_bounds TAlways {a = a} p q w = ap (λ z. with_upper a z) (has_upper of_future refl w)
+node_bounds _ p q w = refl
+
+node_constants : (of : Timed) (a : ℕ) (b : Option ℕ) (x y : Bool) (p q : ℕ) → constants_of (timed_node of a b x y p q) ≡ []
+node_constants TUntil a b x y p q = refl
+node_constants _ a b x y p q = refl
+
 module _ (s : Scale) (dt dv : ℕ) where
   -- the node's numbers are multiples of ten where the decimals are fewer
   abbrev IsTen : Node → Type 0
@@ -111,24 +120,12 @@ module _ (s : Scale) (dt dv : ℕ) where
   two_ten : (ns ms : List Node) (n : Node) → All IsTen ns → All IsTen ms → IsTen n → All IsTen (ns ++ ms ++ n ∷ [])
   two_ten ns ms n h k g = one_ten (ns ++ ms) n (All-append IsTen ns ms h k) g
 
-  window_ten : {us : List Token} {a b : ℕ} {x y : Bool} → IsFutureWindow s.time us a b x y → Low us → dt < s.time → Tens (a ∷ b ∷ [])
-  window_ten (bound {a = a} {j} {b} {k} {x} {y} o c) h l =
-      let z = h.time (x ∷ []) (number b k ∷ y ∷ []) a j refl in (ticks_ten s.time a j (omega (arith, z.0)), (ticks_ten s.time b k (omega (arith, z.1)), tt))
-
-  past_ten : {us : List Token} {a : ℕ} {b : Option ℕ} {x y : Bool} → IsPastWindow s.time us a b x y → Low us → dt < s.time → Tens (with_upper a b)
-  past_ten nothing h l = (omega arith, tt)
-  past_ten (bounded {a = a} {j} {b} {k} {x} {y} o c) h l =
-      let z = h.time (x ∷ []) (number b k ∷ y ∷ []) a j refl in (ticks_ten s.time a j (omega (arith, z.0)), (ticks_ten s.time b k (omega (arith, z.1)), tt))
-  past_ten (unbounded {a = a} {j} {x} {y} o c) h l =
-      let z = h.time (x ∷ []) (word (codes "inf") ∷ y ∷ []) a j refl in (ticks_ten s.time a j (omega (arith, z.0)), tt)
-
-  since_ten : {us : List Token} {a : ℕ} {b : Option ℕ} → IsPast s.time us a b → Low us → dt < s.time → Tens (with_upper a b)
-  since_ten since_nothing h l = (omega arith, tt)
-  since_ten (since_bounded {a = a} {j} {b} {k}) h l =
-      let z = h.time (open_bracket ∷ []) (number b k ∷ close_bracket ∷ []) a j refl in
-      (ticks_ten s.time a j (omega (arith, z.0)), (ticks_ten s.time b k (omega (arith, z.1)), tt))
-  since_ten (since_unbounded {a = a} {j}) h l =
-      let z = h.time (open_bracket ∷ []) (word (codes "inf") ∷ close_bracket ∷ []) a j refl in (ticks_ten s.time a j (omega (arith, z.0)), tt)
+  bound_ten : {o : Owner} {us : List Token} {a : ℕ} {b : Option ℕ} {x y : Bool} → Bounded s.time o us a b x y → Low us → dt < s.time → Tens (with_upper a b)
+  bound_ten (left_out e) h l = (omega arith, tt)
+  bound_ten (within {a = a} {j} {b} {k} {t} {u} p q) h l =
+      let z = h.time (t ∷ []) (number b k ∷ u ∷ []) a j refl in (ticks_ten s.time a j (omega (arith, z.0)), (ticks_ten s.time b k (omega (arith, z.1)), tt))
+  bound_ten (endless {a = a} {j} {t} {u} e p q) h l =
+      let z = h.time (t ∷ []) (word (codes "inf") ∷ u ∷ []) a j refl in (ticks_ten s.time a j (omega (arith, z.0)), tt)
 
   atom_ten : {ts : List Token} {a : _} → IsAtom s.value ts a → Low ts → dv < s.value → Tens (constants_of (Leaf a))
   atom_ten (first {ts = ts} {us = us} {vs = vs} {rel = rel} t u c) h l =
@@ -137,56 +134,34 @@ module _ (s : Scale) (dt dv : ℕ) where
   atom_ten (signed {us = us} {vs = vs} {rel = rel} u c) h l =
       let z = h.value us vs rel refl in (abs_ticks [] c (rw (append-nil vs) (omega (arith, z))), tt)
 
+  connective_ten : (o : Connective) (p q : ℕ) → IsTen (connective_node o p q)
+  connective_ten by_and p q = (λ i. tt, λ i. tt)
+  connective_ten _ p q = (λ i. tt, λ i. tt)
+
+  timed_ten : (of : Timed) {us : List Token} {a : ℕ} {b : Option ℕ} {x y : Bool} (p q : ℕ) → Bounded s.time (owner of) us a b x y → Low us
+      → IsTen (timed_node of a b x y p q)
+  timed_ten of {a = a} {b} {x} {y} p q w h = (λ i. rw (node_bounds of p q w) (bound_ten w h i), λ i. rw (node_constants of a b x y p q) tt)
+
   mutual
-    formula_ten : {k : ℕ} {ts : List Token} {ns : List Node} → IsFormula s k ts ns → Low ts → All IsTen ns
-    formula_ten (disjunct d) h = disjunct_ten d h
-    formula_ten (implies {k = k} {ts = ts} {us} {ns} {ms} d g) h =
-        two_ten ns ms (Implies (top k ns) (top (k + length ns) ms)) (disjunct_ten d (low_left dt dv ts (word (codes "implies") ∷ us) h))
-        (formula_ten g (low_rest dt dv (word (codes "implies")) us (low_right dt dv ts (word (codes "implies") ∷ us) h))) (λ i. tt, λ i. tt)
+    derived_ten : {r k : ℕ} {ts : List Token} {ns : List Node} → Derived s r k ts ns → Low ts → All IsTen ns
+    derived_ten (joined o {ts = ts} {us} {ns} {ms} l d e) h =
+        let w : Token = word (connective_word o) in
+        two_ten ns ms _ (derived_ten d (low_left dt dv ts (w ∷ us) h)) (derived_ten e (low_rest dt dv w us (low_right dt dv ts (w ∷ us) h)))
+        (connective_ten o _ _)
+    derived_ten (beside of {ts = ts} {us} {vs} {ns} {ms} e l p w q) h =
+        let i = low_rest dt dv (word (timed_word of)) (us ++ vs) (low_right dt dv ts (word (timed_word of) ∷ (us ++ vs)) h) in
+        two_ten ns ms _ (operand_ten p (low_left dt dv ts (word (timed_word of) ∷ (us ++ vs)) h)) (operand_ten q (low_right dt dv us vs i))
+        (timed_ten of _ _ w (low_left dt dv us vs i))
+    derived_ten (alone p) h = operand_ten p h
 
-    disjunct_ten : {k : ℕ} {ts : List Token} {ns : List Node} → IsDisjunct s k ts ns → Low ts → All IsTen ns
-    disjunct_ten (conjunct d) h = conjunct_ten d h
-    disjunct_ten (or {k = k} {ts = ts} {us} {ns} {ms} d g) h =
-        two_ten ns ms (Or (top k ns) (top (k + length ns) ms)) (disjunct_ten d (low_left dt dv ts (word (codes "or") ∷ us) h))
-        (conjunct_ten g (low_rest dt dv (word (codes "or")) us (low_right dt dv ts (word (codes "or") ∷ us) h))) (λ i. tt, λ i. tt)
-
-    conjunct_ten : {k : ℕ} {ts : List Token} {ns : List Node} → IsConjunct s k ts ns → Low ts → All IsTen ns
-    conjunct_ten (timed d) h = timed_ten d h
-    conjunct_ten (and {k = k} {ts = ts} {us} {ns} {ms} d g) h =
-        two_ten ns ms (And (top k ns) (top (k + length ns) ms)) (conjunct_ten d (low_left dt dv ts (word (codes "and") ∷ us) h))
-        (timed_ten g (low_rest dt dv (word (codes "and")) us (low_right dt dv ts (word (codes "and") ∷ us) h))) (λ i. tt, λ i. tt)
-
-    timed_ten : {k : ℕ} {ts : List Token} {ns : List Node} → IsTimed s k ts ns → Low ts → All IsTen ns
-    timed_ten (operand p) h = operand_ten p h
-    timed_ten (until {k = k} {a = a} {b} {ts = ts} {us} {vs} {ns} {ms} p w q) h =
-        let l = low_left dt dv (ts ++ (word (codes "until") ∷ us)) vs h in
-        let m = low_rest dt dv (word (codes "until")) us (low_right dt dv ts (word (codes "until") ∷ us) l) in
-        two_ten ns ms (Until (top k ns) (top (k + length ns) ms) a b) (operand_ten p (low_left dt dv ts (word (codes "until") ∷ us) l))
-        (operand_ten q (low_right dt dv (ts ++ (word (codes "until") ∷ us)) vs h)) (λ i. window_ten w m i, λ i. tt)
-    timed_ten (since {k = k} {a = a} {b} {ts = ts} {us} {vs} {ns} {ms} p w q) h =
-        let l = low_left dt dv (ts ++ (word (codes "since") ∷ us)) vs h in
-        let m = low_rest dt dv (word (codes "since")) us (low_right dt dv ts (word (codes "since") ∷ us) l) in
-        two_ten ns ms (Since (top k ns) (top (k + length ns) ms) a b) (operand_ten p (low_left dt dv ts (word (codes "since") ∷ us) l))
-        (operand_ten q (low_right dt dv (ts ++ (word (codes "since") ∷ us)) vs h)) (λ i. since_ten w m i, λ i. tt)
-
-    operand_ten : {k : ℕ} {ts : List Token} {ns : List Node} → IsOperand s k ts ns → Low ts → All IsTen ns
-    operand_ten (not {k = k} {ts} {ns} p) h = one_ten ns (Not (top k ns)) (operand_ten p (low_rest dt dv (word (codes "not")) ts h)) (λ i. tt, λ i. tt)
-    operand_ten (eventually {k = k} {a} {b} {a_in} {b_in} {ts} {us} {ns} w p) h =
-        let l = low_rest dt dv (word (codes "eventually")) (us ++ ts) h in
-        one_ten ns (Eventually (top k ns) a b a_in b_in) (operand_ten p (low_right dt dv us ts l)) (λ i. window_ten w (low_left dt dv us ts l) i, λ i. tt)
-    operand_ten (always {k = k} {a} {b} {a_in} {b_in} {ts} {us} {ns} w p) h =
-        let l = low_rest dt dv (word (codes "always")) (us ++ ts) h in
-        one_ten ns (Always (top k ns) a b a_in b_in) (operand_ten p (low_right dt dv us ts l)) (λ i. window_ten w (low_left dt dv us ts l) i, λ i. tt)
-    operand_ten (once {k = k} {a} {b} {a_in} {b_in} {ts} {us} {ns} w p) h =
-        let l = low_rest dt dv (word (codes "once")) (us ++ ts) h in
-        one_ten ns (Once (top k ns) a b a_in b_in) (operand_ten p (low_right dt dv us ts l)) (λ i. past_ten w (low_left dt dv us ts l) i, λ i. tt)
-    operand_ten (historically {k = k} {a} {b} {a_in} {b_in} {ts} {us} {ns} w p) h =
-        let l = low_rest dt dv (word (codes "historically")) (us ++ ts) h in
-        one_ten ns (Historically (top k ns) a b a_in b_in) (operand_ten p (low_right dt dv us ts l)) (λ i. past_ten w (low_left dt dv us ts l) i, λ i. tt)
-    operand_ten always_true h = All-cons IsTen (Const true) [] (λ i. tt, λ i. tt) (All-nil IsTen)
-    operand_ten always_false h = All-cons IsTen (Const false) [] (λ i. tt, λ i. tt) (All-nil IsTen)
-    operand_ten (parens {ts = ts} f) h = formula_ten f (low_left dt dv ts (close_paren ∷ []) (low_rest dt dv open_paren (ts ++ close_paren ∷ []) h))
-    operand_ten (atom {a = a} x) h = All-cons IsTen (Leaf a) [] (λ i. tt, λ i. atom_ten x h i) (All-nil IsTen)
+    operand_ten : {k : ℕ} {ts : List Token} {ns : List Node} → Operand s k ts ns → Low ts → All IsTen ns
+    operand_ten (negated {ts = ts} {ns} p) h = one_ten ns _ (operand_ten p (low_rest dt dv (word (codes "not")) ts h)) (λ i. tt, λ i. tt)
+    operand_ten (prefixed of {ts = ts} {us} {ns} e w p) h =
+        let i = low_rest dt dv (word (timed_word of)) (us ++ ts) h in
+        one_ten ns _ (operand_ten p (low_right dt dv us ts i)) (timed_ten of _ _ w (low_left dt dv us ts i))
+    operand_ten (constant b) h = All-cons IsTen (Const b) [] (λ i. tt, λ i. tt) (All-nil IsTen)
+    operand_ten (enclosed {ts = ts} d) h = derived_ten d (low_left dt dv ts (close_paren ∷ []) (low_rest dt dv open_paren (ts ++ close_paren ∷ []) h))
+    operand_ten (compared {a = a} x) h = All-cons IsTen (Leaf a) [] (λ i. tt, λ i. atom_ten x h i) (All-nil IsTen)
 
 -- where all numbers are multiples of ten, none is not
 no_uneven : (xs : List ℕ) → Tens xs → ¬ Any IsUneven xs
@@ -220,7 +195,7 @@ scale_is s t v e f = ap (λ z. scale_by z s.value) e ∙ ap (λ z. scale_by t z)
 pub printed_texts_are_read : PrintedTextsAreRead
 printed_texts_are_read f text w least h =
     let (ts, l, d, short) = printed_read f text w h in
-    let all = formula_ten f.scale (time_digits ts) (value_digits ts) d (whole_low ts) in
+    let all = derived_ten f.scale (time_digits ts) (value_digits ts) (formula_derived 1 (omega arith) d) (whole_low ts) in
     let P = IsTen f.scale (time_digits ts) (value_digits ts) in
     let time = digits_there f.scale.time (time_digits ts) bounds_of f.nodes short.short.time (λ m.
     All-weaker P (λ n. Tens (bounds_of n)) (λ n g. g.0 m) f.nodes all) least.time in

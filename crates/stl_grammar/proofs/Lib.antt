@@ -1,4 +1,5 @@
 pub mod GrammarExamples
+pub mod Derivations
 pub mod TokenEnds
 pub mod RefusalExamples
 pub mod RefusalLaw

@@ -1,5 +1,6 @@
 -- What the machine has read begins some formula.
-use Rattle.std.proofs.Common.{◌≡◌, ℕ, ◌+◌, List, [], ◌∷◌, ◌++◌, length, refl, ap, sym, ◌∙◌, Bool, true, false, append_assoc}
+use Rattle.std.proofs.Common.{◌≡◌, ℕ, suc, ◌+◌, ◌≤◌, List, [], ◌∷◌, ◌++◌, length, refl, ap, sym, ◌∙◌, Bool, true, false, if◌then◌else◌, arith}
+use Rattle.std.proofs.Common.{append_assoc, inl, inr}
 use Rattle.std.specs.Prelude.{codes, reverse, Option, Some, None}
 use Rattle.std.proofs.lemmas.List.{append-nil, reverse-append}
 use Rattle.std.proofs.lemmas.Option.{same_Some, none-some}
@@ -10,59 +11,39 @@ use Rattle.stl_syntax.specs.declared.rel.Rel.{Rel}
 use Rattle.stl_syntax.specs.declared.rel.Rel.TheVariants.{AtLeast}
 use Rattle.stl_syntax.specs.declared.node.Node.{Node}
 use Rattle.stl_grammar.specs.Grammar.{reserved, Token, word, number, relation, open_paren, close_paren, open_bracket, close_bracket, comma, star, plus, minus}
-use Rattle.stl_grammar.specs.Grammar.{IsConstant, plain, positive, negative, IsTerm, scaled, AreTerms, more_plus}
-use Rattle.stl_grammar.specs.Grammar.{more_minus, first, signed, IsOpening, IsClosing, inside, outside}
+use Rattle.stl_grammar.specs.Grammar.{IsConstant, plain, positive, negative, IsTerm, scaled, AreTerms, more_plus, more_minus, first, signed}
 use Rattle.stl_grammar.specs.Grammar.{name as term_name, none as no_terms}
-use Rattle.stl_grammar.specs.Grammar.{IsFutureWindow, bound, IsPastWindow, nothing, bounded, unbounded, IsFuture, IsPast}
-use Rattle.stl_grammar.specs.Grammar.IsPast.{nothing as since_nothing, bounded as since_bounded, unbounded as since_unbounded}
-use Rattle.stl_grammar.specs.Grammar.{IsFormula, IsDisjunct, IsConjunct, IsTimed, IsOperand, disjunct, implies}
-use Rattle.stl_grammar.specs.Grammar.{conjunct, or, timed, and, operand, until, since, not, eventually, always}
-use Rattle.stl_grammar.specs.Grammar.{once, historically, always_true, always_false, parens, atom}
-use Rattle.stl_grammar.specs.Machine.{Kind, kind, an_until, a_since, an_inf, a_name, Owner, of_until, of_since}
-use Rattle.stl_grammar.specs.Machine.{of_future, of_past, looks_back, opens, closes, Place, at_operand, at_bound}
+use Rattle.stl_grammar.specs.Machine.{Kind, kind, a_constant, a_negation, a_join, an_implication, an_until, a_since, a_future, a_past, an_inf, a_name}
+use Rattle.stl_grammar.specs.Machine.{Owner, looks_back, opens, closes, Place, at_operand, at_bound}
 use Rattle.stl_grammar.specs.Machine.{at_low, at_comma, at_high, at_closing, at_term, at_star, at_name, at_sign}
 use Rattle.stl_grammar.specs.Machine.{at_constant, at_number, at_end, Mark, paren, operator, implication, State}
 use Rattle.stl_grammar.specs.Machine.{start, without_operators, closed, begin_word, begin_operand, step_bound}
 use Rattle.stl_grammar.specs.Machine.{step_inf, step_name, step_connective, step, step_from, step_at, run, in_paren, ends_at}
 use Rattle.stl_grammar.specs.FormulaRefusals.{MayBegin, MayEnd}
-use Rattle.stl_grammar.proofs.WordKinds.{by_words, among_reserved, name_kind, is_word}
+use Rattle.stl_grammar.specs.Refusing.{owner, is_beside}
+use Rattle.stl_grammar.specs.declared.place.Timed.{Timed}
+use Rattle.stl_grammar.specs.declared.place.Timed.TheVariants.{Until as TUntil, Since as TSince}
+use Rattle.stl_grammar.proofs.Derivations.{Connective, by_and, by_or, by_implies, connective_word, binds, left_binds, right_binds, timed_word}
+use Rattle.stl_grammar.proofs.Derivations.{Opens, opens_in, opens_out, Closes, closes_in, closes_out, Bounded, left_out as no_bound, within, endless}
+use Rattle.stl_grammar.proofs.Derivations.{Operand, negated, prefixed, constant, enclosed, compared, Derived, joined, beside, alone, looser, as_formula}
+use Rattle.stl_grammar.proofs.MachineRuns.{after_connective}
+use Rattle.stl_grammar.proofs.WordKinds.{OfKind, kind_of}
 
 -- the grammar without its nodes
 abbrev scale : Scale
 scale = record { time = 0; value = 0 }
 
-abbrev pub AFormula : List Token → Type 0
-AFormula ts = (k : ℕ) → (ns : List Node) × IsFormula scale k ts ns
-
-abbrev ADisjunct : List Token → Type 0
-ADisjunct ts = (k : ℕ) → (ns : List Node) × IsDisjunct scale k ts ns
-
-abbrev AConjunct : List Token → Type 0
-AConjunct ts = (k : ℕ) → (ns : List Node) × IsConjunct scale k ts ns
-
-abbrev ATimed : List Token → Type 0
-ATimed ts = (k : ℕ) → (ns : List Node) × IsTimed scale k ts ns
+abbrev Binds : ℕ → List Token → Type 0
+Binds r ts = (k : ℕ) → (ns : List Node) × Derived scale r k ts ns
 
 abbrev AnOperand : List Token → Type 0
-AnOperand ts = (k : ℕ) → (ns : List Node) × IsOperand scale k ts ns
+AnOperand ts = (k : ℕ) → (ns : List Node) × Operand scale k ts ns
 
-a_formula : (ts : List Token) → ADisjunct ts → AFormula ts
-a_formula ts d k = ((d k).0, disjunct (d k).1)
+loosened : (r r' : ℕ) (ts : List Token) → r ≤ r' → Binds r' ts → Binds r ts
+loosened r r' ts l d k = ((d k).0, looser l (d k).1)
 
-a_disjunct : (ts : List Token) → AConjunct ts → ADisjunct ts
-a_disjunct ts c k = ((c k).0, conjunct (c k).1)
-
-a_conjunct : (ts : List Token) → ATimed ts → AConjunct ts
-a_conjunct ts t k = ((t k).0, timed (t k).1)
-
-an_implies : (ts us : List Token) → ADisjunct ts → AFormula us → AFormula (ts ++ word (codes "implies") ∷ us)
-an_implies ts us d f k = let p = d k in let q = f (k + length p.0) in (_, implies p.1 q.1)
-
-an_or : (ts us : List Token) → ADisjunct ts → AConjunct us → ADisjunct (ts ++ word (codes "or") ∷ us)
-an_or ts us d c k = let p = d k in let q = c (k + length p.0) in (_, or p.1 q.1)
-
-an_and : (ts us : List Token) → AConjunct ts → ATimed us → AConjunct (ts ++ word (codes "and") ∷ us)
-an_and ts us c t k = let p = c k in let q = t (k + length p.0) in (_, and p.1 q.1)
+joins : (o : Connective) (ts us : List Token) → Binds (left_binds o) ts → Binds (right_binds o) us → Binds (binds o) (ts ++ word (connective_word o) ∷ us)
+joins o ts us d f k = let p = d k in let q = f (k + length p.0) in (_, joined o (omega arith) p.1 q.1)
 
 -- what is left of a bound
 data Closing (o : Owner) : List Token → Type 0 where
@@ -82,73 +63,24 @@ data Bound (o : Owner) : List Token → Type 0 where
   left_out : looks_back o ≡ true → Bound o []
   opening : (x : Token) {us : List Token} → opens o x ≡ true → Low o us → Bound o (x ∷ us)
 
--- a bracket of a bound is that of the grammar
-an_opening : (o : Owner) (x : Token) → opens o x ≡ true → (b : Bool) × IsOpening x b
-an_opening o open_bracket h = (true, inside)
-an_opening o close_bracket h = (false, outside)
+-- a bracket of a bound is that of the table
+an_opening : (o : Owner) (t : Token) → opens o t ≡ true → (x : Bool) × Opens o t x
+an_opening o open_bracket h = (true, opens_in)
+an_opening o close_bracket h = (false, opens_out h)
 an_opening o _ h = absurd (cc)
 
-a_closing : (o : Owner) (x : Token) → closes o x ≡ true → (b : Bool) × IsClosing x b
-a_closing o close_bracket h = (true, inside)
-a_closing o open_bracket h = (false, outside)
+a_closing : (o : Owner) (t : Token) → closes o t ≡ true → (x : Bool) × Closes o t x
+a_closing o close_bracket h = (true, closes_in)
+a_closing o open_bracket h = (false, closes_out h)
 a_closing o _ h = absurd (cc)
 
--- a bound of the operator
-abbrev FitsFuture : List Token → Type 0
-FitsFuture us = (a : ℕ) × (b : ℕ) × (a_in : Bool) × (b_in : Bool) × IsFutureWindow 0 us a b a_in b_in
-
-abbrev FitsPast : List Token → Type 0
-FitsPast us = (a : ℕ) × (b : Option ℕ) × (a_in : Bool) × (b_in : Bool) × IsPastWindow 0 us a b a_in b_in
-
-abbrev FitsUntil : List Token → Type 0
-FitsUntil us = (a : ℕ) × (b : ℕ) × IsFuture 0 us a b
-
-abbrev FitsSince : List Token → Type 0
-FitsSince us = (a : ℕ) × (b : Option ℕ) × IsPast 0 us a b
-
-future_fits : {us : List Token} → Bound of_future us → FitsFuture us
-future_fits (left_out h) = absurd (cc)
-future_fits (opening x e (lower a j (then_high (no_upper h c)))) = absurd (cc)
-future_fits (opening x e (lower a j (then_high (upper b k (the_end y h))))) =
-    let p = an_opening of_future x e in let q = a_closing of_future y h in (_, _, p.0, q.0, bound p.1 q.1)
-
-past_fits : {us : List Token} → Bound of_past us → FitsPast us
-past_fits (left_out h) = (0, None, true, true, nothing)
-past_fits (opening x e (lower a j (then_high (no_upper h (the_end y f))))) =
-    let p = an_opening of_past x e in let q = a_closing of_past y f in (_, None, p.0, true, unbounded p.1 q.1)
-past_fits (opening x e (lower a j (then_high (upper b k (the_end y h))))) =
-    let p = an_opening of_past x e in let q = a_closing of_past y h in (_, _, p.0, q.0, bounded p.1 q.1)
-
--- a bracket of a closed bound
-only_open : (x : Token) → opens of_until x ≡ true → x ≡ open_bracket
-only_open open_bracket h = refl
-only_open (word w) h = absurd (cc)
-only_open _ h = absurd (cc)
-
-only_close : (x : Token) → closes of_until x ≡ true → x ≡ close_bracket
-only_close close_bracket h = refl
-only_close (word w) h = absurd (cc)
-only_close _ h = absurd (cc)
-
-only_open_since : (x : Token) → opens of_since x ≡ true → x ≡ open_bracket
-only_open_since open_bracket h = refl
-only_open_since (word w) h = absurd (cc)
-only_open_since _ h = absurd (cc)
-
-only_close_since : (x : Token) → closes of_since x ≡ true → x ≡ close_bracket
-only_close_since close_bracket h = refl
-only_close_since (word w) h = absurd (cc)
-only_close_since _ h = absurd (cc)
-
-until_fits : {us : List Token} → Bound of_until us → FitsUntil us
-until_fits (left_out h) = absurd (cc)
-until_fits (opening x e (lower a j (then_high (no_upper h c)))) = absurd (cc)
-until_fits (opening x e (lower a j (then_high (upper b k (the_end y h))))) = rw (only_open x e, only_close y h) (_, _, bound inside inside)
-
-since_fits : {us : List Token} → Bound of_since us → FitsSince us
-since_fits (left_out h) = (0, None, since_nothing)
-since_fits (opening x e (lower a j (then_high (no_upper h (the_end y f))))) = rw (only_open_since x e, only_close_since y f) (_, None, since_unbounded)
-since_fits (opening x e (lower a j (then_high (upper b k (the_end y h))))) = rw (only_open_since x e, only_close_since y h) (_, _, since_bounded)
+-- and so is the bound
+fits : (o : Owner) {us : List Token} → Bound o us → (a : ℕ) × (b : Option ℕ) × (x : Bool) × (y : Bool) × Bounded 0 o us a b x y
+fits o (left_out h) = (_, _, _, _, no_bound h)
+fits o (opening x e (lower a j (then_high (upper b k (the_end y h))))) =
+    let p = an_opening o x e in let q = a_closing o y h in (_, _, p.0, q.0, within p.1 q.1)
+fits o (opening x e (lower a j (then_high (no_upper i (the_end y h))))) =
+    let p = an_opening o x e in let q = a_closing o y h in (_, _, p.0, _, endless i p.1 q.1)
 
 -- every text of one kind after these tokens is one of the other
 abbrev Fills : (List Token → Type 0) → (List Token → Type 0) → List Token → Type 0
@@ -160,20 +92,28 @@ record TimedHole (pre : List Token) : Type 0 where
   p : List Token
   c : List Token
   is : pre ≡ q ++ (p ++ c)
-  forms : Fills AFormula AFormula q
-  disjuncts : Fills AConjunct ADisjunct p
-  conjuncts : Fills ATimed AConjunct c
+  forms : Fills (Binds 1) (Binds 1) q
+  disjuncts : Fills (Binds 3) (Binds 2) p
+  conjuncts : Fills (Binds 4) (Binds 3) c
 
-no_hole : TimedHole []
-no_hole = record { q = []; p = []; c = []; is = refl; forms = λ ts f. f; disjuncts = λ ts c. a_disjunct ts c; conjuncts = λ ts t. a_conjunct ts t }
+abbrev no_hole : TimedHole []
+no_hole = record {
+  q = [];
+  p = [];
+  c = [];
+  is = refl;
+  forms = λ ts f. f;
+  disjuncts = λ ts c. loosened 2 3 ts (omega arith) c;
+  conjuncts = λ ts t. loosened 3 4 ts (omega arith) t;
+}
 
-hole_filled : (pre ts : List Token) → TimedHole pre → ATimed ts → AFormula (pre ++ ts)
+hole_filled : (pre ts : List Token) → TimedHole pre → Binds 4 ts → Binds 1 (pre ++ ts)
 hole_filled pre ts h t =
     let e : pre ++ ts ≡ h.q ++ (h.p ++ (h.c ++ ts)) = rw h.is (simp append_assoc) in
-    rw e (h.forms (h.p ++ (h.c ++ ts)) (a_formula (h.p ++ (h.c ++ ts)) (h.disjuncts (h.c ++ ts) (h.conjuncts ts t))))
+    rw e (h.forms (h.p ++ (h.c ++ ts)) (loosened 1 2 (h.p ++ (h.c ++ ts)) (omega arith) (h.disjuncts (h.c ++ ts) (h.conjuncts ts t))))
 
-hole_and : (pre ts : List Token) → TimedHole pre → ATimed ts → TimedHole (pre ++ (ts ++ word (codes "and") ∷ []))
-hole_and pre ts h t = record {
+hole_joined : (o : Connective) (pre ts : List Token) → TimedHole pre → Binds 4 ts → TimedHole (pre ++ (ts ++ word (connective_word o) ∷ []))
+hole_joined by_and pre ts h t = record {
   q = h.q;
   p = h.p;
   c = h.c ++ (ts ++ word (codes "and") ∷ []);
@@ -182,11 +122,9 @@ hole_and pre ts h t = record {
   disjuncts = h.disjuncts;
   conjuncts = λ us u.
       let e : h.c ++ (ts ++ word (codes "and") ∷ []) ++ us ≡ h.c ++ ts ++ word (codes "and") ∷ us = simp append_assoc in
-      rw e (an_and (h.c ++ ts) us (h.conjuncts ts t) u);
+      rw e (joins by_and (h.c ++ ts) us (h.conjuncts ts t) u);
 }
-
-hole_or : (pre ts : List Token) → TimedHole pre → ATimed ts → TimedHole (pre ++ (ts ++ word (codes "or") ∷ []))
-hole_or pre ts h t = record {
+hole_joined by_or pre ts h t = record {
   q = h.q;
   p = h.p ++ (h.c ++ (ts ++ word (codes "or") ∷ []));
   c = [];
@@ -194,12 +132,10 @@ hole_or pre ts h t = record {
   forms = h.forms;
   disjuncts = λ us u.
       let e : h.p ++ (h.c ++ (ts ++ word (codes "or") ∷ [])) ++ us ≡ h.p ++ (h.c ++ ts) ++ word (codes "or") ∷ us = simp append_assoc in
-      rw e (an_or (h.p ++ (h.c ++ ts)) us (h.disjuncts (h.c ++ ts) (h.conjuncts ts t)) u);
-  conjuncts = λ us u. a_conjunct us u;
+      rw e (joins by_or (h.p ++ (h.c ++ ts)) us (h.disjuncts (h.c ++ ts) (h.conjuncts ts t)) u);
+  conjuncts = no_hole.conjuncts;
 }
-
-hole_implies : (pre ts : List Token) → TimedHole pre → ATimed ts → TimedHole (pre ++ (ts ++ word (codes "implies") ∷ []))
-hole_implies pre ts h t = record {
+hole_joined by_implies pre ts h t = record {
   q = h.q ++ (h.p ++ (h.c ++ (ts ++ word (codes "implies") ∷ [])));
   p = [];
   c = [];
@@ -207,18 +143,19 @@ hole_implies pre ts h t = record {
   forms = λ us u.
       let e : h.q ++ (h.p ++ (h.c ++ (ts ++ word (codes "implies") ∷ []))) ++ us ≡ h.q ++ (h.p ++ (h.c ++ ts) ++ word (codes "implies") ∷ us) =
       simp append_assoc in
-      rw e (h.forms (h.p ++ (h.c ++ ts) ++ word (codes "implies") ∷ us) (an_implies (h.p ++ (h.c ++ ts)) us (h.disjuncts (h.c ++ ts) (h.conjuncts ts t)) u));
-  disjuncts = λ us u. a_disjunct us u;
-  conjuncts = λ us u. a_conjunct us u;
+      rw e (h.forms (h.p ++ (h.c ++ ts) ++ word (codes "implies") ∷ us)
+      (joins by_implies (h.p ++ (h.c ++ ts)) us (h.disjuncts (h.c ++ ts) (h.conjuncts ts t)) u));
+  disjuncts = no_hole.disjuncts;
+  conjuncts = no_hole.conjuncts;
 }
 
 -- where an operand comes next beside an `until` or `since`, or with neither
 record Right (had : Bool) (b : List Token) : Type 0 where
-  fills : Fills AnOperand ATimed b
+  fills : Fills AnOperand (Binds 4) b
   none : had ≡ false → b ≡ []
 
-alone : Right false []
-alone = record { fills = λ ts p k. ((p k).0, operand (p k).1); none = λ e. refl }
+by_itself : Right false []
+by_itself = record { fills = λ ts p k. ((p k).0, alone (p k).1); none = λ e. refl }
 
 -- the tokens up to a place where an operand comes next, with what is pending
 mutual
@@ -256,60 +193,39 @@ finish (level {pre = pre} {a} {b} base hole right) us p =
 finish (inside_operator {pre = pre} op w f) us p = rw (append_assoc pre op us) (finish w (op ++ us) (f us p))
 
 -- after an operand: a connective
-after_and : {h : Bool} {marks : List Mark} {whole : List Token} → After h marks whole → Awaits false marks (whole ++ word (codes "and") ∷ [])
-after_and {h} {marks} {whole} r =
-    let e : whole ++ word (codes "and") ∷ [] ≡ r.pre ++ (r.a ++ ((r.b ++ r.us) ++ word (codes "and") ∷ []) ++ []) =
+base_joined : (o : Connective) {marks : List Mark} {pre : List Token} → Base marks pre → Base (after_connective o marks) pre
+base_joined by_implies b = implied b
+base_joined _ b = b
+
+after_joined : (o : Connective) {h : Bool} {marks : List Mark} {whole : List Token} → After h marks whole
+    → Awaits false (after_connective o marks) (whole ++ word (connective_word o) ∷ [])
+after_joined o {h} {marks} {whole} r =
+    let e : whole ++ word (connective_word o) ∷ [] ≡ r.pre ++ (r.a ++ ((r.b ++ r.us) ++ word (connective_word o) ∷ []) ++ []) =
     rw r.is (simp (append_assoc, append-nil {A = Token})) in
-    rw e (level r.base (hole_and r.a (r.b ++ r.us) r.hole (r.right.fills r.us r.last)) alone)
+    rw e (level (base_joined o r.base) (hole_joined o r.a (r.b ++ r.us) r.hole (r.right.fills r.us r.last)) by_itself)
 
-after_or : {h : Bool} {marks : List Mark} {whole : List Token} → After h marks whole → Awaits false marks (whole ++ word (codes "or") ∷ [])
-after_or {h} {marks} {whole} r =
-    let e : whole ++ word (codes "or") ∷ [] ≡ r.pre ++ (r.a ++ ((r.b ++ r.us) ++ word (codes "or") ∷ []) ++ []) =
-    rw r.is (simp (append_assoc, append-nil {A = Token})) in
-    rw e (level r.base (hole_or r.a (r.b ++ r.us) r.hole (r.right.fills r.us r.last)) alone)
+-- or an operator with a bound
+right_beside : (of : Timed) → is_beside of ≡ true → (us bs : List Token) → AnOperand us → Bound (owner of) bs → Right true (us ++ word (timed_word of) ∷ bs)
+right_beside of i us bs p f = record {
+  fills = λ vs v k.
+      let x = p k in let y = v (k + length x.0) in
+      rw (append_assoc us (word (timed_word of) ∷ bs) vs) (_, beside of {r = 4} i (omega arith) x.1 (fits (owner of) f).4 y.1);
+  none = λ e. absurd (cc);
+}
 
-after_implies : {h : Bool} {marks : List Mark} {whole : List Token} → After h marks whole
-    → Awaits false (implication ∷ marks) (whole ++ word (codes "implies") ∷ [])
-after_implies {h} {marks} {whole} r =
-    let e : whole ++ word (codes "implies") ∷ [] ≡ r.pre ++ (r.a ++ ((r.b ++ r.us) ++ word (codes "implies") ∷ []) ++ []) =
-    rw r.is (simp (append_assoc, append-nil {A = Token})) in
-    rw e (level (implied r.base) (hole_implies r.a (r.b ++ r.us) r.hole (r.right.fills r.us r.last)) alone)
-
-right_until : (us bs : List Token) → AnOperand us → FitsUntil bs → Right true (us ++ word (codes "until") ∷ bs)
-right_until us bs p f = record { fills = λ vs v k. let x = p k in let y = v (k + length x.0) in (_, until x.1 f.2 y.1); none = λ e. absurd (cc) }
-
-right_since : (us bs : List Token) → AnOperand us → FitsSince bs → Right true (us ++ word (codes "since") ∷ bs)
-right_since us bs p f = record { fills = λ vs v k. let x = p k in let y = v (k + length x.0) in (_, since x.1 f.2 y.1); none = λ e. absurd (cc) }
-
-after_until : {marks : List Mark} {whole : List Token} → After false marks whole → (bs : List Token) → Bound of_until bs
-    → Awaits true marks (whole ++ word (codes "until") ∷ [] ++ bs)
-after_until {marks} {whole} r bs f =
-    let e : whole ++ word (codes "until") ∷ [] ++ bs ≡ r.pre ++ (r.a ++ (r.us ++ word (codes "until") ∷ bs)) =
+after_beside : (of : Timed) → is_beside of ≡ true → {marks : List Mark} {whole : List Token} → After false marks whole → (bs : List Token)
+    → Bound (owner of) bs → Awaits true marks (whole ++ word (timed_word of) ∷ [] ++ bs)
+after_beside of i {marks} {whole} r bs f =
+    let e : whole ++ word (timed_word of) ∷ [] ++ bs ≡ r.pre ++ (r.a ++ (r.us ++ word (timed_word of) ∷ bs)) =
     rw (r.is, r.right.none refl) (simp append_assoc) in
-    rw e (level r.base r.hole (right_until r.us bs r.last (until_fits f)))
-
-after_since : {marks : List Mark} {whole : List Token} → After false marks whole → (bs : List Token) → Bound of_since bs
-    → Awaits true marks (whole ++ word (codes "since") ∷ [] ++ bs)
-after_since {marks} {whole} r bs f =
-    let e : whole ++ word (codes "since") ∷ [] ++ bs ≡ r.pre ++ (r.a ++ (r.us ++ word (codes "since") ∷ bs)) =
-    rw (r.is, r.right.none refl) (simp append_assoc) in
-    rw e (level r.base r.hole (right_since r.us bs r.last (since_fits f)))
+    rw e (level r.base r.hole (right_beside of i r.us bs r.last f))
 
 -- the operators before an operand
 fills_not : Fills AnOperand AnOperand (word (codes "not") ∷ [])
-fills_not ts p k = (_, not (p k).1)
+fills_not ts p k = (_, negated (p k).1)
 
-fills_eventually : (bs : List Token) → FitsFuture bs → Fills AnOperand AnOperand (word (codes "eventually") ∷ bs)
-fills_eventually bs f ts p k = (_, eventually f.4 (p k).1)
-
-fills_always : (bs : List Token) → FitsFuture bs → Fills AnOperand AnOperand (word (codes "always") ∷ bs)
-fills_always bs f ts p k = (_, always f.4 (p k).1)
-
-fills_once : (bs : List Token) → FitsPast bs → Fills AnOperand AnOperand (word (codes "once") ∷ bs)
-fills_once bs f ts p k = (_, once f.4 (p k).1)
-
-fills_historically : (bs : List Token) → FitsPast bs → Fills AnOperand AnOperand (word (codes "historically") ∷ bs)
-fills_historically bs f ts p k = (_, historically f.4 (p k).1)
+fills_before : (of : Timed) → is_beside of ≡ false → (bs : List Token) → Bound (owner of) bs → Fills AnOperand AnOperand (word (timed_word of) ∷ bs)
+fills_before of i bs f ts p k = (_, prefixed of i (fits (owner of) f).4 (p k).1)
 
 -- what is left of an atom
 data NumberTail : List Token → Type 0 where
@@ -350,29 +266,16 @@ EndsAtom us = (ws : List Token) × (terms : List Term) × (r : Rel) × (vs : Lis
 abbrev EndsTerm : List Token → Type 0
 EndsTerm us = (ts : List Token) × (k : ℕ) × (w : List ℕ) × (rest : List Token) × IsTerm ts k w × EndsAtom rest × (us ≡ ts ++ rest)
 
+term_splits : {us : List Token} (x : EndsTerm us) → us ≡ x.0 ++ x.5.0 ++ relation x.5.2 ∷ x.5.3
+term_splits x = let y = x.5 in x.6 ∙ (ap (λ z. x.0 ++ z) y.7 ∙ sym (append_assoc x.0 y.0 (relation y.2 ∷ y.3)))
+
 mutual
   sign_tail : {us : List Token} → SignTail us → EndsAtom us
   sign_tail (a_relation r {us} c) = let x = constant_tail c in ([], [], r, us, x.0, no_terms, x.1, refl)
-  sign_tail (a_plus t) = let x = term_tail t in let y = x.5 in (
-    plus ∷ x.0 ++ y.0,
-    _,
-    y.2,
-    y.3,
-    y.4,
-    more_plus x.4 y.5,
-    y.6,
-    ap (λ z. plus ∷ z) (x.6 ∙ (ap (λ z. x.0 ++ z) y.7 ∙ sym (append_assoc x.0 y.0 (relation y.2 ∷ y.3)))),
-  )
-  sign_tail (a_minus t) = let x = term_tail t in let y = x.5 in (
-    minus ∷ x.0 ++ y.0,
-    _,
-    y.2,
-    y.3,
-    y.4,
-    more_minus x.4 y.5,
-    y.6,
-    ap (λ z. minus ∷ z) (x.6 ∙ (ap (λ z. x.0 ++ z) y.7 ∙ sym (append_assoc x.0 y.0 (relation y.2 ∷ y.3)))),
-  )
+  sign_tail (a_plus t) =
+      let x = term_tail t in let y = x.5 in (plus ∷ x.0 ++ y.0, _, y.2, y.3, y.4, more_plus x.4 y.5, y.6, ap (λ z. plus ∷ z) (term_splits x))
+  sign_tail (a_minus t) =
+      let x = term_tail t in let y = x.5 in (minus ∷ x.0 ++ y.0, _, y.2, y.3, y.4, more_minus x.4 y.5, y.6, ap (λ z. minus ∷ z) (term_splits x))
 
   term_tail : {us : List Token} → TermTail us → EndsTerm us
   term_tail (plain_name w {us} e s) = (word w ∷ [], 1, w, us, term_name e, sign_tail s, refl)
@@ -386,19 +289,13 @@ mutual
 
 -- atoms by what is left of them
 term_operand : (us : List Token) → EndsTerm us → AnOperand us
-term_operand us x k = let y = x.5 in
-    let e : us ≡ x.0 ++ y.0 ++ relation y.2 ∷ y.3 = x.6 ∙ (ap (λ z. x.0 ++ z) y.7 ∙ sym (append_assoc x.0 y.0 (relation y.2 ∷ y.3))) in
-    rw e (_, atom (first x.4 y.5 y.6))
+term_operand us x k = let y = x.5 in rw (term_splits x) (_, compared (first x.4 y.5 y.6))
 
 plus_operand : (us : List Token) → TermTail us → AnOperand (plus ∷ us)
-plus_operand us t k = let x = term_tail t in let y = x.5 in
-    let e : us ≡ x.0 ++ y.0 ++ relation y.2 ∷ y.3 = x.6 ∙ (ap (λ z. x.0 ++ z) y.7 ∙ sym (append_assoc x.0 y.0 (relation y.2 ∷ y.3))) in
-    rw e (_, atom (signed (more_plus x.4 y.5) y.6))
+plus_operand us t k = let x = term_tail t in let y = x.5 in rw (term_splits x) (_, compared (signed (more_plus x.4 y.5) y.6))
 
 minus_operand : (us : List Token) → TermTail us → AnOperand (minus ∷ us)
-minus_operand us t k = let x = term_tail t in let y = x.5 in
-    let e : us ≡ x.0 ++ y.0 ++ relation y.2 ∷ y.3 = x.6 ∙ (ap (λ z. x.0 ++ z) y.7 ∙ sym (append_assoc x.0 y.0 (relation y.2 ∷ y.3))) in
-    rw e (_, atom (signed (more_minus x.4 y.5) y.6))
+minus_operand us t k = let x = term_tail t in let y = x.5 in rw (term_splits x) (_, compared (signed (more_minus x.4 y.5) y.6))
 
 -- what stands before a place: the rest of a bound leads to an operand, and the rest of an atom to its end
 abbrev Holds : Place → Bool → List Mark → List Token → Type 0
@@ -436,37 +333,26 @@ module _ (h : Bool) (marks : List Mark) (n : ℕ) (p : Place) (whole : List Toke
   abbrev now : State
   now = record { place = p; had = h; marks = marks; nodes = n }
 
-  begins_word : Awaits h marks whole → (w : List ℕ) (next : State) → begin_word now (kind w) ≡ Some next → HoldsAt next (whole ++ word w ∷ [])
-  unfolding kind
-  begins_word x = by_words (λ w. (next : State) → begin_word now (kind w) ≡ Some next → HoldsAt next (whole ++ word w ∷ [])) (
-    λ next e. same_state _ next _ e (finish x _ (λ k. (_, always_true))),
-    λ next e. same_state _ next _ e (finish x _ (λ k. (_, always_false))),
-    λ next e. absurd (none-some next e),
-  ) (
-    λ next e. same_state _ next _ e (inside_operator _ x fills_not),
-    λ next e. same_state _ next _ e (λ us b.
-        shifted_awaits h (operator ∷ marks) whole _ us (inside_operator (word (codes "eventually") ∷ us) x (fills_eventually us (future_fits b)))),
-    λ next e. same_state _ next _ e
-        (λ us b. shifted_awaits h (operator ∷ marks) whole _ us (inside_operator (word (codes "always") ∷ us) x (fills_always us (future_fits b)))),
-    λ next e. same_state _ next _ e
-        (λ us b. shifted_awaits h (operator ∷ marks) whole _ us (inside_operator (word (codes "once") ∷ us) x (fills_once us (past_fits b)))),
-    λ next e. same_state _ next _ e (λ us b.
-        shifted_awaits h (operator ∷ marks) whole _ us (inside_operator (word (codes "historically") ∷ us) x (fills_historically us (past_fits b)))),
-  ) (
-    λ next e. absurd (none-some next e),
-    λ next e. absurd (none-some next e),
-    λ next e. absurd (none-some next e),
-    λ next e. absurd (none-some next e),
-    λ next e. absurd (none-some next e),
-  )
-      (λ w g next e. same_state _ next _ (rw (name_kind w g) at e)
-      (λ us b. shifted h _ whole _ us (finish x (word w ∷ us) (term_operand (word w ∷ us) (term_tail (plain_name w g b))))))
+  before : (of : Timed) {o : Owner} → is_beside of ≡ false → owner of ≡ o → Awaits h marks whole → (w : List ℕ) → w ≡ timed_word of
+      → (us : List Token) → Bound o us → Awaits h (operator ∷ marks) (whole ++ word w ∷ [] ++ us)
+  before of i e x w f us b =
+      rw f (shifted_awaits h (operator ∷ marks) whole _ us (inside_operator (word (timed_word of) ∷ us) x (fills_before of i us (rw (← e) at b))))
+
+  begins_word : Awaits h marks whole → (w : List ℕ) (k : Kind) → OfKind k w → (next : State) → begin_word now k ≡ Some next
+      → HoldsAt next (whole ++ word w ∷ [])
+  begins_word x w a_constant (b, f) next e = same_state _ next _ e (rw f (finish x _ (λ k. (_, constant b))))
+  begins_word x w a_negation f next e = same_state _ next _ e (rw f (inside_operator _ x fills_not))
+  begins_word x w a_future (of, f, i, o) next e = same_state _ next _ e (before of i o x w f)
+  begins_word x w a_past (of, f, i, o) next e = same_state _ next _ e (before of i o x w f)
+  begins_word x w a_name g next e = same_state _ next _ e
+      (λ us b. shifted h _ whole _ us (finish x (word w ∷ us) (term_operand (word w ∷ us) (term_tail (plain_name w g b)))))
+  begins_word x w _ f next e = absurd (none-some next e)
 
   begins : Awaits h marks whole → (t : Token) (next : State) → begin_operand now t ≡ Some next → HoldsAt next (whole ++ t ∷ [])
-  begins x (word w) next e = begins_word x w next e
+  begins x (word w) next e = begins_word x w (kind w) (kind_of w) next e
   begins x (number m k) next e = same_state _ next _ e
       (λ us b. shifted h _ whole _ us (finish x (number m k ∷ us) (term_operand (number m k ∷ us) (star_tail m k b))))
-  begins x open_paren next e = same_state _ next _ e (rw append-nil at (level {a = []} {b = []} (in_parens x) no_hole alone))
+  begins x open_paren next e = same_state _ next _ e (rw append-nil at (level {a = []} {b = []} (in_parens x) no_hole by_itself))
   begins x plus next e = same_state _ next _ e (λ us b. shifted h _ whole _ us (finish x (plus ∷ us) (plus_operand us b)))
   begins x minus next e = same_state _ next _ e (λ us b. shifted h _ whole _ us (finish x (minus ∷ us) (minus_operand us b)))
   begins x _ next e = absurd (none-some next e)
@@ -492,72 +378,41 @@ module _ (h : Bool) (marks : List Mark) (n : ℕ) (p : Place) (whole : List Toke
       closed_by true f = same_state _ next _ (rw f at e) (x (t ∷ []) (the_end t f))
       closed_by false f = let z = rw f at e in absurd (none-some next z)
 
-  infinite : (o : Owner) → ((us : List Token) → High o us → Awaits h marks (whole ++ us)) → (w : List ℕ) (next : State) → step_inf o now (kind w) ≡ Some next
-      → HoldsAt next (whole ++ word w ∷ [])
-  unfolding kind
-  infinite o x = by_words (λ w. (next : State) → step_inf o now (kind w) ≡ Some next → HoldsAt next (whole ++ word w ∷ []))
-      (λ next e. absurd (none-some next e), λ next e. absurd (none-some next e), λ next e. back (looks_back o) refl next e) (
-        λ next e. absurd (none-some next e),
-        λ next e. absurd (none-some next e),
-        λ next e. absurd (none-some next e),
-        λ next e. absurd (none-some next e),
-        λ next e. absurd (none-some next e),
-      ) (
-        λ next e. absurd (none-some next e),
-        λ next e. absurd (none-some next e),
-        λ next e. absurd (none-some next e),
-        λ next e. absurd (none-some next e),
-        λ next e. absurd (none-some next e),
-      )
-      (λ w g next e. let z = rw (name_kind w g) at e in absurd (none-some next z))
+  infinite : (o : Owner) → ((us : List Token) → High o us → Awaits h marks (whole ++ us)) → (w : List ℕ) (k : Kind) → OfKind k w → (next : State)
+      → step_inf o now k ≡ Some next → HoldsAt next (whole ++ word w ∷ [])
+  infinite o x w an_inf f next e = back (looks_back o) refl
     where
-      back : (b : Bool) → looks_back o ≡ b → (next : State) → step_inf o now an_inf ≡ Some next → HoldsAt next (whole ++ word (codes "inf") ∷ [])
-      back true f next e = same_state _ next _ (rw f at e) (λ us b. shifted_awaits h marks whole _ us (x (word (codes "inf") ∷ us) (no_upper f b)))
-      back false f next e = let z = rw f at e in absurd (none-some next z)
+      back : (b : Bool) → looks_back o ≡ b → HoldsAt next (whole ++ word w ∷ [])
+      back true g = same_state _ next _ (rw g at e) (λ us b. rw f (shifted_awaits h marks whole _ us (x (word (codes "inf") ∷ us) (no_upper g b))))
+      back false g = let z = rw g at e in absurd (none-some next z)
+  infinite o x w _ f next e = absurd (none-some next e)
 
-  names : (m : ℕ) (w : List ℕ)
+  names : (m : ℕ) (w : List ℕ) (k : Kind) → OfKind k w
       → (is_among w reserved ≡ false → (us : List Token) → SignTail us → After h (without_operators marks) (whole ++ word w ∷ us)) → (next : State)
-      → step_name m now (kind w) ≡ Some next → HoldsAt next (whole ++ word w ∷ [])
-  names m w x next e = split (is_among w reserved) refl
-    where
-      no_name : (k : Kind) → is_word k ≡ true → step_name m now k ≡ Some next → ⊥
-      no_name a_name f e = cc
-      no_name _ f e = cc
+      → step_name m now k ≡ Some next → HoldsAt next (whole ++ word w ∷ [])
+  names m w a_name g x next e = same_state _ next _ e (λ us b. shifted h _ whole _ us (x g us b))
+  names m w _ g x next e = absurd (none-some next e)
 
-      split : (b : Bool) → is_among w reserved ≡ b → HoldsAt next (whole ++ word w ∷ [])
-      split false g = same_state _ next _ (rw (name_kind w g) at e) (λ us b. shifted h _ whole _ us (x g us b))
-      split true g = absurd (no_name (kind w) (sym (among_reserved w) ∙ g) e)
+  fresh : (of : Timed) {o : Owner} → is_beside of ≡ true → owner of ≡ o → After h marks whole → (w : List ℕ) → w ≡ timed_word of → (b : Bool) → h ≡ b
+      → (next : State) → (if h then None else Some (record { place = at_bound o; had = true; marks = marks; nodes = suc n })) ≡ Some next
+      → HoldsAt next (whole ++ word w ∷ [])
+  fresh of i o x w f true g next e = let z = rw g at e in absurd (none-some next z)
+  fresh of i o x w f false g next e =
+      same_state _ next _ (rw g at e) (λ us b. rw f (after_beside of i (rw g at x) us (rw (← o) at b)))
 
-  connects : After h marks whole → (w : List ℕ) (next : State) → step_connective now (kind w) ≡ Some next → HoldsAt next (whole ++ word w ∷ [])
-  unfolding kind
-  connects x = by_words (λ w. (next : State) → step_connective now (kind w) ≡ Some next → HoldsAt next (whole ++ word w ∷ []))
-      (λ next e. absurd (none-some next e), λ next e. absurd (none-some next e), λ next e. absurd (none-some next e)) (
-        λ next e. absurd (none-some next e),
-        λ next e. absurd (none-some next e),
-        λ next e. absurd (none-some next e),
-        λ next e. absurd (none-some next e),
-        λ next e. absurd (none-some next e),
-      ) (
-        λ next e. same_state _ next _ e (after_and x),
-        λ next e. same_state _ next _ e (after_or x),
-        λ next e. same_state _ next _ e (after_implies x),
-        λ next e. fresh_until h refl next e,
-        λ next e. fresh_since h refl next e,
-      )
-      (λ w g next e. let z = rw (name_kind w g) at e in absurd (none-some next z))
-    where
-      fresh_until : (b : Bool) → h ≡ b → (next : State) → step_connective now an_until ≡ Some next → HoldsAt next (whole ++ word (codes "until") ∷ [])
-      fresh_until true f next e = let z = rw f at e in absurd (none-some next z)
-      fresh_until false f next e = same_state _ next _ (rw f at e) (λ us b. after_until (rw f at x) us b)
+  connects : After h marks whole → (w : List ℕ) (k : Kind) → OfKind k w → (next : State) → step_connective now k ≡ Some next
+      → HoldsAt next (whole ++ word w ∷ [])
+  connects x w a_join (inl f) next e = same_state _ next _ e (rw f (after_joined by_and x))
+  connects x w a_join (inr f) next e = same_state _ next _ e (rw f (after_joined by_or x))
+  connects x w an_implication f next e = same_state _ next _ e (rw f (after_joined by_implies x))
+  connects x w an_until f next e = fresh TUntil refl refl x w f h refl next e
+  connects x w a_since f next e = fresh TSince refl refl x w f h refl next e
+  connects x w _ f next e = absurd (none-some next e)
 
-      fresh_since : (b : Bool) → h ≡ b → (next : State) → step_connective now a_since ≡ Some next → HoldsAt next (whole ++ word (codes "since") ∷ [])
-      fresh_since true f next e = let z = rw f at e in absurd (none-some next z)
-      fresh_since false f next e = same_state _ next _ (rw f at e) (λ us b. after_since (rw f at x) us b)
+a_parens : (f : List Token) → Binds 1 f → AnOperand (open_paren ∷ f ++ close_paren ∷ [])
+a_parens f p k = (_, enclosed (p k).1)
 
-a_parens : (f : List Token) → AFormula f → AnOperand (open_paren ∷ f ++ close_paren ∷ [])
-a_parens f p k = (_, parens (p k).1)
-
-closes_base : {marks : List Mark} {pre : List Token} → Base marks pre → (n : ℕ) (next : State) → closed marks n ≡ Some next → (f : List Token) → AFormula f
+closes_base : {marks : List Mark} {pre : List Token} → Base marks pre → (n : ℕ) (next : State) → closed marks n ≡ Some next → (f : List Token) → Binds 1 f
     → HoldsAt next (pre ++ (f ++ close_paren ∷ []))
 closes_base bottom n next e f p = absurd (none-some next e)
 closes_base (implied b) n next e f p = closes_base b n next e f p
@@ -575,64 +430,57 @@ module _ (h : Bool) (marks : List Mark) (n : ℕ) (whole : List Token) where
   abbrev at : Place → State
   at p = record { place = p; had = h; marks = marks; nodes = n }
 
-  low_holds : (o : Owner) → Holds (at_low o) h marks whole → (t : Token) (next : State)
-      → step_at (at_low o) (at (at_low o)) t ≡ Some next → HoldsAt next (whole ++ t ∷ [])
+  abbrev Steps : Place → Type 0
+  Steps p = Holds p h marks whole → (t : Token) (next : State) → step_at p (at p) t ≡ Some next → HoldsAt next (whole ++ t ∷ [])
+
+  low_holds : (o : Owner) → Steps (at_low o)
   low_holds o x (number a j) next e = same_state _ next _ e (λ us b. shifted_awaits h marks whole _ us (x (number a j ∷ us) (lower a j b)))
   low_holds o x _ next e = absurd (none-some next e)
 
-  comma_holds : (o : Owner) (a j : ℕ) → Holds (at_comma o a j) h marks whole → (t : Token) (next : State)
-      → step_at (at_comma o a j) (at (at_comma o a j)) t ≡ Some next
-      → HoldsAt next (whole ++ t ∷ [])
+  comma_holds : (o : Owner) (a j : ℕ) → Steps (at_comma o a j)
   comma_holds o a j x comma next e = same_state _ next _ e (λ us b. shifted_awaits h marks whole _ us (x (comma ∷ us) (then_high b)))
   comma_holds o a j x _ next e = absurd (none-some next e)
 
-  high_holds : (o : Owner) (a j : ℕ) → Holds (at_high o a j) h marks whole → (t : Token) (next : State)
-      → step_at (at_high o a j) (at (at_high o a j)) t ≡ Some next
-      → HoldsAt next (whole ++ t ∷ [])
+  high_holds : (o : Owner) (a j : ℕ) → Steps (at_high o a j)
   high_holds o a j x (number b k) next e = same_state _ next _ e (λ us c. shifted_awaits h marks whole _ us (x (number b k ∷ us) (upper b k c)))
-  high_holds o a j x (word w) next e = infinite h marks n (at_high o a j) whole o x w next e
+  high_holds o a j x (word w) next e = infinite h marks n (at_high o a j) whole o x w (kind w) (kind_of w) next e
   high_holds o a j x _ next e = absurd (none-some next e)
 
-  term_holds : (m : ℕ) → Holds (at_term m) h marks whole → (t : Token) (next : State)
-      → step_at (at_term m) (at (at_term m)) t ≡ Some next → HoldsAt next (whole ++ t ∷ [])
+  term_holds : (m : ℕ) → Steps (at_term m)
   term_holds m x (number a j) next e = same_state _ next _ e (λ us b. shifted h _ whole _ us (x (number a j ∷ us) (a_coefficient a j b)))
-  term_holds m x (word w) next e = names h marks n (at_term m) whole m w (λ g us b. x (word w ∷ us) (plain_name w g b)) next e
+  term_holds m x (word w) next e = names h marks n (at_term m) whole m w (kind w) (kind_of w) (λ g us b. x (word w ∷ us) (plain_name w g b)) next e
   term_holds m x _ next e = absurd (none-some next e)
 
-  star_holds : (m : ℕ) → Holds (at_star m) h marks whole → (t : Token) (next : State)
-      → step_at (at_star m) (at (at_star m)) t ≡ Some next → HoldsAt next (whole ++ t ∷ [])
+  star_holds : (m : ℕ) → Steps (at_star m)
   star_holds m x star next e = same_state _ next _ e (λ us b. shifted h _ whole _ us (x (star ∷ us) (a_star b)))
   star_holds m x _ next e = absurd (none-some next e)
 
-  name_holds : (m : ℕ) → Holds (at_name m) h marks whole → (t : Token) (next : State)
-      → step_at (at_name m) (at (at_name m)) t ≡ Some next → HoldsAt next (whole ++ t ∷ [])
-  name_holds m x (word w) next e = names h marks n (at_name m) whole m w (λ g us b. x (word w ∷ us) (the_name w g b)) next e
+  name_holds : (m : ℕ) → Steps (at_name m)
+  name_holds m x (word w) next e = names h marks n (at_name m) whole m w (kind w) (kind_of w) (λ g us b. x (word w ∷ us) (the_name w g b)) next e
   name_holds m x _ next e = absurd (none-some next e)
 
-  sign_holds : (m : ℕ) → Holds (at_sign m) h marks whole → (t : Token) (next : State)
-      → step_at (at_sign m) (at (at_sign m)) t ≡ Some next → HoldsAt next (whole ++ t ∷ [])
+  sign_holds : (m : ℕ) → Steps (at_sign m)
   sign_holds m x plus next e = same_state _ next _ e (λ us b. shifted h _ whole _ us (x (plus ∷ us) (a_plus b)))
   sign_holds m x minus next e = same_state _ next _ e (λ us b. shifted h _ whole _ us (x (minus ∷ us) (a_minus b)))
   sign_holds m x (relation r) next e = same_state _ next _ e (λ us b. shifted h _ whole _ us (x (relation r ∷ us) (a_relation r b)))
   sign_holds m x _ next e = absurd (none-some next e)
 
-  constant_holds : Holds at_constant h marks whole → (t : Token) (next : State)
-      → step_at at_constant (at at_constant) t ≡ Some next → HoldsAt next (whole ++ t ∷ [])
+  constant_holds : Steps at_constant
   constant_holds x (number a j) next e = same_state _ next _ e (x (number a j ∷ []) (a_number a j))
   constant_holds x plus next e = same_state _ next _ e (λ us b. shifted h _ whole _ us (x (plus ∷ us) (after_plus b)))
   constant_holds x minus next e = same_state _ next _ e (λ us b. shifted h _ whole _ us (x (minus ∷ us) (after_minus b)))
   constant_holds x _ next e = absurd (none-some next e)
 
-  number_holds : Holds at_number h marks whole → (t : Token) (next : State) → step_at at_number (at at_number) t ≡ Some next → HoldsAt next (whole ++ t ∷ [])
+  number_holds : Steps at_number
   number_holds x (number a j) next e = same_state _ next _ e (x (number a j ∷ []) (the_number a j))
   number_holds x _ next e = absurd (none-some next e)
 
-  end_holds : Holds at_end h marks whole → (t : Token) (next : State) → step_at at_end (at at_end) t ≡ Some next → HoldsAt next (whole ++ t ∷ [])
-  end_holds x (word w) next e = connects h marks n at_end whole x w next e
+  end_holds : Steps at_end
+  end_holds x (word w) next e = connects h marks n at_end whole x w (kind w) (kind_of w) next e
   end_holds x close_paren next e = closes_paren x n next e
   end_holds x _ next e = absurd (none-some next e)
 
-  step_holds : (p : Place) → Holds p h marks whole → (t : Token) (next : State) → step (at p) t ≡ Some next → HoldsAt next (whole ++ t ∷ [])
+  step_holds : (p : Place) → Steps p
   step_holds at_operand x t next e = begins h marks n at_operand whole x t next e
   step_holds (at_bound o) x t next e = bounds h marks n (at_bound o) whole o x t next e
   step_holds (at_low o) x t next e = low_holds o x t next e
@@ -649,7 +497,7 @@ module _ (h : Bool) (marks : List Mark) (n : ℕ) (whole : List Token) where
 
 -- what the machine has read stands before its place
 run_holds : (before : List Token) (s : State) → run before ≡ Some s → HoldsAt s (reverse before)
-run_holds [] s e = same_state start s [] e (level bottom no_hole alone)
+run_holds [] s e = same_state start s [] e (level bottom no_hole by_itself)
 run_holds (t ∷ before) s e = split (run before) refl (λ x f. run_holds before x f)
   where
     split : (o : Option State) → run before ≡ o → ((x : State) → run before ≡ Some x → HoldsAt x (reverse before)) → HoldsAt s (reverse (t ∷ before))
@@ -660,10 +508,10 @@ run_holds (t ∷ before) s e = split (run before) refl (λ x f. run_holds before
 
 -- the tokens that finish a formula
 abbrev Finished : List Token → Type 0
-Finished whole = (after : List Token) × AFormula (whole ++ after)
+Finished whole = (after : List Token) × Binds 1 (whole ++ after)
 
 mutual
-  finish_base : {marks : List Mark} {pre : List Token} → Base marks pre → (f : List Token) → AFormula f → (after : List Token) × AFormula (pre ++ (f ++ after))
+  finish_base : {marks : List Mark} {pre : List Token} → Base marks pre → (f : List Token) → Binds 1 f → (after : List Token) × Binds 1 (pre ++ (f ++ after))
   finish_base bottom f p = ([], rw append-nil p)
   finish_base (implied b) f p = finish_base b f p
   finish_base (in_parens {pre = pre} w) f p =
@@ -672,7 +520,7 @@ mutual
       (close_paren ∷ r.0, rw e r.1)
 
   finish_awaits : {h : Bool} {marks : List Mark} {pre : List Token} → Awaits h marks pre → (us : List Token) → AnOperand us
-      → (after : List Token) × AFormula (pre ++ (us ++ after))
+      → (after : List Token) × Binds 1 (pre ++ (us ++ after))
   finish_awaits (level {pre = pre} {a} {b} base hole right) us p =
       let r = finish_base base (a ++ (b ++ us)) (hole_filled a (b ++ us) hole (right.fills us p)) in
       let e : pre ++ (a ++ b) ++ (us ++ r.0) ≡ pre ++ (a ++ (b ++ us) ++ r.0) = simp append_assoc in
@@ -690,7 +538,7 @@ finish_after {h} {marks} {whole} x =
 
 -- by `true`, by a bound, or by the rest of an atom
 true_operand : AnOperand (word (codes "true") ∷ [])
-true_operand k = (_, always_true)
+true_operand k = (_, constant true)
 
 from_awaits : {h : Bool} {marks : List Mark} (whole us : List Token) → Awaits h marks (whole ++ us) → Finished whole
 from_awaits whole us x =
@@ -724,29 +572,29 @@ finished h marks whole at_end x = finish_after x
 
 -- what the machine has read begins a formula
 pub run_begins : (before : List Token) (s : State) → run before ≡ Some s → MayBegin before
-run_begins before s e = let r = finished s.had s.marks (reverse before) s.place (run_holds before s e) in (r.0, (r.1 0).0, (r.1 0).1)
+run_begins before s e = let r = finished s.had s.marks (reverse before) s.place (run_holds before s e) in (r.0, (r.1 0).0, as_formula (r.1 0).1)
 
 base_end : {marks : List Mark} {pre : List Token} → Base marks pre → in_paren marks ≡ false → pre ≡ []
 base_end bottom e = refl
 base_end (implied b) e = base_end b e
 base_end (in_parens w) e = absurd (cc)
 
-after_end : {h : Bool} {marks : List Mark} {whole : List Token} → After h marks whole → in_paren marks ≡ false → AFormula whole
+after_end : {h : Bool} {marks : List Mark} {whole : List Token} → After h marks whole → in_paren marks ≡ false → Binds 1 whole
 after_end {h} {marks} {whole} x e =
     let f : whole ≡ x.a ++ (x.b ++ x.us) = x.is ∙ ap (λ z. z ++ (x.a ++ (x.b ++ x.us))) (base_end x.base e) in
     rw f (hole_filled x.a (x.b ++ x.us) x.hole (x.right.fills x.us x.last))
 
-may_end : (h : Bool) (marks : List Mark) (whole : List Token) (p : Place) → Holds p h marks whole → ends_at p marks ≡ true → AFormula whole
+may_end : (h : Bool) (marks : List Mark) (whole : List Token) (p : Place) → Holds p h marks whole → ends_at p marks ≡ true → Binds 1 whole
 may_end h marks whole at_end x e = split (in_paren marks) refl
   where
-    split : (b : Bool) → in_paren marks ≡ b → AFormula whole
+    split : (b : Bool) → in_paren marks ≡ b → Binds 1 whole
     split true f = let z = rw f at e in absurd (cc)
     split false f = after_end x f
 may_end h marks whole _ x e = absurd (cc)
 
 -- it is a formula where an operand has ended outside parentheses
 pub run_ends : (before : List Token) (s : State) → run before ≡ Some s → ends_at s.place s.marks ≡ true → MayEnd before
-run_ends before s e f = may_end s.had s.marks (reverse before) s.place (run_holds before s e) f 0
+run_ends before s e f = let d = may_end s.had s.marks (reverse before) s.place (run_holds before s e) f 0 in (d.0, as_formula d.1)
 
 -- what the machine goes on with begins a formula too
 pub step_begins : (before : List Token) (s next : State) (t : Token) → run before ≡ Some s → step s t ≡ Some next → MayBegin (t ∷ before)

@@ -1,23 +1,24 @@
 -- The machine reads every formula.
-use Rattle.std.proofs.Common.{◌≡◌, ℕ, suc, ◌+◌, List, [], ◌∷◌, ◌++◌, length, refl, ap, sym, ◌∙◌, Bool, true, false, arith, append_assoc, length-append}
+use Rattle.std.proofs.Common.{◌≡◌, ℕ, suc, ◌+◌, ◌≤◌, List, [], ◌∷◌, ◌++◌, length, refl, ap, sym, ◌∙◌, Bool, true, false, arith, length-append}
 use Rattle.std.specs.Prelude.{codes, reverse, Option, Some, None}
 use Rattle.std.proofs.lemmas.List.{reverse-append}
 use Rattle.stl_syntax.specs.declared.scale.Scale.{Scale}
 use Rattle.stl_syntax.specs.declared.node.Node.{Node}
-use Rattle.stl_syntax.specs.declared.node.Node.TheVariants.{Not, And, Or, Implies, Until, Eventually, Always, Since, Once, Historically}
-use Rattle.stl_grammar.specs.Grammar.{top, Token, word, relation, close_paren}
-use Rattle.stl_grammar.specs.Grammar.{IsConstant, plain, IsTerm, scaled, AreTerms}
-use Rattle.stl_grammar.specs.Grammar.{more_plus, more_minus, IsAtom, first, signed, inside, outside}
+use Rattle.stl_grammar.specs.Grammar.{Token, word, number, relation, close_paren, open_bracket, close_bracket, comma}
+use Rattle.stl_grammar.specs.Grammar.{IsConstant, plain, IsTerm, scaled, AreTerms, more_plus, more_minus, IsAtom, first, signed, IsFormula}
 use Rattle.stl_grammar.specs.Grammar.{name as term_name, none as no_terms}
-use Rattle.stl_grammar.specs.Grammar.{IsFutureWindow, bound, IsPastWindow, nothing, bounded, unbounded, IsFuture, IsPast}
-use Rattle.stl_grammar.specs.Grammar.IsPast.{nothing as since_nothing, bounded as since_bounded, unbounded as since_unbounded}
-use Rattle.stl_grammar.specs.Grammar.{IsFormula, IsDisjunct, IsConjunct, IsTimed, IsOperand, disjunct, implies}
-use Rattle.stl_grammar.specs.Grammar.{conjunct, or, timed, and, operand, until, since, not, eventually, always}
-use Rattle.stl_grammar.specs.Grammar.{once, historically, always_true, always_false, parens, atom}
-use Rattle.stl_grammar.specs.Machine.{kind, Owner, of_until, of_since, of_future, of_past, looks_back, Place, at_operand}
-use Rattle.stl_grammar.specs.Machine.{at_bound, at_term, at_sign, at_constant, at_end, Mark, paren, operator, implication}
-use Rattle.stl_grammar.specs.Machine.{State, start, without_operators, closed, step, step_from, run, in_paren, ends_at}
+use Rattle.stl_grammar.specs.Machine.{Kind, a_constant, kind, Owner, looks_back, Place, at_operand, at_bound, at_low, at_high, at_closing}
+use Rattle.stl_grammar.specs.Machine.{at_term, at_sign, at_constant, at_end}
+use Rattle.stl_grammar.specs.Machine.{Mark, paren, operator, implication, State, start, without_operators, closed, begin_word, step, step_from}
+use Rattle.stl_grammar.specs.Machine.{run, in_paren, ends_at}
 use Rattle.stl_grammar.specs.FormulaRefusals.{MayBegin, MayEnd}
+use Rattle.stl_grammar.specs.Refusing.{owner, is_beside}
+use Rattle.stl_grammar.specs.declared.place.Timed.{Timed}
+use Rattle.stl_grammar.specs.declared.place.Timed.TheVariants.{Until as TUntil, Since as TSince}
+use Rattle.stl_grammar.proofs.Derivations.{Connective, by_and, by_or, by_implies, connective_word, binds, right_binds, left_two, timed_word}
+use Rattle.stl_grammar.proofs.Derivations.{constant_word, Opens, opens_in, opens_out, Closes, closes_in, closes_out, Bounded, left_out, within, endless}
+use Rattle.stl_grammar.proofs.Derivations.{Operand, negated, prefixed, constant, enclosed, compared}
+use Rattle.stl_grammar.proofs.Derivations.{Derived, joined, beside, alone, formula_derived, is_bracket, operand_begins}
 use Rattle.stl_grammar.proofs.WordKinds.{name_kind}
 
 -- the state after tokens, the first one first
@@ -102,59 +103,49 @@ atom_runs (signed {us = us} {vs} {rel = rel} u c) h marks n =
     go_then (st at_operand h marks n) (st (at_sign r.0) h marks (suc n)) (st at_end h (without_operators marks) (suc n)) us (relation rel ∷ vs) r.1
     (constant_runs c h marks (suc n))
 
--- bounds
-pub window_runs : {digits a b : ℕ} {us : List Token} {a_in b_in : Bool} → IsFutureWindow digits us a b a_in b_in → (h : Bool) (marks : List Mark) (n : ℕ)
-    → go (st (at_bound of_future) h marks n) us ≡ st at_operand h marks n
-window_runs (bound inside inside) h marks n = refl
-window_runs (bound inside outside) h marks n = refl
-window_runs (bound outside inside) h marks n = refl
-window_runs (bound outside outside) h marks n = refl
+-- a bound that is left out
+same_begin : (k : Kind) (p : Place) (h : Bool) (marks : List Mark) (n : ℕ)
+    → begin_word (record { place = p; had = h; marks = marks; nodes = n }) k ≡ begin_word (record { place = at_operand; had = h; marks = marks; nodes = n }) k
+same_begin a_constant p h marks n = refl
+same_begin _ p h marks n = refl
 
--- of the bound of until
-pub until_runs : {digits a b : ℕ} {us : List Token} → IsFuture digits us a b → (h : Bool) (marks : List Mark) (n : ℕ)
-    → go (st (at_bound of_until) h marks n) us ≡ st at_operand h marks n
-until_runs (bound inside inside) h marks n = refl
+-- an operator that looks back goes on to its operand at a token that is no bracket
+pub skips : (o : Owner) → looks_back o ≡ true → (h : Bool) (marks : List Mark) (n : ℕ) (t : Token) → is_bracket t ≡ false
+    → step_from (st (at_bound o) h marks n) t ≡ step_from (st at_operand h marks n) t
+skips o e h marks n (word w) f = rw e (same_begin (kind w) (at_bound o) h marks n)
+skips o e h marks n open_bracket f = absurd (cc)
+skips o e h marks n close_bracket f = absurd (cc)
+skips o e h marks n _ f = rw e refl
 
--- an operand after an operator whose bound is left out
-left_out : {s : Scale} {k : ℕ} {ts : List Token} {ns : List Node} → IsOperand s k ts ns → (o : Owner) → looks_back o ≡ true
-    → (h : Bool) (marks : List Mark) (n : ℕ)
-    → go (st (at_bound o) h marks n) ts ≡ go (st at_operand h marks n) ts
-left_out p of_until e h marks n = absurd (cc)
-left_out p of_future e h marks n = absurd (cc)
-left_out p of_since e h marks n = after_since p
-  where
-    after_since : {s : Scale} {k : ℕ} {ts : List Token} {ns : List Node} → IsOperand s k ts ns
-        → go (st (at_bound of_since) h marks n) ts ≡ go (st at_operand h marks n) ts
-    after_since (atom (first (term_name f) u c)) = refl
-    after_since (atom (signed (more_plus t u) c)) = refl
-    after_since _ = refl
-left_out p of_past e h marks n = after_past p
-  where
-    after_past : {s : Scale} {k : ℕ} {ts : List Token} {ns : List Node} → IsOperand s k ts ns
-        → go (st (at_bound of_past) h marks n) ts ≡ go (st at_operand h marks n) ts
-    after_past (atom (first (term_name f) u c)) = refl
-    after_past (atom (signed (more_plus t u) c)) = refl
-    after_past _ = refl
+-- the state after the bracket that opens a bound
+pub opens_step : {o : Owner} {t : Token} {x : Bool} → Opens o t x → (h : Bool) (marks : List Mark) (n : ℕ)
+    → step_from (st (at_bound o) h marks n) t ≡ st (at_low o) h marks n
+opens_step opens_in h marks n = refl
+opens_step (opens_out e) h marks n = rw e refl
+
+-- after the bracket that closes it
+pub closes_step : {o : Owner} {t : Token} {x : Bool} → Closes o t x → (h : Bool) (marks : List Mark) (n : ℕ)
+    → step_from (st (at_closing o) h marks n) t ≡ st at_operand h marks n
+closes_step closes_in h marks n = refl
+closes_step (closes_out e) h marks n = rw e refl
+
+-- and after `inf` in place of an upper end
+pub inf_step : (o : Owner) → looks_back o ≡ true → (a j : ℕ) (h : Bool) (marks : List Mark) (n : ℕ)
+    → step_from (st (at_high o a j) h marks n) (word (codes "inf")) ≡ st (at_closing o) h marks n
+unfolding kind
+inf_step o e a j h marks n = rw e refl
 
 -- an operand with the bound before it
-past_runs : {digits a : ℕ} {b : _} {us : List Token} {a_in b_in : Bool} → IsPastWindow digits us a b a_in b_in
-    → {s : Scale} {k : ℕ} {ts : List Token} {ns : List Node} → IsOperand s k ts ns → (h : Bool) (marks : List Mark) (n : ℕ)
-    → go (st (at_bound of_past) h marks n) (us ++ ts) ≡ go (st at_operand h marks n) ts
+pub bound_runs : {digits a : ℕ} {o : Owner} {b : _} {us : List Token} {x y : Bool} → Bounded digits o us a b x y
+    → {s : Scale} {k : ℕ} {ts : List Token} {ns : List Node} → Operand s k ts ns → (h : Bool) (marks : List Mark) (n : ℕ)
+    → go (st (at_bound o) h marks n) (us ++ ts) ≡ go (st at_operand h marks n) ts
 unfolding kind
-past_runs nothing p h marks n = left_out p of_past refl h marks n
-past_runs (bounded inside inside) p h marks n = refl
-past_runs (bounded outside inside) p h marks n = refl
-past_runs (unbounded inside inside) p h marks n = refl
-past_runs (unbounded outside inside) p h marks n = refl
-past_runs _ p h marks n = refl
-
-since_runs : {digits a : ℕ} {b : _} {us : List Token} → IsPast digits us a b
-    → {s : Scale} {k : ℕ} {ts : List Token} {ns : List Node} → IsOperand s k ts ns → (h : Bool) (marks : List Mark) (n : ℕ)
-    → go (st (at_bound of_since) h marks n) (us ++ ts) ≡ go (st at_operand h marks n) ts
-unfolding kind
-since_runs since_nothing p h marks n = left_out p of_since refl h marks n
-since_runs since_bounded p h marks n = refl
-since_runs since_unbounded p h marks n = refl
+bound_runs {o = o} (left_out e) p h marks n = let f = operand_begins p in rw f.is (ap (λ z. go z f.rest) (skips o e h marks n f.head f.other))
+bound_runs {o = o} (within {a = a} {j} {b} {k} {u = u} p q) {ts = ts} r h marks n =
+    ap (λ z. go z (number a j ∷ comma ∷ number b k ∷ u ∷ ts)) (opens_step p h marks n) ∙ ap (λ z. go z ts) (closes_step q h marks n)
+bound_runs {o = o} (endless {a = a} {j} {u = u} e p q) {ts = ts} r h marks n =
+    ap (λ z. go z (number a j ∷ comma ∷ word (codes "inf") ∷ u ∷ ts)) (opens_step p h marks n)
+    ∙ (ap (λ z. go z (u ∷ ts)) (inf_step o e a j h marks n) ∙ ap (λ z. go z ts) (closes_step q h marks n))
 
 -- the first marks, up to the others, are each of an `implies`
 pub data Implied : List Mark → List Mark → Type 0 where
@@ -184,106 +175,105 @@ one_after n ns ms x = omega (arith, length-append (ns ++ ms) (x ∷ []), length-
 count_is : (p : Place) (h : Bool) (marks : List Mark) (n m : ℕ) → n ≡ m → st p h marks n ≡ st p h marks m
 count_is p h marks n m e = ap (λ x. st p h marks x) e
 
+-- the marks after a connective
+abbrev pub after_connective : Connective → List Mark → List Mark
+after_connective by_implies marks = implication ∷ marks
+after_connective _ marks = marks
+
+-- the state after a connective
+pub connective_steps : (o : Connective) (h : Bool) (marks : List Mark) (n : ℕ)
+    → step_from (st at_end h marks n) (word (connective_word o)) ≡ st at_operand false (after_connective o marks) (suc n)
+unfolding kind
+connective_steps by_and h marks n = refl
+connective_steps _ h marks n = refl
+
+-- and after an operator with a bound, beside an operand and before one
+pub beside_steps : (of : Timed) → is_beside of ≡ true → (marks : List Mark) (n : ℕ)
+    → step_from (st at_end false marks n) (word (timed_word of)) ≡ st (at_bound (owner of)) true marks (suc n)
+unfolding kind
+beside_steps TUntil e marks n = refl
+beside_steps TSince e marks n = refl
+beside_steps _ e marks n = absurd (cc)
+
+-- before an operand
+pub before_steps : (of : Timed) → is_beside of ≡ false → (h : Bool) (marks : List Mark) (n : ℕ)
+    → step_from (st at_operand h marks n) (word (timed_word of)) ≡ st (at_bound (owner of)) h (operator ∷ marks) (suc n)
+unfolding kind
+before_steps TUntil e h marks n = absurd (cc)
+before_steps TSince e h marks n = absurd (cc)
+before_steps _ e h marks n = refl
+
+constant_steps : (b h : Bool) (marks : List Mark) (n : ℕ)
+    → step_from (st at_operand h marks n) (word (constant_word b)) ≡ st at_end h (without_operators marks) (suc n)
+unfolding kind
+constant_steps true h marks n = refl
+constant_steps false h marks n = refl
+
+-- what is pending after what binds at least as tightly as r: an `implies` is so at the end of a formula alone
+pub record Leaves (r : ℕ) (marks all : List Mark) : Type 0 where
+  -- nothing but an `implies` is left
+  pub implied : Implied (without_operators marks) all
+  -- nor is an `implies` left where the tokens bind more tightly than it
+  pub same : 2 ≤ r → all ≡ without_operators marks
+
+leaves_all : (r : ℕ) (marks : List Mark) → Leaves r marks (without_operators marks)
+leaves_all r marks = record { implied = here; same = λ l. refl }
+
+leaves_more : (o : Connective) (r : ℕ) (marks all : List Mark) → r ≤ binds o
+    → Leaves (right_binds o) (after_connective o (without_operators marks)) all → Leaves r marks all
+leaves_more by_and r marks all l h = let e = h.same (omega arith) ∙ without_twice marks in rw e (leaves_all r marks)
+leaves_more by_or r marks all l h = let e = h.same (omega arith) ∙ without_twice marks in rw e (leaves_all r marks)
+leaves_more by_implies r marks all l h = record { implied = more h.implied; same = λ m. absurd (omega arith) }
+
 mutual
   unfolding kind
 
-  -- of a formula
-  pub formula_runs : {s : Scale} {k : ℕ} {ts : List Token} {ns : List Node} → IsFormula s k ts ns → (marks : List Mark) (n : ℕ)
-      → (h : Bool) × (all : List Mark) × Implied (without_operators marks) all × (go (st at_operand false marks n) ts ≡ st at_end h all (n + length ns))
-  formula_runs (disjunct {ns = ns} d) marks n = let r = disjunct_runs d marks n in (r.0, without_operators marks, here, r.1)
-  formula_runs (implies {k = k} {ts = ts} {us} {ns} {ms} d f) marks n =
-      let r = disjunct_runs d marks n in
-      let q = formula_runs f (implication ∷ without_operators marks) (suc (n + length ns)) in (
-        q.0,
-        q.1,
-        more q.2,
-        go_then (st at_operand false marks n) (st at_end r.0 (without_operators marks) (n + length ns)) (st at_end q.0 q.1 _) ts
-            (word (codes "implies") ∷ us) r.1
-            (q.3 ∙ count_is at_end q.0 q.1 _ _ (one_after n ns ms (Implies (top k ns) (top (k + length ns) ms)))),
+  -- of what binds at least as tightly as r
+  pub derived_runs : {s : Scale} {r k : ℕ} {ts : List Token} {ns : List Node} → Derived s r k ts ns → (marks : List Mark) (n : ℕ)
+      → (h : Bool) × (all : List Mark) × Leaves r marks all × (go (st at_operand false marks n) ts ≡ st at_end h all (n + length ns))
+  derived_runs {r = r} (joined o {ts = ts} {us} {ns} {ms} l d e) marks n =
+      let x = derived_runs d marks n in
+      let y = derived_runs e (after_connective o (without_operators marks)) (suc (n + length ns)) in (
+        y.0,
+        y.1,
+        leaves_more o r marks y.1 l y.2,
+        go_then (st at_operand false marks n) (st at_end x.0 (without_operators marks) (n + length ns)) (st at_end y.0 y.1 _) ts
+            (word (connective_word o) ∷ us) (x.3 ∙ ap (λ z. st at_end x.0 z (n + length ns)) (x.2.same (left_two o)))
+            (ap (λ z. go z us) (connective_steps o x.0 (without_operators marks) (n + length ns))
+            ∙ (y.3 ∙ count_is at_end y.0 y.1 _ _ (one_after n ns ms _))),
       )
-
-  -- of what `or` joins
-  pub disjunct_runs : {s : Scale} {k : ℕ} {ts : List Token} {ns : List Node} → IsDisjunct s k ts ns → (marks : List Mark) (n : ℕ)
-      → (h : Bool) × (go (st at_operand false marks n) ts ≡ st at_end h (without_operators marks) (n + length ns))
-  disjunct_runs (conjunct c) marks n = conjunct_runs c marks n
-  disjunct_runs (or {k = k} {ts = ts} {us} {ns} {ms} d c) marks n =
-      let r = disjunct_runs d marks n in
-      let q = conjunct_runs c (without_operators marks) (suc (n + length ns)) in (
-        q.0,
-        go_then (st at_operand false marks n) (st at_end r.0 (without_operators marks) (n + length ns))
-            (st at_end q.0 (without_operators marks) _) ts (word (codes "or") ∷ us) r.1
-            (rw without_twice at q.1 ∙ count_is at_end q.0 (without_operators marks) _ _ (one_after n ns ms (Or (top k ns) (top (k + length ns) ms)))),
-      )
-
-  -- of what `and` joins
-  pub conjunct_runs : {s : Scale} {k : ℕ} {ts : List Token} {ns : List Node} → IsConjunct s k ts ns → (marks : List Mark) (n : ℕ)
-      → (h : Bool) × (go (st at_operand false marks n) ts ≡ st at_end h (without_operators marks) (n + length ns))
-  conjunct_runs (timed t) marks n = timed_runs t marks n
-  conjunct_runs (and {k = k} {ts = ts} {us} {ns} {ms} c t) marks n =
-      let r = conjunct_runs c marks n in
-      let q = timed_runs t (without_operators marks) (suc (n + length ns)) in (
-        q.0,
-        go_then (st at_operand false marks n) (st at_end r.0 (without_operators marks) (n + length ns))
-            (st at_end q.0 (without_operators marks) _) ts (word (codes "and") ∷ us) r.1
-            (rw without_twice at q.1 ∙ count_is at_end q.0 (without_operators marks) _ _ (one_after n ns ms (And (top k ns) (top (k + length ns) ms)))),
-      )
-
-  -- of what until and since join
-  pub timed_runs : {s : Scale} {k : ℕ} {ts : List Token} {ns : List Node} → IsTimed s k ts ns → (marks : List Mark) (n : ℕ)
-      → (h : Bool) × (go (st at_operand false marks n) ts ≡ st at_end h (without_operators marks) (n + length ns))
-  timed_runs (operand p) marks n = (false, operand_runs p false marks n)
-  timed_runs (until {k = k} {a = a} {b} {ts = ts} {us} {vs} {ns} {ms} p w q) marks n =
-      let r = operand_runs p false marks n in
-      let e = operand_runs q true (without_operators marks) (suc (n + length ns)) in (
+  derived_runs {r = r} (beside of {ts = ts} {us} {vs} {ns} {ms} e l p w q) marks n =
+      let m = without_operators marks in (
         true,
-        go_then (st at_operand false marks n) (st at_operand true (without_operators marks) (suc (n + length ns))) (st at_end true (without_operators marks) _)
-            (ts ++ (word (codes "until") ∷ us)) vs
-            (go_then (st at_operand false marks n) (st at_end false (without_operators marks) (n + length ns))
-            (st at_operand true (without_operators marks) (suc (n + length ns)))
-            ts (word (codes "until") ∷ us) r (until_runs w true (without_operators marks) (suc (n + length ns))))
-            (rw without_twice at e ∙ count_is at_end true (without_operators marks) _ _ (one_after n ns ms (Until (top k ns) (top (k + length ns) ms) a b))),
+        m,
+        leaves_all r marks,
+        go_then (st at_operand false marks n) (st at_end false m (n + length ns)) (st at_end true m _) ts (word (timed_word of) ∷ (us ++ vs))
+            (operand_runs p false marks n)
+            (ap (λ z. go z (us ++ vs)) (beside_steps of e m (n + length ns)) ∙ (bound_runs w q true m (suc (n + length ns))
+            ∙ (rw without_twice at (operand_runs q true m (suc (n + length ns))) ∙ count_is at_end true m _ _ (one_after n ns ms _)))),
       )
-  timed_runs (since {k = k} {a = a} {b} {ts = ts} {us} {vs} {ns} {ms} p w q) marks n =
-      let r = operand_runs p false marks n in
-      let e = operand_runs q true (without_operators marks) (suc (n + length ns)) in (
-        true,
-        rw (append_assoc ts (word (codes "since") ∷ us) vs) (
-            go_then (st at_operand false marks n) (st at_end false (without_operators marks) (n + length ns)) (st at_end true (without_operators marks) _)
-            ts (word (codes "since") ∷ (us ++ vs)) r
-            (since_runs w q true (without_operators marks) (suc (n + length ns))
-            ∙ (rw without_twice at e ∙ count_is at_end true (without_operators marks) _ _
-            (one_after n ns ms (Since (top k ns) (top (k + length ns) ms) a b))))),
-      )
+  derived_runs {r = r} (alone p) marks n = (false, without_operators marks, leaves_all r marks, operand_runs p false marks n)
 
   -- of an operand
-  pub operand_runs : {s : Scale} {k : ℕ} {ts : List Token} {ns : List Node} → IsOperand s k ts ns → (h : Bool) (marks : List Mark) (n : ℕ)
+  pub operand_runs : {s : Scale} {k : ℕ} {ts : List Token} {ns : List Node} → Operand s k ts ns → (h : Bool) (marks : List Mark) (n : ℕ)
       → go (st at_operand h marks n) ts ≡ st at_end h (without_operators marks) (n + length ns)
-  operand_runs (not {k = k} {ts} {ns} p) h marks n =
-      operand_runs p h (operator ∷ marks) (suc n) ∙ count_is at_end h (without_operators marks) _ _ (one_more n ns (Not (top k ns)))
-  operand_runs (eventually {k = k} {a} {b} {a_in} {b_in} {ts} {us} {ns} w p) h marks n =
-      go_then (st (at_bound of_future) h (operator ∷ marks) (suc n)) (st at_operand h (operator ∷ marks) (suc n))
-      (st at_end h (without_operators marks) _) us ts
-      (window_runs w h (operator ∷ marks) (suc n))
-      (operand_runs p h (operator ∷ marks) (suc n) ∙ count_is at_end h (without_operators marks) _ _ (one_more n ns (Eventually (top k ns) a b a_in b_in)))
-  operand_runs (always {k = k} {a} {b} {a_in} {b_in} {ts} {us} {ns} w p) h marks n =
-      go_then (st (at_bound of_future) h (operator ∷ marks) (suc n)) (st at_operand h (operator ∷ marks) (suc n))
-      (st at_end h (without_operators marks) _) us ts
-      (window_runs w h (operator ∷ marks) (suc n))
-      (operand_runs p h (operator ∷ marks) (suc n) ∙ count_is at_end h (without_operators marks) _ _ (one_more n ns (Always (top k ns) a b a_in b_in)))
-  operand_runs (once {k = k} {a} {b} {a_in} {b_in} {ts} {us} {ns} w p) h marks n =
-      past_runs w p h (operator ∷ marks) (suc n)
-      ∙ (operand_runs p h (operator ∷ marks) (suc n) ∙ count_is at_end h (without_operators marks) _ _ (one_more n ns (Once (top k ns) a b a_in b_in)))
-  operand_runs (historically {k = k} {a} {b} {a_in} {b_in} {ts} {us} {ns} w p) h marks n =
-      past_runs w p h (operator ∷ marks) (suc n)
-      ∙ (operand_runs p h (operator ∷ marks) (suc n) ∙ count_is at_end h (without_operators marks) _ _ (one_more n ns (Historically (top k ns) a b a_in b_in)))
-  operand_runs always_true h marks n = count_is at_end h (without_operators marks) _ _ (omega arith)
-  operand_runs always_false h marks n = count_is at_end h (without_operators marks) _ _ (omega arith)
-  operand_runs (parens {ts = ts} {ns} f) h marks n =
-      let r = formula_runs f (paren h ∷ marks) n in
+  operand_runs (negated {ns = ns} p) h marks n =
+      operand_runs p h (operator ∷ marks) (suc n) ∙ count_is at_end h (without_operators marks) _ _ (one_more n ns _)
+  operand_runs (prefixed of {ts = ts} {us} {ns} e w p) h marks n =
+      ap (λ z. go z (us ++ ts)) (before_steps of e h marks n) ∙ (bound_runs w p h (operator ∷ marks) (suc n)
+      ∙ (operand_runs p h (operator ∷ marks) (suc n) ∙ count_is at_end h (without_operators marks) _ _ (one_more n ns _)))
+  operand_runs (constant b) h marks n = constant_steps b h marks n ∙ count_is at_end h (without_operators marks) _ _ (omega arith)
+  operand_runs (enclosed {ts = ts} {ns} d) h marks n =
+      let r = derived_runs d (paren h ∷ marks) n in
       go_then (st at_operand false (paren h ∷ marks) n) (st at_end r.0 r.1 (n + length ns))
       (st at_end h (without_operators marks) (n + length ns)) ts (close_paren ∷ []) r.3
-      (implied_closes r.2 (n + length ns))
-  operand_runs (atom a) h marks n = atom_runs a h marks n ∙ count_is at_end h (without_operators marks) _ _ (omega arith)
+      (implied_closes r.2.implied (n + length ns))
+  operand_runs (compared a) h marks n = atom_runs a h marks n ∙ count_is at_end h (without_operators marks) _ _ (omega arith)
+
+-- of the left side of an operator
+pub left_runs : {s : Scale} {k : ℕ} {ts : List Token} {ns : List Node} (r : ℕ) → 2 ≤ r → Derived s r k ts ns → (marks : List Mark) (n : ℕ)
+    → (h : Bool) × (go (st at_operand false marks n) ts ≡ st at_end h (without_operators marks) (n + length ns))
+left_runs {ns = ns} r l d marks n = let x = derived_runs d marks n in (x.0, x.3 ∙ ap (λ z. st at_end x.0 z (n + length ns)) (x.2.same l))
 
 go_none : (ts : List Token) → go None ts ≡ None
 go_none [] = refl
@@ -292,7 +282,7 @@ go_none (t ∷ ts) = go_none ts
 -- where the machine stops, no formula begins so
 pub run_stops : (before : List Token) → run before ≡ None → ¬ MayBegin before
 run_stops before e m =
-    let r = formula_runs m.2 [] 0 in
+    let r = derived_runs (formula_derived 1 (omega arith) m.2) [] 0 in
     let z : go (Some start) (reverse before ++ m.0) ≡ None =
     go_append (Some start) (reverse before) m.0 ∙ (ap (λ o. go o m.0) (sym (run_go before) ∙ e) ∙ go_none m.0) in
     cc (r.3)
@@ -305,10 +295,10 @@ step_stops before s t e f = run_stops (t ∷ before) (ap (λ o. step_from o t) e
 formula_state : (before : List Token) (s : State) → run before ≡ Some s → {c : Scale} {nodes : List Node} → IsFormula c 0 (reverse before) nodes
     → (ends_at s.place s.marks ≡ true) × (s.nodes ≡ length nodes)
 formula_state before s e {c} {nodes} f =
-    let r = formula_runs f [] 0 in
+    let r = derived_runs (formula_derived 1 (omega arith) f) [] 0 in
     let x : Some s ≡ st at_end r.0 r.1 (0 + length nodes) = sym e ∙ (run_go before ∙ r.3) in
     let y : s ≡ record { place = at_end; had = r.0; marks = r.1; nodes = 0 + length nodes } = cc in
-    let z : in_paren r.1 ≡ false = implied_nothing r.2 in
+    let z : in_paren r.1 ≡ false = implied_nothing r.2.implied in
     (rw (y, z) refl, rw y (omega arith))
 
 -- what the machine has not ended is no formula

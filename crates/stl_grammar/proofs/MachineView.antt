@@ -17,7 +17,7 @@ use Rattle.stl_grammar.specs.Machine.{a_future, a_past, an_inf, a_name, Owner, o
 use Rattle.stl_grammar.specs.Machine.{looks_back, opens, closes, Place, at_operand, at_bound, at_low, at_comma, at_high}
 use Rattle.stl_grammar.specs.Machine.{at_closing, at_term, at_star, at_name, at_sign, at_constant, at_number, at_end, Mark}
 use Rattle.stl_grammar.specs.Machine.{paren, operator, implication, State, start, without_operators, closed, begin_word}
-use Rattle.stl_grammar.specs.Machine.{begin_operand, step_bound, step_inf, step_name, step_connective, step, step_at, run}
+use Rattle.stl_grammar.specs.Machine.{begin_operand, step_inf, step_name, step_connective, step, step_at, run}
 use Rattle.stl_grammar.specs.Machine.{in_paren, expected_at, all_pending, terms_at, fifth_at, disorder_at, future_at}
 use Rattle.stl_grammar.proofs.WordKinds.{ends_operand, has_operand, is_implication, is_inf, looks_ahead, is_word}
 use Rattle.stl_grammar.proofs.WordKinds.{among_constants, among_prefixes, among_implies, among_inf, among_ahead}
@@ -204,6 +204,12 @@ record View (s : State) (before : List Token) : Type 0 where
 same_view : (a b : State) (before : List Token) → Some a ≡ Some b → View a before → View b before
 same_view a b before e v = let f : a ≡ b = same_Some a b e in rw (← f) v
 
+-- a view of the next state by its parts
+viewed : {p : Place} {h : Bool} {marks : List Mark} {n : ℕ} {next : State} {before : List Token}
+    → Some (record { place = p; had = h; marks = marks; nodes = n }) ≡ Some next → Shape p before → pending before ≡ all_pending marks
+    → nodes_made before ≡ n → terms_made before ≡ terms_at p → View next before
+viewed {before = before} e s q c t = same_view _ _ before e (record { shape = s; pend = q; count = c; terms = t })
+
 count_token : (t : Token) (what : What) (before : List Token) (n : ℕ) → expected before ≡ what → nodes_made before ≡ n
     → nodes_made (t ∷ before) ≡ (if makes_node what t then suc n else n)
 count_token t what before n e f =
@@ -212,6 +218,14 @@ count_token t what before n e f =
 count_word : (w : List ℕ) (k : Kind) (what : What) (before : List Token) (n : ℕ) → kind w ≡ k → expected before ≡ what → nodes_made before ≡ n
     → nodes_made (word w ∷ before) ≡ (if word_makes what k then suc n else n)
 count_word w k what before n e f g = count_token (word w) what before n f g ∙ ap (λ b. if b then suc n else n) (makes_word what w k e)
+
+-- and after a word, by its kind
+word_viewed : {w : List ℕ} {k : Kind} {what : What} {p : Place} {h : Bool} {marks : List Mark} {n m : ℕ} {next : State} {before : List Token} → kind w ≡ k
+    → expected before ≡ what → nodes_made before ≡ n → Some (record { place = p; had = h; marks = marks; nodes = m }) ≡ Some next
+    → Shape p (word w ∷ before) → word_pending k (pending before) ≡ all_pending marks → (if word_makes what k then suc n else n) ≡ m
+    → (if is_word k then 0 else suc (terms_made before)) ≡ terms_at p → View next (word w ∷ before)
+word_viewed {w} {k} {what} {n = n} {before = before} f x c e s q m t =
+    viewed e s (pending_word w k before f ∙ q) (count_word w k what before n f x c ∙ m) (terms_word w k before f ∙ t)
 
 operand_pending : (marks : List Mark) → after_operand (all_pending marks) ≡ all_pending (without_operators marks)
 operand_pending (operator ∷ marks) = operand_pending marks
@@ -240,65 +254,27 @@ module _ (h : Bool) (marks : List Mark) (n : ℕ) (before : List Token) where
   -- a word in the place of an operand
   word_view : (p : Place) → Begins before → pending before ≡ all_pending marks → nodes_made before ≡ n → terms_made before ≡ 0
       → (w : List ℕ) (k : Kind) → kind w ≡ k → (next : State) → begin_word (now p) k ≡ Some next → View next (word w ∷ before)
-  word_view p b q c t w a_constant f next e = same_view _ next _ e (record {
-    shape = end_word f;
-    pend = pending_word w a_constant before f ∙ (ap after_operand q ∙ operand_pending marks);
-    count = count_word w a_constant Operand before n f (begins_expected before b) c;
-    terms = terms_word w a_constant before f;
-  })
-  word_view p b q c t w a_negation f next e = same_view _ next _ e (record {
-    shape = an_operand (a_word a_negation f refl);
-    pend = pending_word w a_negation before f ∙ ap (λ z. an_operator ∷ z) q;
-    count = count_word w a_negation Operand before n f (begins_expected before b) c;
-    terms = terms_word w a_negation before f;
-  })
-  word_view p b q c t w a_future f next e = same_view _ next _ e (record {
-    shape = a_bound a_future f refl;
-    pend = pending_word w a_future before f ∙ ap (λ z. an_operator ∷ z) q;
-    count = count_word w a_future Operand before n f (begins_expected before b) c;
-    terms = terms_word w a_future before f;
-  })
-  word_view p b q c t w a_past f next e = same_view _ next _ e (record {
-    shape = a_bound a_past f refl;
-    pend = pending_word w a_past before f ∙ ap (λ z. an_operator ∷ z) q;
-    count = count_word w a_past Operand before n f (begins_expected before b) c;
-    terms = terms_word w a_past before f;
-  })
-  word_view p b q c t w a_name f next e = same_view _ next _ e (record {
-    shape = a_sign f;
-    pend = pending_word w a_name before f ∙ q;
-    count = count_word w a_name Operand before n f (begins_expected before b) c;
-    terms = terms_word w a_name before f ∙ ap (λ z. suc z) t;
-  })
+  word_view p b q c t w a_constant f next e =
+      word_viewed f (begins_expected before b) c e (end_word f) (ap after_operand q ∙ operand_pending marks) refl refl
+  word_view p b q c t w a_negation f next e =
+      word_viewed f (begins_expected before b) c e (an_operand (a_word a_negation f refl)) (ap (λ z. an_operator ∷ z) q) refl refl
+  word_view p b q c t w a_future f next e = word_viewed f (begins_expected before b) c e (a_bound a_future f refl) (ap (λ z. an_operator ∷ z) q) refl refl
+  word_view p b q c t w a_past f next e = word_viewed f (begins_expected before b) c e (a_bound a_past f refl) (ap (λ z. an_operator ∷ z) q) refl refl
+  word_view p b q c t w a_name f next e = word_viewed f (begins_expected before b) c e (a_sign f) q refl (ap (λ z. suc z) t)
   word_view p b q c t w _ f next e = absurd (none-some next e)
 
   begin_view : (p : Place) → Begins before → pending before ≡ all_pending marks → nodes_made before ≡ n → terms_made before ≡ 0
       → (t : Token) (next : State) → begin_operand (now p) t ≡ Some next → View next (t ∷ before)
   begin_view p b q c z (word w) next e = word_view p b q c z w (kind w) refl next e
-  begin_view p b q c z (number m k) next e = same_view _ next _ e (record {
-    shape = a_star (at_first b);
-    pend = ap (λ x. pending_after x (number m k) (pending before)) (terms_constant before m k (at_first b)) ∙ q;
-    count = count_token (number m k) Operand before n (begins_expected before b) c;
-    terms = z;
-  })
-  begin_view p b q c z open_paren next e = same_view _ next _ e (record {
-    shape = an_operand a_parenthesis;
-    pend = ap (λ x. a_paren ∷ x) q;
-    count = count_token open_paren Operand before n (begins_expected before b) c;
-    terms = refl;
-  })
-  begin_view p b q c z plus next e = same_view _ next _ e (record {
-    shape = first_term a_plus b;
-    pend = q;
-    count = count_token plus Operand before n (begins_expected before b) c;
-    terms = z;
-  })
-  begin_view p b q c z minus next e = same_view _ next _ e (record {
-    shape = first_term a_minus b;
-    pend = q;
-    count = count_token minus Operand before n (begins_expected before b) c;
-    terms = z;
-  })
+  begin_view p b q c z (number m k) next e = viewed e (a_star (at_first b))
+      (ap (λ x. pending_after x (number m k) (pending before)) (terms_constant before m k (at_first b)) ∙ q)
+      (count_token (number m k) Operand before n (begins_expected before b) c) z
+  begin_view p b q c z open_paren next e = viewed e (an_operand a_parenthesis) (ap (λ x. a_paren ∷ x) q)
+      (count_token open_paren Operand before n (begins_expected before b) c) refl
+  begin_view p b q c z plus next e = viewed e (first_term a_plus b) q
+      (count_token plus Operand before n (begins_expected before b) c) z
+  begin_view p b q c z minus next e = viewed e (first_term a_minus b) q
+      (count_token minus Operand before n (begins_expected before b) c) z
   begin_view p b q c z _ next e = absurd (none-some next e)
 
 -- brackets
@@ -342,9 +318,12 @@ module _ (h : Bool) (marks : List Mark) (n : ℕ) where
   abbrev there : Place → State
   there p = record { place = p; had = h; marks = marks; nodes = n }
 
-  bound_view : {o : Owner} {before : List Token} → Shape (at_bound o) before → pending before ≡ all_pending marks
-      → nodes_made before ≡ n → terms_made before ≡ 0
-      → (t : Token) (next : State) → step_bound o (there (at_bound o)) t ≡ Some next → View next (t ∷ before)
+  -- from the tokens before a place to those one step on
+  abbrev Moves : Place → List Token → Type 0
+  Moves p before = pending before ≡ all_pending marks → nodes_made before ≡ n → terms_made before ≡ terms_at p → (t : Token) (next : State)
+      → step_at p (there p) t ≡ Some next → View next (t ∷ before)
+
+  bound_view : {o : Owner} {before : List Token} → Shape (at_bound o) before → Moves (at_bound o) before
   bound_view (a_bound {w = w} {before = more} {o = o} k f g) q c z t next e = split (opens o t) refl
     where
       back : (b : Bool) → looks_back o ≡ b → opens o t ≡ false → View next (t ∷ word w ∷ more)
@@ -352,177 +331,112 @@ module _ (h : Bool) (marks : List Mark) (n : ℕ) where
       back false r d = let x = rw (d, r) at e in absurd (none-some next x)
 
       split : (b : Bool) → opens o t ≡ b → View next (t ∷ word w ∷ more)
-      split true d = let s = opens_bracket o t d in same_view _ next _ (rw d at e) (record {
-        shape = a_low k s f g;
-        pend = bracket_pending t (word w ∷ more) s ∙ q;
-        count = bracket_nodes t (word w ∷ more) s ∙ c;
-        terms = bracket_terms t (word w ∷ more) s;
-      })
+      split true d = let s = opens_bracket o t d in viewed (rw d at e) (a_low k s f g) (bracket_pending t (word w ∷ more) s ∙ q)
+          (bracket_nodes t (word w ∷ more) s ∙ c) (bracket_terms t (word w ∷ more) s)
       split false d = back (looks_back o) refl d
 
-  low_view : {o : Owner} {before : List Token} → Shape (at_low o) before → pending before ≡ all_pending marks → nodes_made before ≡ n → terms_made before ≡ 0
-      → (t : Token) (next : State) → step_at (at_low o) (there (at_low o)) t ≡ Some next → View next (t ∷ before)
-  low_view (a_low {t = b} {w = w} {before = more} {o = o} k s f g) q c z (number a j) next e = same_view _ next _ e (record {
-    shape = a_comma k s f g;
-    pend = ap (λ x. pending_after x (number a j) (pending (b ∷ word w ∷ more))) (low_constant b w a j more s) ∙ q;
-    count = count_token (number a j) Number (b ∷ word w ∷ more) n (shape_expected (at_low o) (b ∷ word w ∷ more) marks (a_low k s f g) q) c;
-    terms = z;
-  })
+  low_view : {o : Owner} {before : List Token} → Shape (at_low o) before → Moves (at_low o) before
+  low_view (a_low {t = b} {w = w} {before = more} {o = o} k s f g) q c z (number a j) next e = viewed e (a_comma k s f g)
+      (ap (λ x. pending_after x (number a j) (pending (b ∷ word w ∷ more))) (low_constant b w a j more s) ∙ q)
+      (count_token (number a j) Number (b ∷ word w ∷ more) n (shape_expected (at_low o) (b ∷ word w ∷ more) marks (a_low k s f g) q) c) z
   low_view (a_low k s f g) q c z _ next e = absurd (none-some next e)
 
-  comma_view : {o : Owner} {a j : ℕ} {before : List Token} → Shape (at_comma o a j) before → pending before ≡ all_pending marks → nodes_made before ≡ n
-      → (t : Token) (next : State) → step_at (at_comma o a j) (there (at_comma o a j)) t ≡ Some next → View next (t ∷ before)
-  comma_view (a_comma k s f g) q c comma next e = same_view _ next _ e (record { shape = a_high k s f g; pend = q; count = c; terms = refl })
-  comma_view (a_comma k s f g) q c _ next e = absurd (none-some next e)
+  comma_view : {o : Owner} {a j : ℕ} {before : List Token} → Shape (at_comma o a j) before → Moves (at_comma o a j) before
+  comma_view (a_comma k s f g) q c z comma next e = viewed e (a_high k s f g) q c refl
+  comma_view (a_comma k s f g) q c z _ next e = absurd (none-some next e)
 
   inf_view : (o : Owner) (a j : ℕ) (before : List Token) → pending (comma ∷ before) ≡ all_pending marks → nodes_made (comma ∷ before) ≡ n
       → (w : List ℕ) (k : Kind) → kind w ≡ k → (next : State) → step_inf o (there (at_high o a j)) k ≡ Some next → View next (word w ∷ comma ∷ before)
   inf_view o a j before q c w an_inf f next e = split (looks_back o) refl
     where
       split : (b : Bool) → looks_back o ≡ b → View next (word w ∷ comma ∷ before)
-      split true d = same_view _ next _ (rw d at e) (record {
-        shape = closing_inf f;
-        pend = pending_word w an_inf (comma ∷ before) f ∙ q;
-        count = count_word w an_inf Number (comma ∷ before) n f refl c;
-        terms = terms_word w an_inf (comma ∷ before) f;
-      })
+      split true d = word_viewed f refl c (rw d at e) (closing_inf f) q refl refl
       split false d = let x = rw d at e in absurd (none-some next x)
   inf_view o a j before q c w _ f next e = absurd (none-some next e)
 
-  high_view : {o : Owner} {a j : ℕ} {before : List Token} → Shape (at_high o a j) before → pending before ≡ all_pending marks → nodes_made before ≡ n
-      → (t : Token) (next : State) → step_at (at_high o a j) (there (at_high o a j)) t ≡ Some next → View next (t ∷ before)
-  high_view (a_high k s f g) q c (number b i) next e = same_view _ next _ e (record { shape = closing_number; pend = q; count = c; terms = refl })
-  high_view (a_high {t = b} {w = w} {before = more} {o = o} {a = a} {j} k s f g) q c (word v) next e =
+  high_view : {o : Owner} {a j : ℕ} {before : List Token} → Shape (at_high o a j) before → Moves (at_high o a j) before
+  high_view (a_high k s f g) q c z (number b i) next e = viewed e closing_number q c refl
+  high_view (a_high {t = b} {w = w} {before = more} {o = o} {a = a} {j} k s f g) q c z (word v) next e =
       inf_view o a j (number a j ∷ b ∷ word w ∷ more) q c v (kind v) refl next e
-  high_view (a_high k s f g) q c _ next e = absurd (none-some next e)
+  high_view (a_high k s f g) q c z _ next e = absurd (none-some next e)
 
   closing_begins : {o : Owner} {before : List Token} → Shape (at_closing o) before → (t : Token) → IsBracket t → Begins (t ∷ before)
   closing_begins closing_number t s = after_number s
   closing_begins (closing_inf f) t s = after_inf s f
 
-  closing_view : (o : Owner) (before : List Token) → Shape (at_closing o) before → pending before ≡ all_pending marks → nodes_made before ≡ n
-      → (t : Token) (next : State) → step_at (at_closing o) (there (at_closing o)) t ≡ Some next → View next (t ∷ before)
-  closing_view o before x q c t next e = split (closes o t) refl
+  closing_view : (o : Owner) (before : List Token) → Shape (at_closing o) before → Moves (at_closing o) before
+  closing_view o before x q c z t next e = split (closes o t) refl
     where
       split : (b : Bool) → closes o t ≡ b → View next (t ∷ before)
-      split true d = let s = closes_bracket o t d in same_view _ next _ (rw d at e) (record {
-        shape = an_operand (closing_begins x t s);
-        pend = bracket_pending t before s ∙ q;
-        count = bracket_nodes t before s ∙ c;
-        terms = bracket_terms t before s;
-      })
+      split true d = let s = closes_bracket o t d in viewed (rw d at e) (an_operand (closing_begins x t s)) (bracket_pending t before s ∙ q)
+          (bracket_nodes t before s ∙ c) (bracket_terms t before s)
       split false d = let y = rw d at e in absurd (none-some next y)
 
   -- a name after m other terms
   name_view : {m : ℕ} {what : What} (p : Place) → is_operand what ≡ false → (before : List Token) → expected before ≡ what
       → pending before ≡ all_pending marks → nodes_made before ≡ n
       → terms_made before ≡ m → (w : List ℕ) (k : Kind) → kind w ≡ k → (next : State) → step_name m (there p) k ≡ Some next → View next (word w ∷ before)
-  name_view {what = what} p y before x q c z w a_name f next e = same_view _ next _ e (record {
-    shape = a_sign f;
-    pend = pending_word w a_name before f ∙ q;
-    count = count_word w a_name what before n f x c ∙ ap (λ b. if b then suc n else n) y;
-    terms = terms_word w a_name before f ∙ ap (λ i. suc i) z;
-  })
+  name_view p y before x q c z w a_name f next e = word_viewed f x c e (a_sign f) q (ap (λ b. if b then suc n else n) y) (ap (λ i. suc i) z)
   name_view p y before x q c z w _ f next e = absurd (none-some next e)
 
   term_terms : {m : ℕ} {before : List Token} → Shape (at_term m) before → Terms before
   term_terms (first_term s b) = signed_first s b
   term_terms (next_term s) = signed_next s
 
-  term_view : (m : ℕ) (before : List Token) → Shape (at_term m) before → pending before ≡ all_pending marks → nodes_made before ≡ n → terms_made before ≡ m
-      → (t : Token) (next : State) → step_at (at_term m) (there (at_term m)) t ≡ Some next → View next (t ∷ before)
-  term_view m before x q c z (number i k) next e = same_view _ next _ e (record {
-    shape = a_star (term_terms x);
-    pend = ap (λ b. pending_after b (number i k) (pending before)) (terms_constant before i k (term_terms x)) ∙ q;
-    count = count_token (number i k) Term before n (shape_expected (at_term m) before marks x q) c;
-    terms = z;
-  })
+  term_view : (m : ℕ) (before : List Token) → Shape (at_term m) before → Moves (at_term m) before
+  term_view m before x q c z (number i k) next e = viewed e (a_star (term_terms x))
+      (ap (λ b. pending_after b (number i k) (pending before)) (terms_constant before i k (term_terms x)) ∙ q)
+      (count_token (number i k) Term before n (shape_expected (at_term m) before marks x q) c) z
   term_view m before x q c z (word w) next e =
       name_view (at_term m) refl before (shape_expected (at_term m) before marks x q) q c z w (kind w) refl next e
   term_view m before x q c z _ next e = absurd (none-some next e)
 
-  star_view : (m : ℕ) (before : List Token) → pending before ≡ all_pending marks → nodes_made before ≡ n → terms_made before ≡ m
-      → (t : Token) (next : State) → step_at (at_star m) (there (at_star m)) t ≡ Some next → View next (t ∷ before)
-  star_view m before q c z star next e = same_view _ next _ e (record { shape = the_name; pend = q; count = c; terms = z })
+  star_view : (m : ℕ) (before : List Token) → Moves (at_star m) before
+  star_view m before q c z star next e = viewed e the_name q c z
   star_view m before q c z _ next e = absurd (none-some next e)
 
-  coefficient_view : (m : ℕ) (before : List Token) → Shape (at_name m) before → pending before ≡ all_pending marks
-      → nodes_made before ≡ n → terms_made before ≡ m
-      → (t : Token) (next : State) → step_at (at_name m) (there (at_name m)) t ≡ Some next → View next (t ∷ before)
+  coefficient_view : (m : ℕ) (before : List Token) → Shape (at_name m) before → Moves (at_name m) before
   coefficient_view m before x q c z (word w) next e =
       name_view (at_name m) refl before (shape_expected (at_name m) before marks x q) q c z w (kind w) refl next e
   coefficient_view m before x q c z _ next e = absurd (none-some next e)
 
-  sign_view : {m : ℕ} {before : List Token} → Shape (at_sign m) before → pending before ≡ all_pending marks → nodes_made before ≡ n → terms_made before ≡ m
-      → (t : Token) (next : State) → step_at (at_sign m) (there (at_sign m)) t ≡ Some next → View next (t ∷ before)
-  sign_view (a_sign {w = w} {before = more} f) q c z plus next e = same_view _ next _ e (record {
-    shape = next_term a_plus;
-    pend = q;
-    count = count_token plus Relation (word w ∷ more) n (expected_word w a_name more f) c;
-    terms = z;
-  })
-  sign_view (a_sign {w = w} {before = more} f) q c z minus next e = same_view _ next _ e (record {
-    shape = next_term a_minus;
-    pend = q;
-    count = count_token minus Relation (word w ∷ more) n (expected_word w a_name more f) c;
-    terms = z;
-  })
-  sign_view (a_sign f) q c z (relation r) next e = same_view _ next _ e (record { shape = the_constant; pend = q; count = c; terms = refl })
+  sign_view : {m : ℕ} {before : List Token} → Shape (at_sign m) before → Moves (at_sign m) before
+  sign_view (a_sign {w = w} {before = more} f) q c z plus next e = viewed e (next_term a_plus) q
+      (count_token plus Relation (word w ∷ more) n (expected_word w a_name more f) c) z
+  sign_view (a_sign {w = w} {before = more} f) q c z minus next e = viewed e (next_term a_minus) q
+      (count_token minus Relation (word w ∷ more) n (expected_word w a_name more f) c) z
+  sign_view (a_sign f) q c z (relation r) next e = viewed e the_constant q c refl
   sign_view (a_sign f) q c z _ next e = absurd (none-some next e)
 
-  constant_view : {before : List Token} → Shape at_constant before → pending before ≡ all_pending marks → nodes_made before ≡ n
-      → (t : Token) (next : State) → step_at at_constant (there at_constant) t ≡ Some next → View next (t ∷ before)
-  constant_view the_constant q c (number i k) next e =
-      same_view _ next _ e (record { shape = end_number; pend = ap after_operand q ∙ operand_pending marks; count = c; terms = refl })
-  constant_view the_constant q c plus next e = same_view _ next _ e (record { shape = the_number a_plus; pend = q; count = c; terms = refl })
-  constant_view the_constant q c minus next e = same_view _ next _ e (record { shape = the_number a_minus; pend = q; count = c; terms = refl })
-  constant_view the_constant q c _ next e = absurd (none-some next e)
+  constant_view : {before : List Token} → Shape at_constant before → Moves at_constant before
+  constant_view the_constant q c z (number i k) next e =
+      viewed e end_number (ap after_operand q ∙ operand_pending marks) c refl
+  constant_view the_constant q c z plus next e = viewed e (the_number a_plus) q c refl
+  constant_view the_constant q c z minus next e = viewed e (the_number a_minus) q c refl
+  constant_view the_constant q c z _ next e = absurd (none-some next e)
 
-  number_view : {before : List Token} → Shape at_number before → pending before ≡ all_pending marks → nodes_made before ≡ n
-      → (t : Token) (next : State) → step_at at_number (there at_number) t ≡ Some next → View next (t ∷ before)
-  number_view (the_number {t = s} {r = r} {before = more} y) q c (number i k) next e = same_view _ next _ e (record {
-    shape = end_signed y;
-    pend = ap (λ b. pending_after b (number i k) (pending (s ∷ relation r ∷ more))) (signed_constant s r i k more y)
-        ∙ (ap after_operand q ∙ operand_pending marks);
-    count = count_token (number i k) Constant (s ∷ relation r ∷ more) n (shape_expected at_number (s ∷ relation r ∷ more) marks (the_number y) q) c;
-    terms = signed_terms s r more y;
-  })
-  number_view (the_number y) q c _ next e = absurd (none-some next e)
+  number_view : {before : List Token} → Shape at_number before → Moves at_number before
+  number_view (the_number {t = s} {r = r} {before = more} y) q c z (number i k) next e = viewed e (end_signed y)
+      (ap (λ b. pending_after b (number i k) (pending (s ∷ relation r ∷ more))) (signed_constant s r i k more y) ∙ (ap after_operand q ∙ operand_pending marks))
+      (count_token (number i k) Constant (s ∷ relation r ∷ more) n (shape_expected at_number (s ∷ relation r ∷ more) marks (the_number y) q) c)
+      (signed_terms s r more y)
+  number_view (the_number y) q c z _ next e = absurd (none-some next e)
 
   connective_view : (before : List Token) → pending before ≡ all_pending marks → nodes_made before ≡ n
       → (w : List ℕ) (k : Kind) → kind w ≡ k → (next : State) → step_connective (there at_end) k ≡ Some next → View next (word w ∷ before)
-  connective_view before q c w a_join f next e = same_view _ next _ e (record {
-    shape = an_operand (a_word a_join f refl);
-    pend = pending_word w a_join before f ∙ q;
-    count = count_word w a_join (expected before) before n f refl c;
-    terms = terms_word w a_join before f;
-  })
-  connective_view before q c w an_implication f next e = same_view _ next _ e (record {
-    shape = an_operand (a_word an_implication f refl);
-    pend = pending_word w an_implication before f ∙ ap (λ z. an_implies ∷ z) q;
-    count = count_word w an_implication (expected before) before n f refl c;
-    terms = terms_word w an_implication before f;
-  })
+  connective_view before q c w a_join f next e = word_viewed f refl c e (an_operand (a_word a_join f refl)) q refl refl
+  connective_view before q c w an_implication f next e =
+      word_viewed f refl c e (an_operand (a_word an_implication f refl)) (ap (λ z. an_implies ∷ z) q) refl refl
   connective_view before q c w an_until f next e = split h refl
     where
       split : (b : Bool) → h ≡ b → View next (word w ∷ before)
       split true d = let x = rw d at e in absurd (none-some next x)
-      split false d = same_view _ next _ (rw d at e) (record {
-        shape = a_bound an_until f refl;
-        pend = pending_word w an_until before f ∙ q;
-        count = count_word w an_until (expected before) before n f refl c;
-        terms = terms_word w an_until before f;
-      })
+      split false d = word_viewed f refl c (rw d at e) (a_bound an_until f refl) q refl refl
   connective_view before q c w a_since f next e = split h refl
     where
       split : (b : Bool) → h ≡ b → View next (word w ∷ before)
       split true d = let x = rw d at e in absurd (none-some next x)
-      split false d = same_view _ next _ (rw d at e) (record {
-        shape = a_bound a_since f refl;
-        pend = pending_word w a_since before f ∙ q;
-        count = count_word w a_since (expected before) before n f refl c;
-        terms = terms_word w a_since before f;
-      })
+      split false d = word_viewed f refl c (rw d at e) (a_bound a_since f refl) q refl refl
   connective_view before q c w _ f next e = absurd (none-some next e)
 
   paren_view : (before : List Token) → pending before ≡ all_pending marks → nodes_made before ≡ n → (next : State)
@@ -534,30 +448,28 @@ module _ (h : Bool) (marks : List Mark) (n : ℕ) where
     terms = rw p.0 refl;
   }
 
-  end_view : (before : List Token) → pending before ≡ all_pending marks → nodes_made before ≡ n
-      → (t : Token) (next : State) → step_at at_end (there at_end) t ≡ Some next → View next (t ∷ before)
-  end_view before q c (word w) next e = connective_view before q c w (kind w) refl next e
-  end_view before q c close_paren next e = paren_view before q c next e
-  end_view before q c _ next e = absurd (none-some next e)
+  end_view : (before : List Token) → Moves at_end before
+  end_view before q c z (word w) next e = connective_view before q c w (kind w) refl next e
+  end_view before q c z close_paren next e = paren_view before q c next e
+  end_view before q c z _ next e = absurd (none-some next e)
 
-  operand_view : {before : List Token} → Shape at_operand before → pending before ≡ all_pending marks → nodes_made before ≡ n → terms_made before ≡ 0
-      → (t : Token) (next : State) → begin_operand (there at_operand) t ≡ Some next → View next (t ∷ before)
+  operand_view : {before : List Token} → Shape at_operand before → Moves at_operand before
   operand_view {before} (an_operand b) q c z t next e = begin_view h marks n before at_operand b q c z t next e
 
   step_view : (p : Place) (before : List Token) → View (there p) before → (t : Token) (next : State) → step (there p) t ≡ Some next → View next (t ∷ before)
   step_view at_operand before v t next e = operand_view v.shape v.pend v.count v.terms t next e
   step_view (at_bound o) before v t next e = bound_view v.shape v.pend v.count v.terms t next e
   step_view (at_low o) before v t next e = low_view v.shape v.pend v.count v.terms t next e
-  step_view (at_comma o a j) before v t next e = comma_view v.shape v.pend v.count t next e
-  step_view (at_high o a j) before v t next e = high_view v.shape v.pend v.count t next e
-  step_view (at_closing o) before v t next e = closing_view o before v.shape v.pend v.count t next e
+  step_view (at_comma o a j) before v t next e = comma_view v.shape v.pend v.count v.terms t next e
+  step_view (at_high o a j) before v t next e = high_view v.shape v.pend v.count v.terms t next e
+  step_view (at_closing o) before v t next e = closing_view o before v.shape v.pend v.count v.terms t next e
   step_view (at_term m) before v t next e = term_view m before v.shape v.pend v.count v.terms t next e
   step_view (at_star m) before v t next e = star_view m before v.pend v.count v.terms t next e
   step_view (at_name m) before v t next e = coefficient_view m before v.shape v.pend v.count v.terms t next e
   step_view (at_sign m) before v t next e = sign_view v.shape v.pend v.count v.terms t next e
-  step_view at_constant before v t next e = constant_view v.shape v.pend v.count t next e
-  step_view at_number before v t next e = number_view v.shape v.pend v.count t next e
-  step_view at_end before v t next e = end_view before v.pend v.count t next e
+  step_view at_constant before v t next e = constant_view v.shape v.pend v.count v.terms t next e
+  step_view at_number before v t next e = number_view v.shape v.pend v.count v.terms t next e
+  step_view at_end before v t next e = end_view before v.pend v.count v.terms t next e
 
 run_view : (before : List Token) (s : State) → run before ≡ Some s → View s before
 run_view [] s e = same_view start s [] e (record { shape = an_operand nothing; pend = refl; count = refl; terms = refl })

@@ -1,9 +1,7 @@
 -- Tokens are a formula in at most one way.
 use Rattle.std.proofs.Common.{◌≡◌, ℕ, zero, suc, ◌+◌, ◌≤◌, List, [], ◌∷◌, ◌++◌, length, refl, ap, sym}
-use Rattle.std.proofs.Common.{◌∙◌, Bool, true, false, inl, inr, arith, append_assoc, length-append}
-use Rattle.std.specs.Prelude.{codes, bytes_eq, Option, ℤ}
-use Rattle.std.specs.Prelude.{not as no}
-use Rattle.std.proofs.lemmas.Slice.Eq.{bytes_eq-Decides}
+use Rattle.std.proofs.Common.{◌∙◌, Bool, true, false, inl, inr, arith, append_assoc, length-append, if◌then◌else◌}
+use Rattle.std.specs.Prelude.{codes, Option, Some, None, ℤ, ◌==◌}
 use Rattle.std.proofs.lemmas.List.{append-nil}
 use Rattle.stl_syntax.specs.Characters.{is_among}
 use Rattle.stl_syntax.specs.declared.scale.Scale.{Scale}
@@ -12,16 +10,25 @@ use Rattle.stl_syntax.specs.declared.atom.Term.{Term}
 use Rattle.stl_syntax.specs.declared.rel.Rel.{Rel}
 use Rattle.stl_syntax.specs.declared.node.Node.{Node}
 use Rattle.stl_syntax.specs.declared.node.Node.TheVariants.{And, Or}
-use Rattle.stl_grammar.specs.Grammar.{reserved, top, Token, word, number, relation, open_paren, close_paren, open_bracket, close_bracket}
+use Rattle.stl_grammar.specs.Grammar.{reserved, top, Token, word, number, relation, open_paren, close_paren}
 use Rattle.stl_grammar.specs.Grammar.{IsConstant, plain, positive, negative, IsTerm, scaled, AreTerms}
-use Rattle.stl_grammar.specs.Grammar.{more_plus, more_minus, IsAtom, first, signed, inside, outside}
-use Rattle.stl_grammar.specs.Grammar.{name as term_name, none as no_terms}
-use Rattle.stl_grammar.specs.Grammar.{IsFutureWindow, bound, IsPastWindow, nothing, bounded, unbounded, IsFuture, IsPast}
-use Rattle.stl_grammar.specs.Grammar.IsPast.{nothing as since_nothing, bounded as since_bounded, unbounded as since_unbounded}
-use Rattle.stl_grammar.specs.Grammar.{IsFormula, IsDisjunct, IsConjunct, IsTimed, IsOperand, disjunct, implies}
-use Rattle.stl_grammar.specs.Grammar.{conjunct, or, timed, and, operand, until, since, not, eventually, always}
-use Rattle.stl_grammar.specs.Grammar.{once, historically, always_true, always_false, parens, atom}
-use Rattle.stl_grammar.proofs.WordKinds.{OneOf}
+use Rattle.stl_grammar.specs.Grammar.{more_plus, more_minus, IsAtom, first, signed, name as term_name, none as no_terms}
+use Rattle.stl_grammar.specs.Grammar.{IsFormula, IsDisjunct, IsConjunct, IsTimed, disjunct, implies, conjunct, or, timed, and}
+use Rattle.stl_grammar.specs.FormulaRefusals.{constants}
+use Rattle.stl_grammar.specs.Machine.{Owner}
+use Rattle.stl_grammar.specs.Refusing.{is_beside}
+use Rattle.stl_grammar.specs.declared.token.Keyword.{Keyword}
+use Rattle.stl_grammar.specs.declared.token.Keyword.TheVariants.{True as KTrue, False as KFalse, Until as KUntil, Since as KSince}
+use Rattle.stl_grammar.specs.declared.token.Keyword.TheVariants.{Eventually as KEventually, Always as KAlways, Once as KOnce}
+use Rattle.stl_grammar.specs.declared.token.Keyword.TheVariants.{Historically as KHistorically}
+use Rattle.stl_grammar.specs.declared.place.Timed.{Timed}
+use Rattle.stl_grammar.specs.declared.place.Timed.TheVariants.{Until as TUntil, Since as TSince, Eventually as TEventually}
+use Rattle.stl_grammar.specs.declared.place.Timed.TheVariants.{Always as TAlways, Once as TOnce, Historically as THistorically}
+use Rattle.stl_grammar.proofs.Derivations.{has_three, timed_keyword, timed_word, constant_word, Opens, opens_in, opens_out, Closes, closes_in, closes_out}
+use Rattle.stl_grammar.proofs.Derivations.{Bounded, left_out, within, endless, Operand, negated, prefixed, constant, enclosed, compared}
+use Rattle.stl_grammar.proofs.Derivations.{Derived, joined, beside, alone, timed_derived, as_formula, is_bracket, operand_begins}
+use Rattle.stl_grammar.proofs.ParserReads.{spelling_same}
+use Rattle.stl_grammar.proofs.WordKinds.{OneOf, none_of}
 
 constant_same : {d : ℕ} {ts us : List Token} {c e : ℤ} (r r' : List Token) → IsConstant d ts c → IsConstant d us e → ts ++ r ≡ us ++ r' → (c ≡ e) × (r ≡ r')
 constant_same r r' plain plain h = (cc, cc)
@@ -77,81 +84,44 @@ atom_same r r' (signed (more_minus t u) c) (first (scaled e) u' c') h = absurd (
 atom_same r r' _ _ h = absurd (cc)
 
 -- bounds
-window_same : {d : ℕ} {us vs : List Token} {a b a' b' : ℕ} {x y x' y' : Bool} (r r' : List Token) → IsFutureWindow d us a b x y
-    → IsFutureWindow d vs a' b' x' y'
-    → us ++ r ≡ vs ++ r' → (a ≡ a') × (b ≡ b') × (x ≡ x') × (y ≡ y') × (r ≡ r')
-window_same r r' (bound inside inside) (bound inside inside) h = (cc, cc, refl, refl, cc)
-window_same r r' (bound inside outside) (bound inside outside) h = (cc, cc, refl, refl, cc)
-window_same r r' (bound outside inside) (bound outside inside) h = (cc, cc, refl, refl, cc)
-window_same r r' (bound outside outside) (bound outside outside) h = (cc, cc, refl, refl, cc)
-window_same r r' (bound inside _) (bound outside _) h = absurd (cc)
-window_same r r' (bound outside _) (bound inside _) h = absurd (cc)
-window_same r r' _ _ h = absurd (cc)
+abbrev begins_bracket : List Token → Bool
+begins_bracket [] = false
+begins_bracket (t ∷ ts) = is_bracket t
 
--- a bracket comes first
-abbrev pub begins_bracket : List Token → Bool
-begins_bracket (open_bracket ∷ ts) = true
-begins_bracket (close_bracket ∷ ts) = true
-begins_bracket _ = false
+opens_same : {o o' : Owner} {t t' : Token} {x x' : Bool} → Opens o t x → Opens o' t' x' → t ≡ t' → x ≡ x'
+opens_same opens_in opens_in e = refl
+opens_same (opens_out f) (opens_out g) e = refl
+opens_same opens_in (opens_out g) e = absurd (cc)
+opens_same (opens_out f) opens_in e = absurd (cc)
 
-past_same : {d : ℕ} {us vs : List Token} {a a' : ℕ} {b b' : Option ℕ} {x y x' y' : Bool} (r r' : List Token)
-    → IsPastWindow d us a b x y → IsPastWindow d vs a' b' x' y'
-    → us ++ r ≡ vs ++ r' → begins_bracket r ≡ false → begins_bracket r' ≡ false → (a ≡ a') × (b ≡ b') × (x ≡ x') × (y ≡ y') × (r ≡ r')
-past_same r r' nothing nothing h f g = (refl, refl, refl, refl, h)
-past_same r r' nothing (bounded inside _) h f g = let z = rw h at f in absurd (cc)
-past_same r r' nothing (bounded outside _) h f g = let z = rw h at f in absurd (cc)
-past_same r r' nothing (unbounded inside _) h f g = let z = rw h at f in absurd (cc)
-past_same r r' nothing (unbounded outside _) h f g = let z = rw h at f in absurd (cc)
-past_same r r' (bounded inside _) nothing h f g = let z = rw (← h) at g in absurd (cc)
-past_same r r' (bounded outside _) nothing h f g = let z = rw (← h) at g in absurd (cc)
-past_same r r' (unbounded inside _) nothing h f g = let z = rw (← h) at g in absurd (cc)
-past_same r r' (unbounded outside _) nothing h f g = let z = rw (← h) at g in absurd (cc)
-past_same r r' (bounded inside inside) (bounded inside inside) h f g = (cc, cc, refl, refl, cc)
-past_same r r' (bounded inside outside) (bounded inside outside) h f g = (cc, cc, refl, refl, cc)
-past_same r r' (bounded outside inside) (bounded outside inside) h f g = (cc, cc, refl, refl, cc)
-past_same r r' (bounded outside outside) (bounded outside outside) h f g = (cc, cc, refl, refl, cc)
-past_same r r' (bounded inside _) (bounded outside _) h f g = absurd (cc)
-past_same r r' (bounded outside _) (bounded inside _) h f g = absurd (cc)
-past_same r r' (bounded _ _) (unbounded _ _) h f g = absurd (cc)
-past_same r r' (unbounded _ _) (bounded _ _) h f g = absurd (cc)
-past_same r r' (unbounded inside _) (unbounded inside _) h f g = (cc, refl, refl, refl, cc)
-past_same r r' (unbounded outside _) (unbounded outside _) h f g = (cc, refl, refl, refl, cc)
-past_same r r' _ _ h f g = absurd (cc)
+closes_same : {o o' : Owner} {t t' : Token} {x x' : Bool} → Closes o t x → Closes o' t' x' → t ≡ t' → x ≡ x'
+closes_same closes_in closes_in e = refl
+closes_same (closes_out f) (closes_out g) e = refl
+closes_same closes_in (closes_out g) e = absurd (cc)
+closes_same (closes_out f) closes_in e = absurd (cc)
 
-until_same : {d : ℕ} {us vs : List Token} {a b a' b' : ℕ} (r r' : List Token) → IsFuture d us a b → IsFuture d vs a' b' → us ++ r ≡ vs ++ r'
-    → (a ≡ a') × (b ≡ b') × (r ≡ r')
-until_same r r' (bound inside inside) (bound inside inside) h = (cc, cc, cc)
+no_bracket : {o : Owner} {t : Token} {x : Bool} (r rest : List Token) → Opens o t x → r ≡ t ∷ rest → ¬ (begins_bracket r ≡ false)
+no_bracket r rest opens_in h f = let z = rw h at f in cc
+no_bracket r rest (opens_out e) h f = let z = rw h at f in cc
 
-since_same : {d : ℕ} {us vs : List Token} {a a' : ℕ} {b b' : Option ℕ} (r r' : List Token) → IsPast d us a b → IsPast d vs a' b' → us ++ r ≡ vs ++ r'
-    → begins_bracket r ≡ false → begins_bracket r' ≡ false → (a ≡ a') × (b ≡ b') × (r ≡ r')
-since_same r r' since_nothing since_nothing h f g = (refl, refl, h)
-since_same r r' since_bounded since_bounded h f g = (cc, cc, cc)
-since_same r r' since_unbounded since_unbounded h f g = (cc, refl, cc)
-since_same r r' since_nothing since_bounded h f g = let z = rw h at f in absurd (cc)
-since_same r r' since_nothing since_unbounded h f g = let z = rw h at f in absurd (cc)
-since_same r r' since_bounded since_nothing h f g = let z = rw (← h) at g in absurd (cc)
-since_same r r' since_unbounded since_nothing h f g = let z = rw (← h) at g in absurd (cc)
-since_same r r' since_bounded since_unbounded h f g = absurd (cc)
-since_same r r' since_unbounded since_bounded h f g = absurd (cc)
+bound_same : {d : ℕ} {o o' : Owner} {us vs : List Token} {a a' : ℕ} {b b' : Option ℕ} {x y x' y' : Bool} (r r' : List Token)
+    → Bounded d o us a b x y → Bounded d o' vs a' b' x' y' → us ++ r ≡ vs ++ r' → begins_bracket r ≡ false → begins_bracket r' ≡ false
+    → (a ≡ a') × (b ≡ b') × (x ≡ x') × (y ≡ y') × (r ≡ r')
+bound_same r r' (left_out i) (left_out i') h f g = (refl, refl, refl, refl, h)
+bound_same r r' (left_out i) (within p q) h f g = absurd (no_bracket r _ p h f)
+bound_same r r' (left_out i) (endless i' p q) h f g = absurd (no_bracket r _ p h f)
+bound_same r r' (within p q) (left_out i) h f g = absurd (no_bracket r' _ p (sym h) g)
+bound_same r r' (endless i p q) (left_out i') h f g = absurd (no_bracket r' _ p (sym h) g)
+bound_same r r' (within {t = t} {u} p q) (within {t = t'} {u = u'} p' q') h f g =
+    let e : t ≡ t' = cc in let i : u ≡ u' = cc in (cc, cc, opens_same p p' e, closes_same q q' i, cc)
+bound_same r r' (endless {t = t} {u} j p q) (endless {t = t'} {u = u'} j' p' q') h f g =
+    let e : t ≡ t' = cc in let i : u ≡ u' = cc in (cc, refl, opens_same p p' e, refl, cc)
+bound_same r r' (within p q) (endless i p' q') h f g = absurd (cc)
+bound_same r r' (endless i p q) (within p' q') h f g = absurd (cc)
 
--- the first token of an operand
-pub operand_bracket : {s : Scale} {k : ℕ} {ts : List Token} {ns : List Node} (r : List Token) → IsOperand s k ts ns → begins_bracket (ts ++ r) ≡ false
-operand_bracket r (atom (first (term_name f) u c)) = refl
-operand_bracket r (atom (signed (more_plus t u) c)) = refl
-operand_bracket r _ = refl
-
--- an atom begins with no word of the grammar, and with no parenthesis
-atom_word : {d : ℕ} {ts : List Token} {a : Atom} (w : List ℕ) (x r : List Token) → IsAtom d ts a → word w ∷ x ≡ ts ++ r → is_among w reserved ≡ false
-atom_word w x r (first (term_name {w = v} e) u c) h = let f : w ≡ v = cc in rw f e
-atom_word w x r (first (scaled e) u c) h = absurd (cc)
-atom_word w x r (signed (more_plus t u) c) h = absurd (cc)
-atom_word w x r (signed (more_minus t u) c) h = absurd (cc)
-
-atom_paren : {d : ℕ} {ts : List Token} {a : Atom} (x r : List Token) → IsAtom d ts a → ¬ (open_paren ∷ x ≡ ts ++ r)
-atom_paren x r (first (term_name e) u c) h = cc
-atom_paren x r (first (scaled e) u c) h = cc
-atom_paren x r (signed (more_plus t u) c) h = cc
-atom_paren x r (signed (more_minus t u) c) h = cc
+-- an operand follows
+no_bracket_first : {s : Scale} {k : ℕ} {ts : List Token} {ns : List Node} (r : List Token) → Operand s k ts ns → begins_bracket (ts ++ r) ≡ false
+no_bracket_first r p = let b = operand_begins p in rw b.is b.other
 
 -- what may follow: the end, a closing parenthesis or one of the words
 abbrev Ends : List (List ℕ) → List Token → Type 0
@@ -216,26 +186,10 @@ module _ (R : ℕ → List Token → List Node → Type 0) (w : List ℕ) (node 
       (sym (append_assoc us ts r) ∙ (e ∙ append_assoc us' ts' r')) in
       more_same n words fresh same r r' m (rw x.0 m') (omega (arith, length-append us ts)) f g x.1
 
-no_until : ¬ OneOf (codes "until") after_timed
-no_until (inl e) = cc
-no_until (inr (inl e)) = cc
-no_until (inr (inr (inl e))) = cc
-no_until (inr (inr (inr e))) = e
-
-no_since : ¬ OneOf (codes "since") after_timed
-no_since (inl e) = cc
-no_since (inr (inl e)) = cc
-no_since (inr (inr (inl e))) = cc
-no_since (inr (inr (inr e))) = e
-
-no_and : ¬ OneOf (codes "and") after_conjunct
-no_and (inl e) = cc
-no_and (inr (inl e)) = cc
-no_and (inr (inr e)) = e
-
-no_or : ¬ OneOf (codes "or") after_disjunct
-no_or (inl e) = cc
-no_or (inr e) = e
+no_beside : (of : Timed) → is_beside of ≡ true → ¬ OneOf (timed_word of) after_timed
+no_beside TUntil e = none_of (codes "until") after_timed refl
+no_beside TSince e = none_of (codes "since") after_timed refl
+no_beside _ e = absurd (cc)
 
 -- the first of two equal lists of tokens, and the others
 same_word : (w v : List ℕ) (ts us : List Token) → word w ∷ ts ≡ word v ∷ us → w ≡ v
@@ -244,80 +198,103 @@ same_word w v ts us h = cc
 same_rest : (t u : Token) (ts us : List Token) → t ∷ ts ≡ u ∷ us → ts ≡ us
 same_rest t u ts us h = cc
 
-words_apart : (w v : List ℕ) → bytes_eq w v ≡ false → ¬ (w ≡ v)
-words_apart w v f e = let g : bytes_eq w v ≡ true = (bytes_eq-Decides w v).1 e in cc
+-- an operator by its word
+timed_of : Keyword → Option Timed
+timed_of KUntil = Some TUntil
+timed_of KSince = Some TSince
+timed_of KEventually = Some TEventually
+timed_of KAlways = Some TAlways
+timed_of KOnce = Some TOnce
+timed_of KHistorically = Some THistorically
+timed_of _ = None
 
-until_since : ¬ (codes "until" ≡ codes "since")
-until_since = words_apart (codes "until") (codes "since") refl
+timed_is : (of : Timed) → timed_of (timed_keyword of) ≡ Some of
+unfolding timed_of
+timed_is TUntil = refl
+timed_is _ = refl
 
--- the first tokens are two words, or a word and a parenthesis
-abbrev differ : List Token → List Token → Bool
-differ (word w ∷ ts) (word v ∷ us) = no (bytes_eq w v)
-differ (word w ∷ ts) (open_paren ∷ us) = true
-differ (open_paren ∷ ts) (word w ∷ us) = true
-differ _ _ = false
+same_timed : (of of' : Timed) → timed_word of ≡ timed_word of' → of ≡ of'
+same_timed of of' e = let f : timed_keyword of ≡ timed_keyword of' = spelling_same (timed_keyword of) (timed_keyword of') e in
+    let g : Some of ≡ Some of' = sym (timed_is of) ∙ (ap timed_of f ∙ timed_is of') in cc
 
-not_itself : (ts : List Token) → differ ts ts ≡ false
-not_itself (word w ∷ ts) = rw ((bytes_eq-Decides w w).1 refl) refl
-not_itself _ = refl
+same_constant : (b b' : Bool) → constant_word b ≡ constant_word b' → b ≡ b'
+same_constant true true e = refl
+same_constant false false e = refl
+same_constant true false e = let f = spelling_same KTrue KFalse e in absurd (cc)
+same_constant false true e = let f = spelling_same KFalse KTrue e in absurd (cc)
 
-apart : (ts us : List Token) → differ ts us ≡ true → ¬ (ts ≡ us)
-apart ts us f e = let g = rw e at f in let z = not_itself us in cc
+-- how an operand begins, by its first token and by its derivation
+abbrev begins : List Token → ℕ
+begins (word w ∷ ts) = if is_among w reserved then (if is_among w (codes "not" ∷ []) then 1 else if is_among w constants then 2 else 3) else 0
+begins (open_paren ∷ ts) = 4
+begins _ = 0
+
+abbrev begins_as : {s : Scale} {k : ℕ} {ts : List Token} {ns : List Node} → Operand s k ts ns → ℕ
+begins_as (negated p) = 1
+begins_as (constant b) = 2
+begins_as (prefixed of e w p) = 3
+begins_as (enclosed d) = 4
+begins_as (compared a) = 0
+
+begins_is : {s : Scale} {k : ℕ} {ts : List Token} {ns : List Node} (p : Operand s k ts ns) (r : List Token) → begins (ts ++ r) ≡ begins_as p
+begins_is (negated p) r = refl
+begins_is (constant true) r = refl
+begins_is (constant false) r = refl
+begins_is (prefixed TUntil e w p) r = refl
+begins_is (prefixed _ e w p) r = refl
+begins_is (enclosed d) r = refl
+begins_is (compared (first (term_name e) u c)) r = rw e refl
+begins_is (compared (first (scaled e) u c)) r = refl
+begins_is (compared (signed (more_plus t u) c)) r = refl
+begins_is (compared (signed (more_minus t u) c)) r = refl
+
+apart : {s : Scale} {k : ℕ} {ts us : List Token} {ns ms : List Node} (p : Operand s k ts ns) (q : Operand s k us ms) (r r' : List Token)
+    → (begins_as p == begins_as q) ≡ false → ¬ (ts ++ r ≡ us ++ r')
+apart p q r r' f h =
+    let e : begins_as p ≡ begins_as q = sym (begins_is p r) ∙ (ap begins h ∙ begins_is q r') in
+    let g = rw e at f in itself (begins_as q) g
+  where
+    itself : (n : ℕ) → ¬ ((n == n) ≡ false)
+    itself n f = grind (arith, f)
 
 -- of the parts of a list that is no longer than n
-first_part : (ts us vs : List Token) (t : Token) (n : ℕ) → length (ts ++ t ∷ us ++ vs) ≤ n → length ts ≤ n
-first_part ts us vs t n l = omega (arith, length-append (ts ++ t ∷ us) vs, length-append ts (t ∷ us))
+first_part : (ts us vs : List Token) (t : Token) (n : ℕ) → length (ts ++ t ∷ (us ++ vs)) ≤ n → length ts ≤ n
+first_part ts us vs t n l = omega (arith, length-append ts (t ∷ (us ++ vs)))
 
-last_part : (ts us vs : List Token) (t : Token) (n : ℕ) → length (ts ++ t ∷ us ++ vs) ≤ n → length vs ≤ n
-last_part ts us vs t n l = omega (arith, length-append (ts ++ t ∷ us) vs, length-append ts (t ∷ us))
+last_part : (ts us vs : List Token) (t : Token) (n : ℕ) → length (ts ++ t ∷ (us ++ vs)) ≤ n → length vs ≤ n
+last_part ts us vs t n l = omega (arith, length-append ts (t ∷ (us ++ vs)), length-append us vs)
 
 -- operands of at most n tokens are read in one way, whatever follows
 record OperandSame (s : Scale) (n : ℕ) : Type 0 where
-  one_operand : {k : ℕ} {ts us : List Token} {ns ms : List Node} (r r' : List Token) → length ts ≤ n → IsOperand s k ts ns
-      → IsOperand s k us ms → ts ++ r ≡ us ++ r' → (ns ≡ ms) × (r ≡ r')
+  one_operand : {k : ℕ} {ts us : List Token} {ns ms : List Node} (r r' : List Token) → length ts ≤ n → Operand s k ts ns
+      → Operand s k us ms → ts ++ r ≡ us ++ r' → (ns ≡ ms) × (r ≡ r')
 
 module _ (s : Scale) (n : ℕ) (same : OperandSame s n) where
   timed_same : {k : ℕ} {ts us : List Token} {ns ms : List Node} (r r' : List Token) → length ts ≤ n → Ends after_timed r → Ends after_timed r'
       → IsTimed s k ts ns → IsTimed s k us ms → ts ++ r ≡ us ++ r' → (ns ≡ ms) × (r ≡ r')
-  timed_same r r' l f g (operand p) (operand q) h = same.one_operand r r' l p q h
-  timed_same r r' l f g (operand p) (until {ts = ts'} {us = bs'} {vs = vs'} q b q') h =
-      let x = same.one_operand r (word (codes "until") ∷ bs' ++ vs' ++ r') l p q (h ∙ simp append_assoc) in
-      let z = rw x.1 at f in absurd (no_until z)
-  timed_same r r' l f g (operand p) (since {ts = ts'} {us = bs'} {vs = vs'} q b q') h =
-      let x = same.one_operand r (word (codes "since") ∷ bs' ++ vs' ++ r') l p q (h ∙ simp append_assoc) in
-      let z = rw x.1 at f in absurd (no_since z)
-  timed_same r r' l f g (until {ts = gs} {us = bs} {vs} p b p') (operand q) h =
-      let x = same.one_operand (word (codes "until") ∷ bs ++ vs ++ r) r' (first_part gs bs vs (word (codes "until")) n l) p q
-      (simp append_assoc (simp append_assoc at h)) in
-      let z = rw (← x.1) at g in absurd (no_until z)
-  timed_same r r' l f g (since {ts = gs} {us = bs} {vs} p b p') (operand q) h =
-      let x = same.one_operand (word (codes "since") ∷ bs ++ vs ++ r) r' (first_part gs bs vs (word (codes "since")) n l) p q
-      (simp append_assoc (simp append_assoc at h)) in
-      let z = rw (← x.1) at g in absurd (no_since z)
-  timed_same r r' l f g (until {ts = gs} {us = bs} {vs} p b p') (since {ts = cs} {us = ds} {vs = es} q d q') h =
-      let x = same.one_operand (word (codes "until") ∷ bs ++ vs ++ r) (word (codes "since") ∷ ds ++ es ++ r')
-      (first_part gs bs vs (word (codes "until")) n l) p q (simp append_assoc (simp append_assoc at h)) in
-      absurd (until_since (same_word _ _ _ _ x.1))
-  timed_same r r' l f g (since {ts = gs} {us = bs} {vs} p b p') (until {ts = cs} {us = ds} {vs = es} q d q') h =
-      let x = same.one_operand (word (codes "since") ∷ bs ++ vs ++ r) (word (codes "until") ∷ ds ++ es ++ r')
-      (first_part gs bs vs (word (codes "since")) n l) p q (simp append_assoc (simp append_assoc at h)) in
-      absurd (until_since (sym (same_word _ _ _ _ x.1)))
-  timed_same r r' l f g (until {ts = gs} {us = bs} {vs} p b p')
-      (until {ts = cs} {us = ds} {vs = es} q d q') h =
-      let x = same.one_operand (word (codes "until") ∷ bs ++ vs ++ r) (word (codes "until") ∷ ds ++ es ++ r')
-      (first_part gs bs vs (word (codes "until")) n l) p q (simp append_assoc (simp append_assoc at h)) in
-      let e : bs ++ vs ++ r ≡ ds ++ es ++ r' = same_rest _ _ _ _ x.1 in
-      let y = until_same (vs ++ r) (es ++ r') b d (sym (append_assoc bs vs r) ∙ (e ∙ append_assoc ds es r')) in
-      let z = same.one_operand r r' (last_part gs bs vs (word (codes "until")) n l) p' (rw x.0 q') y.2 in
-      (rw (x.0, y.0, y.1, z.0) refl, z.1)
-  timed_same r r' l f g (since {ts = gs} {us = bs} {vs} p b p')
-      (since {ts = cs} {us = ds} {vs = es} q d q') h =
-      let x = same.one_operand (word (codes "since") ∷ bs ++ vs ++ r) (word (codes "since") ∷ ds ++ es ++ r')
-      (first_part gs bs vs (word (codes "since")) n l) p q (simp append_assoc (simp append_assoc at h)) in
-      let e : bs ++ vs ++ r ≡ ds ++ es ++ r' = same_rest _ _ _ _ x.1 in
-      let y = since_same (vs ++ r) (es ++ r') b d (sym (append_assoc bs vs r) ∙ (e ∙ append_assoc ds es r')) (operand_bracket r p') (operand_bracket r' q') in
-      let z = same.one_operand r r' (last_part gs bs vs (word (codes "since")) n l) p' (rw x.0 q') y.2 in
-      (rw (x.0, y.0, y.1, z.0) refl, z.1)
+  timed_same r r' l f g p q h = by_side r r' l f g refl (timed_derived 4 (omega arith) p) (timed_derived 4 (omega arith) q) h
+    where
+      by_side : {z k : ℕ} {ts us : List Token} {ns ms : List Node} (r r' : List Token) → length ts ≤ n → Ends after_timed r → Ends after_timed r' → z ≡ 4
+          → Derived s z k ts ns → Derived s z k us ms → ts ++ r ≡ us ++ r' → (ns ≡ ms) × (r ≡ r')
+      by_side r r' l f g e (joined o i d d') q h = absurd (let b = has_three o in omega arith)
+      by_side r r' l f g e p (joined o i d d') h = absurd (let b = has_three o in omega arith)
+      by_side r r' l f g e (alone p) (alone q) h = same.one_operand r r' l p q h
+      by_side r r' l f g e (alone p) (beside of {ts = ts} {us} {vs} i _ q w q') h =
+          let x = same.one_operand r (word (timed_word of) ∷ us ++ vs ++ r') l p q (h ∙ simp append_assoc) in
+          let z = rw x.1 at f in absurd (no_beside of i z)
+      by_side r r' l f g e (beside of {ts = ts} {us} {vs} i _ p w p') (alone q) h =
+          let x = same.one_operand (word (timed_word of) ∷ us ++ vs ++ r) r' (first_part ts us vs (word (timed_word of)) n l) p q
+          (simp append_assoc (simp append_assoc at h)) in
+          let z = rw (← x.1) at g in absurd (no_beside of i z)
+      by_side r r' l f g e (beside of {ts = ts} {us} {vs} i _ p w p') (beside of' {ts = ts'} {us = us'} {vs = vs'} i' _ q w' q') h =
+          let x = same.one_operand (word (timed_word of) ∷ us ++ vs ++ r) (word (timed_word of') ∷ us' ++ vs' ++ r')
+          (first_part ts us vs (word (timed_word of)) n l) p q (simp append_assoc (simp append_assoc at h)) in
+          let o : of ≡ of' = same_timed of of' (same_word _ _ _ _ x.1) in
+          let j : us ++ vs ++ r ≡ us' ++ vs' ++ r' = same_rest _ _ _ _ x.1 in
+          let y = bound_same (vs ++ r) (vs' ++ r') w w' (sym (append_assoc us vs r) ∙ (j ∙ append_assoc us' vs' r'))
+          (no_bracket_first r p') (no_bracket_first r' q') in
+          let z = same.one_operand r r' (last_part ts us vs (word (timed_word of)) n l) p' (rw x.0 q') y.4 in
+          (rw (o, x.0, y.0, y.1, y.2, y.3, z.0) refl, z.1)
 
 -- the left side of a conjunction, as the first operand and further ones
 abbrev Listed : (ℕ → List Token → List Node → Type 0) → List ℕ → (ℕ → ℕ → Node) → ℕ → List Token → List Node → Type 0
@@ -362,13 +339,15 @@ module _ (s : Scale) (n : ℕ) (same : OperandSame s n) where
   conjunct_same : {k : ℕ} {ts us : List Token} {ns ms : List Node} (r r' : List Token) → length ts ≤ n → Ends after_conjunct r → Ends after_conjunct r'
       → IsConjunct s k ts ns → IsConjunct s k us ms → ts ++ r ≡ us ++ r' → (ns ≡ ms) × (r ≡ r')
   conjunct_same {k} r r' l f g p q h =
-      listed_same (IsTimed s) (codes "and") And after_conjunct no_and n (record { one_way = timed_same s n same }) k r r' l f g
+      listed_same (IsTimed s) (codes "and") And after_conjunct (none_of (codes "and") after_conjunct refl) n (record { one_way = timed_same s n same })
+      k r r' l f g
       (conjunct_list p) (conjunct_list q) h
 
   disjunct_same : {k : ℕ} {ts us : List Token} {ns ms : List Node} (r r' : List Token) → length ts ≤ n → Ends after_disjunct r → Ends after_disjunct r'
       → IsDisjunct s k ts ns → IsDisjunct s k us ms → ts ++ r ≡ us ++ r' → (ns ≡ ms) × (r ≡ r')
   disjunct_same {k} r r' l f g p q h =
-      listed_same (IsConjunct s) (codes "or") Or after_disjunct no_or n (record { one_way = conjunct_same }) k r r' l f g (disjunct_list p) (disjunct_list q) h
+      listed_same (IsConjunct s) (codes "or") Or after_disjunct (none_of (codes "or") after_disjunct refl) n (record { one_way = conjunct_same }) k r r' l f g
+      (disjunct_list p) (disjunct_list q) h
 
   formula_same : (k : ℕ) {ts us : List Token} (r r' : List Token) {ns ms : List Node} → length ts ≤ n → Ends [] r → Ends [] r'
       → IsFormula s k ts ns → IsFormula s k us ms → ts ++ r ≡ us ++ r' → (ns ≡ ms) × (r ≡ r')
@@ -391,90 +370,30 @@ module _ (s : Scale) (n : ℕ) (same : OperandSame s n) where
       let y = formula_same (k + length ns) r r' i f g e (rw x.0 d) (same_rest _ _ _ _ x.1) in
       (rw (x.0, y.0) refl, y.1)
 
--- an operand has a token
-pub operand_length : {s : Scale} {k : ℕ} {ts : List Token} {ns : List Node} → IsOperand s k ts ns → 1 ≤ length ts
-operand_length (atom (first {ts = ts} {us} {vs} {rel = p} t u c)) = omega (arith, length-append (ts ++ us) (relation p ∷ vs))
-operand_length (atom (signed {us = us} {vs} {rel = p} u c)) = omega (arith, length-append us (relation p ∷ vs))
-operand_length _ = omega arith
-
 -- operands are read in one way, whatever follows
-operand_same : (s : Scale) (n : ℕ) {k : ℕ} {ts us : List Token} {ns ms : List Node} (r r' : List Token) → length ts ≤ n → IsOperand s k ts ns
-    → IsOperand s k us ms → ts ++ r ≡ us ++ r' → (ns ≡ ms) × (r ≡ r')
-operand_same s zero r r' l p q h = let x = operand_length p in absurd (omega arith)
-operand_same s (suc n) r r' l (not {ts = vs} p) (not {ts = xs} q) h =
+operand_same : (s : Scale) (n : ℕ) {k : ℕ} {ts us : List Token} {ns ms : List Node} (r r' : List Token) → length ts ≤ n → Operand s k ts ns
+    → Operand s k us ms → ts ++ r ≡ us ++ r' → (ns ≡ ms) × (r ≡ r')
+operand_same s zero {ts = ts} r r' l p q h = let b = operand_begins p in absurd (omega (arith, ap (λ z. length z) b.is))
+operand_same s (suc n) r r' l (negated {ts = vs} p) (negated {ts = xs} q) h =
     let j : length vs ≤ n = omega arith in
     let y = operand_same s n r r' j p q (same_rest _ _ _ _ h) in (rw y.0 refl, y.1)
-operand_same s (suc n) r r' l (not {ts = vs} p) (atom a) h = let x = atom_word (codes "not") (vs ++ r) r' a h in absurd (cc)
-operand_same s (suc n) r r' l (not p) _ h = absurd (apart _ _ refl h)
-operand_same s (suc n) r r' l (eventually {ts = vs} {us = bs} b p) (eventually {ts = xs} {us = ds} d q) h =
+operand_same s (suc n) r r' l (prefixed of {ts = vs} {us = bs} i b p) (prefixed of' {ts = xs} {us = ds} i' d q) h =
+    let o : of ≡ of' = same_timed of of' (same_word _ _ _ _ h) in
     let e : bs ++ vs ++ r ≡ ds ++ xs ++ r' = same_rest _ _ _ _ h in
-    let x = window_same (vs ++ r) (xs ++ r') b d (sym (append_assoc bs vs r) ∙ (e ∙ append_assoc ds xs r')) in
+    let x = bound_same (vs ++ r) (xs ++ r') b d (sym (append_assoc bs vs r) ∙ (e ∙ append_assoc ds xs r')) (no_bracket_first r p) (no_bracket_first r' q) in
     let j : length vs ≤ n = omega (arith, length-append bs vs) in
     let y = operand_same s n r r' j p q x.4 in
-    (rw (x.0, x.1, x.2, x.3, y.0) refl, y.1)
-operand_same s (suc n) r r' l (eventually {ts = vs} {us = bs} b p) (atom a) h =
-    let x = atom_word (codes "eventually") (bs ++ vs ++ r) r' a h in
-    absurd (cc)
-operand_same s (suc n) r r' l (eventually b p) _ h = absurd (apart _ _ refl h)
-operand_same s (suc n) r r' l (always {ts = vs} {us = bs} b p) (always {ts = xs} {us = ds} d q) h =
-    let e : bs ++ vs ++ r ≡ ds ++ xs ++ r' = same_rest _ _ _ _ h in
-    let x = window_same (vs ++ r) (xs ++ r') b d (sym (append_assoc bs vs r) ∙ (e ∙ append_assoc ds xs r')) in
-    let j : length vs ≤ n = omega (arith, length-append bs vs) in
-    let y = operand_same s n r r' j p q x.4 in
-    (rw (x.0, x.1, x.2, x.3, y.0) refl, y.1)
-operand_same s (suc n) r r' l (always {ts = vs} {us = bs} b p) (atom a) h =
-    let x = atom_word (codes "always") (bs ++ vs ++ r) r' a h in
-    absurd (cc)
-operand_same s (suc n) r r' l (always b p) _ h = absurd (apart _ _ refl h)
-operand_same s (suc n) r r' l (once {ts = vs} {us = bs} b p) (once {ts = xs} {us = ds} d q) h =
-    let e : bs ++ vs ++ r ≡ ds ++ xs ++ r' = same_rest _ _ _ _ h in
-    let x = past_same (vs ++ r) (xs ++ r') b d (sym (append_assoc bs vs r) ∙ (e ∙ append_assoc ds xs r')) (operand_bracket r p) (operand_bracket r' q) in
-    let j : length vs ≤ n = omega (arith, length-append bs vs) in
-    let y = operand_same s n r r' j p q x.4 in
-    (rw (x.0, x.1, x.2, x.3, y.0) refl, y.1)
-operand_same s (suc n) r r' l (once {ts = vs} {us = bs} b p) (atom a) h = let x = atom_word (codes "once") (bs ++ vs ++ r) r' a h in absurd (cc)
-operand_same s (suc n) r r' l (once b p) _ h = absurd (apart _ _ refl h)
-operand_same s (suc n) r r' l (historically {ts = vs} {us = bs} b p) (historically {ts = xs} {us = ds} d q) h =
-    let e : bs ++ vs ++ r ≡ ds ++ xs ++ r' = same_rest _ _ _ _ h in
-    let x = past_same (vs ++ r) (xs ++ r') b d (sym (append_assoc bs vs r) ∙ (e ∙ append_assoc ds xs r')) (operand_bracket r p) (operand_bracket r' q) in
-    let j : length vs ≤ n = omega (arith, length-append bs vs) in
-    let y = operand_same s n r r' j p q x.4 in
-    (rw (x.0, x.1, x.2, x.3, y.0) refl, y.1)
-operand_same s (suc n) r r' l (historically {ts = vs} {us = bs} b p) (atom a) h =
-    let x = atom_word (codes "historically") (bs ++ vs ++ r) r' a h in
-    absurd (cc)
-operand_same s (suc n) r r' l (historically b p) _ h = absurd (apart _ _ refl h)
-operand_same s (suc n) r r' l always_true always_true h = (refl, same_rest _ _ _ _ h)
-operand_same s (suc n) r r' l always_true (atom a) h = let x = atom_word (codes "true") r r' a h in absurd (cc)
-operand_same s (suc n) r r' l always_true _ h = absurd (apart _ _ refl h)
-operand_same s (suc n) r r' l always_false always_false h = (refl, same_rest _ _ _ _ h)
-operand_same s (suc n) r r' l always_false (atom a) h = let x = atom_word (codes "false") r r' a h in absurd (cc)
-operand_same s (suc n) r r' l always_false _ h = absurd (apart _ _ refl h)
-operand_same s (suc n) {k} r r' l (parens {ts = vs} p) (parens {ts = xs} q) h =
+    (rw (o, x.0, x.1, x.2, x.3, y.0) refl, y.1)
+operand_same s (suc n) r r' l (constant b) (constant b') h =
+    let e : b ≡ b' = same_constant b b' (same_word _ _ _ _ h) in (rw e refl, same_rest _ _ _ _ h)
+operand_same s (suc n) {k} r r' l (enclosed {ts = vs} p) (enclosed {ts = xs} q) h =
     let e : vs ++ close_paren ∷ [] ++ r ≡ xs ++ close_paren ∷ [] ++ r' = same_rest _ _ _ _ h in
     let j : length vs ≤ n = omega (arith, length-append vs (close_paren ∷ [])) in
-    let x = formula_same s n (record { one_operand = operand_same s n }) k (close_paren ∷ r) (close_paren ∷ r') j tt tt p q
+    let x = formula_same s n (record { one_operand = operand_same s n }) k (close_paren ∷ r) (close_paren ∷ r') j tt tt (as_formula p) (as_formula q)
     (sym (append_assoc vs (close_paren ∷ []) r) ∙ (e ∙ append_assoc xs (close_paren ∷ []) r')) in
     (x.0, same_rest _ _ _ _ x.1)
-operand_same s (suc n) r r' l (parens {ts = vs} p) (atom a) h = absurd (atom_paren (vs ++ close_paren ∷ [] ++ r) r' a h)
-operand_same s (suc n) r r' l (parens p) _ h = absurd (apart _ _ refl h)
-operand_same s (suc n) r r' l (atom a) (atom b) h = let x = atom_same r r' a b h in (rw x.0 refl, x.1)
-operand_same s (suc n) r r' l (atom a) (not {ts = xs} q) h = let x = atom_word (codes "not") (xs ++ r') r a (sym h) in absurd (cc)
-operand_same s (suc n) r r' l (atom a) (eventually {ts = xs} {us = ds} d q) h =
-    let x = atom_word (codes "eventually") (ds ++ xs ++ r') r a (sym h) in
-    absurd (cc)
-operand_same s (suc n) r r' l (atom a) (always {ts = xs} {us = ds} d q) h =
-    let x = atom_word (codes "always") (ds ++ xs ++ r') r a (sym h) in
-    absurd (cc)
-operand_same s (suc n) r r' l (atom a) (once {ts = xs} {us = ds} d q) h =
-    let x = atom_word (codes "once") (ds ++ xs ++ r') r a (sym h) in
-    absurd (cc)
-operand_same s (suc n) r r' l (atom a) (historically {ts = xs} {us = ds} d q) h =
-    let x = atom_word (codes "historically") (ds ++ xs ++ r') r a (sym h) in
-    absurd (cc)
-operand_same s (suc n) r r' l (atom a) always_true h = let x = atom_word (codes "true") r' r a (sym h) in absurd (cc)
-operand_same s (suc n) r r' l (atom a) always_false h = let x = atom_word (codes "false") r' r a (sym h) in absurd (cc)
-operand_same s (suc n) r r' l (atom a) (parens {ts = xs} q) h = absurd (atom_paren (xs ++ close_paren ∷ [] ++ r') r a (sym h))
+operand_same s (suc n) r r' l (compared a) (compared b) h = let x = atom_same r r' a b h in (rw x.0 refl, x.1)
+operand_same s (suc n) r r' l p q h = absurd (apart p q r r' refl h)
 
 -- tokens are a formula in at most one way
 pub nodes_unique : {s : Scale} {k : ℕ} {ts : List Token} {ns ms : List Node} → IsFormula s k ts ns → IsFormula s k ts ms → ns ≡ ms

@@ -1,5 +1,5 @@
 -- What a parser makes of tokens that the code spells: the code of a token, and the state after it.
-use Rattle.std.proofs.Common.{◌≡◌, ℕ, ◌-◌, List, [], ◌∷◌, ◌++◌, length, refl, ap, sym, ◌∙◌, Bool, true, false, arith, if◌then◌else◌}
+use Rattle.std.proofs.Common.{◌≡◌, ℕ, ◌-◌, List, [], ◌∷◌, ◌++◌, length, refl, ap, sym, ◌∙◌, Bool, true, false, arith, if◌then◌else◌, inl, inr, ◌⊎◌}
 use Rattle.std.specs.Prelude.{codes, bytes_eq, reverse, nat_le, nat_lt, Option, Some, None, IsTrue}
 use Rattle.std.proofs.lemmas.List.{reverse-append}
 use Rattle.std.proofs.Math.Seq.{take-append_seam}
@@ -62,6 +62,10 @@ unfolding keyword_of
 spelled True = refl
 spelled _ = refl
 
+-- a word is spelled as no other
+pub spelling_same : (w v : Keyword) → spelling w ≡ spelling v → w ≡ v
+spelling_same w v e = let f : Some w ≡ Some v = sym (spelled w) ∙ (ap keyword_of e ∙ spelled v) in cc
+
 spelled_reserved : (w : Keyword) → is_among (spelling w) reserved ≡ true
 spelled_reserved True = refl
 spelled_reserved _ = refl
@@ -85,9 +89,7 @@ spelled_number d t h = split (nat_le d.decimals 6) refl
 -- the code of a word of the grammar
 pub keyword_spelled : (text : List ℕ) (w : Keyword) (c : Code) → Spells text c (word (spelling w)) → c ≡ IsKeyword w
 keyword_spelled text w (IsKeyword v) h =
-    let e : spelling w ≡ spelling v = cc in
-    let f : Some w ≡ Some v = sym (spelled w) ∙ (ap keyword_of e ∙ spelled v) in
-    cc
+    let e : spelling w ≡ spelling v = cc in ap (λ z. IsKeyword z) (sym (spelling_same w v e))
 keyword_spelled text w (Name from to) h =
     let e : spelling w ≡ h.0 = cc (h.1) in
     let g : IsTrue (is_name (spelling w)) = rw e h.2.good in
@@ -121,61 +123,37 @@ relation_spelled text r (Number d) h = let x = spelled_number d (relation r) h i
 relation_spelled text r (Relation s) h = cc
 relation_spelled text r _ h = absurd (cc)
 
--- the code of this token
-pub open_paren_spelled : (text : List ℕ) (c : Code) → Spells text c open_paren → c ≡ OpenParen
-open_paren_spelled text (Name from to) h = absurd (cc (h.1))
-open_paren_spelled text (Number d) h = let x = spelled_number d open_paren h in absurd (cc)
-open_paren_spelled text OpenParen h = refl
-open_paren_spelled text _ h = absurd (cc)
+-- the code of a symbol
+abbrev pub symbol_code : Token → Option Code
+symbol_code open_paren = Some OpenParen
+symbol_code close_paren = Some CloseParen
+symbol_code open_bracket = Some OpenBracket
+symbol_code close_bracket = Some CloseBracket
+symbol_code comma = Some Comma
+symbol_code star = Some Star
+symbol_code plus = Some Plus
+symbol_code minus = Some Minus
+symbol_code _ = None
 
--- the code of this token
-pub close_paren_spelled : (text : List ℕ) (c : Code) → Spells text c close_paren → c ≡ CloseParen
-close_paren_spelled text (Name from to) h = absurd (cc (h.1))
-close_paren_spelled text (Number d) h = let x = spelled_number d close_paren h in absurd (cc)
-close_paren_spelled text CloseParen h = refl
-close_paren_spelled text _ h = absurd (cc)
+number_code : (t : Token) → is_number t ≡ true → symbol_code t ≡ None
+number_code (number n k) e = refl
+number_code (word w) e = absurd (cc)
+number_code _ e = absurd (cc)
 
--- the code of this token
-pub open_bracket_spelled : (text : List ℕ) (c : Code) → Spells text c open_bracket → c ≡ OpenBracket
-open_bracket_spelled text (Name from to) h = absurd (cc (h.1))
-open_bracket_spelled text (Number d) h = let x = spelled_number d open_bracket h in absurd (cc)
-open_bracket_spelled text OpenBracket h = refl
-open_bracket_spelled text _ h = absurd (cc)
+symbol_of : (text : List ℕ) (c : Code) (t : Token) → Spells text c t → (symbol_code t ≡ None) ⊎ (symbol_code t ≡ Some c)
+symbol_of text (IsKeyword w) t h = rw h (inl refl)
+symbol_of text (Name from to) t h = rw h.1 (inl refl)
+symbol_of text (Number d) t h = inl (number_code t (spelled_number d t h))
+symbol_of text (Relation r) t h = rw h (inl refl)
+symbol_of text _ t h = rw h (inr refl)
 
--- the code of this token
-pub close_bracket_spelled : (text : List ℕ) (c : Code) → Spells text c close_bracket → c ≡ CloseBracket
-close_bracket_spelled text (Name from to) h = absurd (cc (h.1))
-close_bracket_spelled text (Number d) h = let x = spelled_number d close_bracket h in absurd (cc)
-close_bracket_spelled text CloseBracket h = refl
-close_bracket_spelled text _ h = absurd (cc)
-
--- the code of this token
-pub comma_spelled : (text : List ℕ) (c : Code) → Spells text c comma → c ≡ Comma
-comma_spelled text (Name from to) h = absurd (cc (h.1))
-comma_spelled text (Number d) h = let x = spelled_number d comma h in absurd (cc)
-comma_spelled text Comma h = refl
-comma_spelled text _ h = absurd (cc)
-
--- the code of this token
-pub star_spelled : (text : List ℕ) (c : Code) → Spells text c star → c ≡ Star
-star_spelled text (Name from to) h = absurd (cc (h.1))
-star_spelled text (Number d) h = let x = spelled_number d star h in absurd (cc)
-star_spelled text Star h = refl
-star_spelled text _ h = absurd (cc)
-
--- the code of this token
-pub plus_spelled : (text : List ℕ) (c : Code) → Spells text c plus → c ≡ Plus
-plus_spelled text (Name from to) h = absurd (cc (h.1))
-plus_spelled text (Number d) h = let x = spelled_number d plus h in absurd (cc)
-plus_spelled text Plus h = refl
-plus_spelled text _ h = absurd (cc)
-
--- the code of this token
-pub minus_spelled : (text : List ℕ) (c : Code) → Spells text c minus → c ≡ Minus
-minus_spelled text (Name from to) h = absurd (cc (h.1))
-minus_spelled text (Number d) h = let x = spelled_number d minus h in absurd (cc)
-minus_spelled text Minus h = refl
-minus_spelled text _ h = absurd (cc)
+-- a symbol is spelled by its code alone
+pub symbol_spelled : (text : List ℕ) (c s : Code) (t : Token) → symbol_code t ≡ Some s → Spells text c t → c ≡ s
+symbol_spelled text c s t e h = by_code (symbol_of text c t h)
+  where
+    by_code : (symbol_code t ≡ None) ⊎ (symbol_code t ≡ Some c) → c ≡ s
+    by_code (inl f) = absurd (cc)
+    by_code (inr f) = cc
 
 -- the code of a number that is not too large
 exact : (d : Decimal) (n k : ℕ) → IsNumber d (number n k) → nat_le d.decimals 6 ≡ true → (d.value ≡ n) × (d.decimals ≡ k)
@@ -212,6 +190,16 @@ pub stepped : {text : List ℕ} {p q : Parse} {t : Token} {ts : List Token} → 
 stepped {text} {p} {q} {t} {ts} (reads {m = m} d h b e r) c a spelled f =
     let x : parse_step text p c ≡ Some m = rw (spelled d h) at e in
     let y : a ≡ m = cc in rw y r
+
+-- the state after a symbol
+pub stepped_symbol : {text : List ℕ} {p q : Parse} {t : Token} {ts : List Token} → Reads text p (t ∷ ts) q → (c : Code) → symbol_code t ≡ Some c → (a : Parse)
+    → parse_step text p c ≡ Some a → Reads text a ts q
+stepped_symbol {text} {t = t} r c e a f = stepped r c a (λ d h. symbol_spelled text d c t e h) f
+
+-- the state after a word of the grammar
+pub stepped_keyword : {text : List ℕ} {p q : Parse} {ts : List Token} (w : Keyword) → Reads text p (word (spelling w) ∷ ts) q → (a : Parse)
+    → parse_step text p (IsKeyword w) ≡ Some a → Reads text a ts q
+stepped_keyword {text} w r a f = stepped r (IsKeyword w) a (λ d h. keyword_spelled text w d h) f
 
 -- the number that comes next
 pub stepped_number : {text : List ℕ} {p q : Parse} {n k : ℕ} {ts : List Token} → Reads text p (number n k ∷ ts) q

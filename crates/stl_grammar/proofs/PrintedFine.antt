@@ -1,6 +1,6 @@
 -- The tokens of nodes within their limits, with few decimals: no number passes its limit, no bound is out of order, and no fifth term begins.
 use Rattle.std.proofs.Common.{◌≡◌, ℕ, suc, ◌+◌, ◌-◌, ◌*◌, ◌^◌, ◌<◌, ◌≤◌, List, [], ◌∷◌, ◌++◌, length}
-use Rattle.std.proofs.Common.{refl, ap, sym, ◌∙◌, Bool, true, false, arith, append_assoc, lit<}
+use Rattle.std.proofs.Common.{refl, ap, sym, ◌∙◌, subst, Bool, true, false, arith, append_assoc, lit<}
 use Rattle.std.specs.Prelude.{codes, nat_lt, nat_abs, neg_ℤ, pos, Option, Some, None, All, ◌==◌, ◌||◌}
 use Rattle.std.proofs.Math.Nat.{mul-le-mul_right, one-le-pow}
 use Rattle.std.proofs.lemmas.Bool.Decides.{nat_tests}
@@ -13,27 +13,27 @@ use Rattle.stl_syntax.specs.declared.atom.Atom.{Atom}
 use Rattle.stl_syntax.specs.declared.atom.Term.{Term}
 use Rattle.stl_syntax.specs.declared.rel.Rel.{Rel}
 use Rattle.stl_syntax.specs.declared.node.Node.{Node}
-use Rattle.stl_syntax.specs.declared.node.Node.TheVariants.{Not, And, Or, Implies, Until, Eventually, Always, Since, Once, Historically}
-use Rattle.stl_grammar.specs.Grammar.{top, Token, word, number, relation, open_paren, close_paren, open_bracket, close_bracket, comma, star, plus, minus}
+use Rattle.stl_grammar.specs.Grammar.{Token, word, number, relation, open_paren, close_paren, comma, star, plus, minus}
 use Rattle.stl_grammar.specs.Grammar.{IsConstant, plain, positive, negative, IsTerm, name as term_name, scaled}
-use Rattle.stl_grammar.specs.Grammar.{AreTerms, more_plus, more_minus, IsAtom, first, signed, inside, outside}
+use Rattle.stl_grammar.specs.Grammar.{AreTerms, more_plus, more_minus, IsAtom, first, signed}
 use Rattle.stl_grammar.specs.Grammar.{none as no_terms}
-use Rattle.stl_grammar.specs.Grammar.{IsFutureWindow, bound, IsPastWindow, nothing, bounded, unbounded, IsFuture, IsPast}
-use Rattle.stl_grammar.specs.Grammar.IsPast.{nothing as since_nothing, bounded as since_bounded, unbounded as since_unbounded}
-use Rattle.stl_grammar.specs.Grammar.{IsFormula, IsDisjunct, IsConjunct, IsTimed, IsOperand, disjunct, implies}
-use Rattle.stl_grammar.specs.Grammar.{conjunct, or, timed, and, operand, until, since, not, eventually, always}
-use Rattle.stl_grammar.specs.Grammar.{once, historically, always_true, always_false, parens, atom}
 use Rattle.stl_grammar.specs.declared.fault.What.{What}
-use Rattle.stl_grammar.specs.declared.fault.What.TheVariants.{Number, Constant}
+use Rattle.stl_grammar.specs.declared.fault.What.TheVariants.{Operand as AnOperand, Bracket, Number, Constant}
 use Rattle.stl_grammar.specs.FormulaRefusals.{passes_limit}
-use Rattle.stl_grammar.specs.Machine.{kind, Owner, of_until, of_since, of_future, of_past, looks_back, at_operand}
-use Rattle.stl_grammar.specs.Machine.{at_bound, at_term, at_sign, at_constant, at_end, Mark, paren, operator, implication}
-use Rattle.stl_grammar.specs.Machine.{State, without_operators, step_from, expected_at, fifth_at, disorder_at}
+use Rattle.stl_grammar.specs.Machine.{kind, Owner, of_until, of_future, at_operand, at_bound, at_low, at_term, at_sign, at_constant, at_end, Mark, paren}
+use Rattle.stl_grammar.specs.Machine.{operator, State, without_operators, step_from, expected_at, fifth_at, disorder_at}
+use Rattle.stl_grammar.specs.Refusing.{owner}
+use Rattle.stl_grammar.specs.declared.place.Timed.{Timed}
+use Rattle.stl_grammar.specs.declared.place.Timed.TheVariants.{Until as TUntil, Since as TSince, Eventually as TEventually}
+use Rattle.stl_grammar.specs.declared.place.Timed.TheVariants.{Always as TAlways, Once as TOnce, Historically as THistorically}
 use Rattle.stl_grammar.proofs.NumberLemmas.{abs_neg}
-use Rattle.stl_grammar.proofs.OneParse.{begins_bracket, operand_bracket}
-use Rattle.stl_grammar.proofs.MachineRuns.{go, go_then, st, term_runs, first_runs, terms_run, signed_runs, window_runs}
-use Rattle.stl_grammar.proofs.MachineRuns.{until_runs, formula_runs, disjunct_runs, conjunct_runs, operand_runs}
-use Rattle.stl_grammar.proofs.ReadNodes.{power_parts, cross, skips}
+use Rattle.stl_grammar.proofs.Derivations.{connective_word, left_binds, left_two, timed_word, timed_node, Bounded, left_out, within, endless, has_upper}
+use Rattle.stl_grammar.proofs.Derivations.{Opens, opens_in, opens_out, Closes, closes_in, closes_out}
+use Rattle.stl_grammar.proofs.Derivations.{Operand, negated, prefixed, constant, enclosed, compared, Derived, joined, beside, alone, operand_begins}
+use Rattle.stl_grammar.proofs.MachineRuns.{go, go_then, st, term_runs, first_runs, terms_run, signed_runs, skips, opens_step, closes_step, inf_step}
+use Rattle.stl_grammar.proofs.MachineRuns.{after_connective, connective_steps}
+use Rattle.stl_grammar.proofs.MachineRuns.{beside_steps, before_steps, derived_runs, left_runs, operand_runs}
+use Rattle.stl_grammar.proofs.ReadNodes.{power_parts, cross}
 use Rattle.stl_grammar.proofs.TokenNeat.{IsNeat}
 use Rattle.stl_grammar.proofs.PrintedRead.{IsFit, all_left, all_right, all_last}
 
@@ -155,80 +155,49 @@ TwoFine a j b k = (passes_limit Number a j ≡ false) × (nat_lt (b * 10 ^ j) (a
 two_fine : (d a j b k : ℕ) → d ≤ 6 → (j ≤ d) × (k ≤ d) → ticks d a j ≤ ticks d b k → ticks d b k ≤ 4294967295 → TwoFine a j b k
 two_fine d a j b k s c o l = (bound_fine d a j s c.0 (omega (arith, o, l)), order_fine d a j b k c.0 c.1 o, bound_fine d b k s c.1 l)
 
-window_fine : (s : Scale) {a b : ℕ} {us : List Token} {x y : Bool} → IsFutureWindow s.time us a b x y → s.time ≤ 6 → Pieces s us → a ≤ b → b ≤ 4294967295
-    → (h : Bool) (marks : List Mark) (n : ℕ) → Fine (st (at_bound of_future) h marks n) us
-window_fine s (bound {a = a} {j} {b} {k} {x} {y} inside inside) d c o l h marks n =
-    let z = two_fine s.time a j b k d (c (x ∷ []) (y ∷ []) (bounds a j b k) refl) o l in
-    ((refl, refl, refl), ((refl, refl, z.0), ((refl, refl, refl), ((refl, z.1, z.2), ((refl, refl, refl), tt)))))
-window_fine s (bound {a = a} {j} {b} {k} {x} {y} inside outside) d c o l h marks n =
-    let z = two_fine s.time a j b k d (c (x ∷ []) (y ∷ []) (bounds a j b k) refl) o l in
-    ((refl, refl, refl), ((refl, refl, z.0), ((refl, refl, refl), ((refl, z.1, z.2), ((refl, refl, refl), tt)))))
-window_fine s (bound {a = a} {j} {b} {k} {x} {y} outside inside) d c o l h marks n =
-    let z = two_fine s.time a j b k d (c (x ∷ []) (y ∷ []) (bounds a j b k) refl) o l in
-    ((refl, refl, refl), ((refl, refl, z.0), ((refl, refl, refl), ((refl, z.1, z.2), ((refl, refl, refl), tt)))))
-window_fine s (bound {a = a} {j} {b} {k} {x} {y} outside outside) d c o l h marks n =
-    let z = two_fine s.time a j b k d (c (x ∷ []) (y ∷ []) (bounds a j b k) refl) o l in
-    ((refl, refl, refl), ((refl, refl, z.0), ((refl, refl, refl), ((refl, z.1, z.2), ((refl, refl, refl), tt)))))
+-- a bracket of a bound is no number
+opening_fine : {o : Owner} {t : Token} {x : Bool} (what : What) → Opens o t x → bad_of what t ≡ false
+opening_fine what opens_in = refl
+opening_fine what (opens_out e) = refl
 
-until_fine : (s : Scale) {a b : ℕ} {us : List Token} → IsFuture s.time us a b → s.time ≤ 6 → Pieces s us → a ≤ b → b ≤ 4294967295
-    → (h : Bool) (marks : List Mark) (n : ℕ) → Fine (st (at_bound of_until) h marks n) us
-until_fine s (bound {a = a} {j} {b} {k} {x} {y} inside inside) d c o l h marks n =
-    let z = two_fine s.time a j b k d (c (x ∷ []) (y ∷ []) (bounds a j b k) refl) o l in
-    ((refl, refl, refl), ((refl, refl, z.0), ((refl, refl, refl), ((refl, z.1, z.2), ((refl, refl, refl), tt)))))
+closing_fine : {o : Owner} {t : Token} {x : Bool} (what : What) → Closes o t x → bad_of what t ≡ false
+closing_fine what closes_in = refl
+closing_fine what (closes_out e) = refl
 
--- an operand whose bound is left out
-fine_left_out : {s : Scale} {k : ℕ} {ts : List Token} {ns : List Node} (o : Owner) → looks_back o ≡ true → IsOperand s k ts ns
-    → (h : Bool) (marks : List Mark) (n : ℕ)
-    → Fine (st at_operand h marks n) ts → Fine (st (at_bound o) h marks n) ts
-fine_left_out {ts = ts} o e p h marks n f = by_tokens ts (operand_bracket [] p) f
-  where
-    by_tokens : (us : List Token) → begins_bracket (us ++ []) ≡ false → Fine (st at_operand h marks n) us → Fine (st (at_bound o) h marks n) us
-    by_tokens [] b f = tt
-    by_tokens (t ∷ us) b f = ((refl, refl, f.0.2), rw (← skips o e h marks n t (us ++ []) b) at f.1)
-
-past_fine : (s : Scale) {a : ℕ} {b : Option ℕ} {us : List Token} {x y : Bool} {k : ℕ} {ts : List Token} {ns : List Node}
-    → IsPastWindow s.time us a b x y → IsOperand s k ts ns → s.time ≤ 6
-    → Pieces s (us ++ ts) → IsInOrder a b → reach_of_bound a b ≤ 4294967295 → (h : Bool) (marks : List Mark) (n : ℕ)
-    → Fine (st at_operand h marks n) ts → Fine (st (at_bound of_past) h marks n) (us ++ ts)
+-- a bound, and the operand after it
+bound_then_fine : (s : Scale) {o : Owner} {a : ℕ} {b : Option ℕ} {us : List Token} {x y : Bool} {k : ℕ} {ts : List Token} {ns : List Node}
+    → Bounded s.time o us a b x y → Operand s k ts ns → s.time ≤ 6 → Pieces s (us ++ ts) → IsInOrder a b × (reach_of_bound a b ≤ 4294967295)
+    → (h : Bool) (marks : List Mark) (n : ℕ) → Fine (st at_operand h marks n) ts → Fine (st (at_bound o) h marks n) (us ++ ts)
 unfolding kind
-past_fine s nothing p d c o l h marks n f = fine_left_out of_past refl p h marks n f
-past_fine s {ts = ts} (bounded {a = a} {j} {b} {k} {x} {y} inside inside) p d c o l h marks n f =
-    let z = two_fine s.time a j b k d (c (x ∷ []) (y ∷ ts) (bounds a j b k) refl) o l in
-    ((refl, refl, refl), ((refl, refl, z.0), ((refl, refl, refl), ((refl, z.1, z.2), ((refl, refl, refl), f)))))
-past_fine s {ts = ts} (bounded {a = a} {j} {b} {k} {x} {y} inside outside) p d c o l h marks n f =
-    let z = two_fine s.time a j b k d (c (x ∷ []) (y ∷ ts) (bounds a j b k) refl) o l in
-    ((refl, refl, refl), ((refl, refl, z.0), ((refl, refl, refl), ((refl, z.1, z.2), ((refl, refl, refl), f)))))
-past_fine s {ts = ts} (bounded {a = a} {j} {b} {k} {x} {y} outside inside) p d c o l h marks n f =
-    let z = two_fine s.time a j b k d (c (x ∷ []) (y ∷ ts) (bounds a j b k) refl) o l in
-    ((refl, refl, refl), ((refl, refl, z.0), ((refl, refl, refl), ((refl, z.1, z.2), ((refl, refl, refl), f)))))
-past_fine s {ts = ts} (bounded {a = a} {j} {b} {k} {x} {y} outside outside) p d c o l h marks n f =
-    let z = two_fine s.time a j b k d (c (x ∷ []) (y ∷ ts) (bounds a j b k) refl) o l in
-    ((refl, refl, refl), ((refl, refl, z.0), ((refl, refl, refl), ((refl, z.1, z.2), ((refl, refl, refl), f)))))
-past_fine s {ts = ts} (unbounded {a = a} {j} {x} {y} inside inside) p d c o l h marks n f =
-    let z = bound_fine s.time a j d (c (x ∷ []) (word (codes "inf") ∷ y ∷ ts) (low a j) refl) l in
-    ((refl, refl, refl), ((refl, refl, z), ((refl, refl, refl), ((refl, refl, refl), ((refl, refl, refl), f)))))
-past_fine s {ts = ts} (unbounded {a = a} {j} {x} {y} inside outside) p d c o l h marks n f =
-    let z = bound_fine s.time a j d (c (x ∷ []) (word (codes "inf") ∷ y ∷ ts) (low a j) refl) l in
-    ((refl, refl, refl), ((refl, refl, z), ((refl, refl, refl), ((refl, refl, refl), ((refl, refl, refl), f)))))
-past_fine s {ts = ts} (unbounded {a = a} {j} {x} {y} outside inside) p d c o l h marks n f =
-    let z = bound_fine s.time a j d (c (x ∷ []) (word (codes "inf") ∷ y ∷ ts) (low a j) refl) l in
-    ((refl, refl, refl), ((refl, refl, z), ((refl, refl, refl), ((refl, refl, refl), ((refl, refl, refl), f)))))
-past_fine s {ts = ts} (unbounded {a = a} {j} {x} {y} outside outside) p d c o l h marks n f =
-    let z = bound_fine s.time a j d (c (x ∷ []) (word (codes "inf") ∷ y ∷ ts) (low a j) refl) l in
-    ((refl, refl, refl), ((refl, refl, z), ((refl, refl, refl), ((refl, refl, refl), ((refl, refl, refl), f)))))
+bound_then_fine s {o} (left_out e) r d c l h marks n f =
+    let b = operand_begins r in let g = rw b.is at f in
+    rw b.is ((refl, refl, g.0.2), rw (← skips o e h marks n b.head b.other) at g.1)
+bound_then_fine s {o} {ts = ts} (within {a = a} {j} {b} {k} {t} {u} p q) r d c l h marks n f =
+    let z = two_fine s.time a j b k d (c (t ∷ []) (u ∷ ts) (bounds a j b k) refl) l.0 l.1 in
+    let e = subst (λ z. Fine z ts) (sym (closes_step q h marks n)) f in
+    let g : Fine (st (at_low o) h marks n) (number a j ∷ comma ∷ number b k ∷ u ∷ ts) =
+    ((refl, refl, z.0), ((refl, refl, refl), ((refl, z.1, z.2), ((refl, refl, closing_fine Bracket q), e)))) in
+    ((refl, refl, opening_fine AnOperand p), subst (λ z. Fine z (number a j ∷ comma ∷ number b k ∷ u ∷ ts)) (sym (opens_step p h marks n)) g)
+bound_then_fine s {o} {ts = ts} (endless {a = a} {j} {t} {u} e p q) r d c l h marks n f =
+    let z = bound_fine s.time a j d (c (t ∷ []) (word (codes "inf") ∷ u ∷ ts) (low a j) refl) l.1 in
+    let g = subst (λ z. Fine z ts) (sym (closes_step q h marks n)) f in
+    let i = subst (λ z. Fine z (u ∷ ts)) (sym (inf_step o e a j h marks n)) ((refl, refl, closing_fine Bracket q), g) in
+    let m : Fine (st (at_low o) h marks n) (number a j ∷ comma ∷ word (codes "inf") ∷ u ∷ ts) =
+    ((refl, refl, z), ((refl, refl, refl), ((refl, refl, refl), i))) in
+    ((refl, refl, opening_fine AnOperand p), subst (λ z. Fine z (number a j ∷ comma ∷ word (codes "inf") ∷ u ∷ ts)) (sym (opens_step p h marks n)) m)
 
-since_fine : (s : Scale) {a : ℕ} {b : Option ℕ} {us : List Token} {k : ℕ} {ts : List Token} {ns : List Node}
-    → IsPast s.time us a b → IsOperand s k ts ns → s.time ≤ 6
-    → Pieces s (us ++ ts) → IsInOrder a b → reach_of_bound a b ≤ 4294967295 → (h : Bool) (marks : List Mark) (n : ℕ)
-    → Fine (st at_operand h marks n) ts → Fine (st (at_bound of_since) h marks n) (us ++ ts)
-unfolding kind
-since_fine s since_nothing p d c o l h marks n f = fine_left_out of_since refl p h marks n f
-since_fine s {ts = ts} (since_bounded {a = a} {j} {b} {k}) p d c o l h marks n f =
-    let z = two_fine s.time a j b k d (c (open_bracket ∷ []) (close_bracket ∷ ts) (bounds a j b k) refl) o l in
-    ((refl, refl, refl), ((refl, refl, z.0), ((refl, refl, refl), ((refl, z.1, z.2), ((refl, refl, refl), f)))))
-since_fine s {ts = ts} (since_unbounded {a = a} {j}) p d c o l h marks n f =
-    let z = bound_fine s.time a j d (c (open_bracket ∷ []) (word (codes "inf") ∷ close_bracket ∷ ts) (low a j) refl) l in
-    ((refl, refl, refl), ((refl, refl, z), ((refl, refl, refl), ((refl, refl, refl), ((refl, refl, refl), f)))))
+-- the bound of an operator's node is in order and within the limit
+abbrev IsSmall : ℕ → Option ℕ → Type 0
+IsSmall a b = IsInOrder a b × (reach_of_bound a b ≤ 4294967295)
+
+small_bound : (of : Timed) {d a : ℕ} {b : Option ℕ} {us : List Token} {x y : Bool} (p q : ℕ) → Bounded d (owner of) us a b x y
+    → IsFit (timed_node of a b x y p q) → IsSmall a b
+small_bound TUntil {a = a} p q w f = subst (λ z. IsSmall a z) (has_upper of_until refl w) (f.bounds, f.reach)
+small_bound TEventually {a = a} p q w f = subst (λ z. IsSmall a z) (has_upper of_future refl w) (f.bounds, f.reach)
+small_bound TAlways {a = a} p q w f = subst (λ z. IsSmall a z) (has_upper of_future refl w) (f.bounds, f.reach)
+small_bound TSince p q w f = (f.bounds, f.reach)
+small_bound TOnce p q w f = (f.bounds.0, f.reach)
+small_bound THistorically p q w f = (f.bounds.0, f.reach)
 
 -- atoms
 term_fine : (s : Scale) {ts : List Token} {k : ℕ} {w : List ℕ} → IsTerm ts k w → k ≤ 16 → Pieces s ts
@@ -336,118 +305,43 @@ module _ (s : Scale) (time : s.time ≤ 6) (value : s.value ≤ 6) where
     unfolding kind
 
     -- the tokens of a formula are so from its start
-    pub formula_fine : {k : ℕ} {ts : List Token} {ns : List Node} → IsFormula s k ts ns → All IsFit ns → Pieces s ts
+    pub derived_fine : {r k : ℕ} {ts : List Token} {ns : List Node} → Derived s r k ts ns → All IsFit ns → Pieces s ts
         → (marks : List Mark) (n : ℕ) → Fine (st at_operand false marks n) ts
-    formula_fine (disjunct d) f c marks n = disjunct_fine d f c marks n
-    formula_fine (implies {k = k} {ts = ts} {us} {ns} {ms} d g) f c marks n =
-        let r = disjunct_runs d marks n in
-        let x = pieces_right s ts (word (codes "implies") ∷ us) c in
-        let i = Implies (top k ns) (top (k + length ns) ms) in
-        fine_then (st at_operand false marks n) (st at_end r.0 (without_operators marks) (n + length ns)) ts (word (codes "implies") ∷ us)
-        (disjunct_fine d (first_part ns ms i f) (pieces_left s ts (word (codes "implies") ∷ us) c) marks n) r.1 (
-          (refl, refl, refl),
-          formula_fine g (second_part ns ms i f) (pieces_rest s (word (codes "implies")) us x)
-              (implication ∷ without_operators marks) (suc (n + length ns)),
-        )
-
-    disjunct_fine : {k : ℕ} {ts : List Token} {ns : List Node} → IsDisjunct s k ts ns → All IsFit ns → Pieces s ts
-        → (marks : List Mark) (n : ℕ) → Fine (st at_operand false marks n) ts
-    disjunct_fine (conjunct d) f c marks n = conjunct_fine d f c marks n
-    disjunct_fine (or {k = k} {ts = ts} {us} {ns} {ms} d g) f c marks n =
-        let r = disjunct_runs d marks n in
-        let x = pieces_right s ts (word (codes "or") ∷ us) c in
-        let i = Or (top k ns) (top (k + length ns) ms) in
-        fine_then (st at_operand false marks n) (st at_end r.0 (without_operators marks) (n + length ns)) ts (word (codes "or") ∷ us)
-        (disjunct_fine d (first_part ns ms i f) (pieces_left s ts (word (codes "or") ∷ us) c) marks n) r.1
-        ((refl, refl, refl), conjunct_fine g (second_part ns ms i f) (pieces_rest s (word (codes "or")) us x) (without_operators marks) (suc (n + length ns)))
-
-    conjunct_fine : {k : ℕ} {ts : List Token} {ns : List Node} → IsConjunct s k ts ns → All IsFit ns → Pieces s ts
-        → (marks : List Mark) (n : ℕ) → Fine (st at_operand false marks n) ts
-    conjunct_fine (timed d) f c marks n = timed_fine d f c marks n
-    conjunct_fine (and {k = k} {ts = ts} {us} {ns} {ms} d g) f c marks n =
-        let r = conjunct_runs d marks n in
-        let x = pieces_right s ts (word (codes "and") ∷ us) c in
-        let i = And (top k ns) (top (k + length ns) ms) in
-        fine_then (st at_operand false marks n) (st at_end r.0 (without_operators marks) (n + length ns)) ts (word (codes "and") ∷ us)
-        (conjunct_fine d (first_part ns ms i f) (pieces_left s ts (word (codes "and") ∷ us) c) marks n) r.1
-        ((refl, refl, refl), timed_fine g (second_part ns ms i f) (pieces_rest s (word (codes "and")) us x) (without_operators marks) (suc (n + length ns)))
-
-    timed_fine : {k : ℕ} {ts : List Token} {ns : List Node} → IsTimed s k ts ns → All IsFit ns → Pieces s ts
-        → (marks : List Mark) (n : ℕ) → Fine (st at_operand false marks n) ts
-    timed_fine (operand p) f c marks n = operand_fine p f c false marks n
-    timed_fine (until {k = k} {a = a} {b} {ts = ts} {us} {vs} {ns} {ms} p w q) f c marks n =
-        let c2 = rw (append_assoc ts (word (codes "until") ∷ us) vs) at c in
-        let x = pieces_rest s (word (codes "until")) (us ++ vs) (pieces_right s ts (word (codes "until") ∷ (us ++ vs)) c2) in
-        let i = Until (top k ns) (top (k + length ns) ms) a b in
-        let fit = last_part ns ms i f in
+    derived_fine (joined o {ts = ts} {us} {ns} {ms} l d e) f c marks n =
+        let w : Token = word (connective_word o) in
         let m = without_operators marks in
-        rw (append_assoc ts (word (codes "until") ∷ us) vs) (
-        fine_then (st at_operand false marks n) (st at_end false m (n + length ns)) ts (word (codes "until") ∷ (us ++ vs))
-        (operand_fine p (first_part ns ms i f) (pieces_left s ts (word (codes "until") ∷ (us ++ vs)) c2) false marks n) (operand_runs p false marks n) (
-          (refl, refl, refl),
-          fine_then (st (at_bound of_until) true m (suc (n + length ns))) (st at_operand true m (suc (n + length ns))) us vs
-              (until_fine s w time (pieces_left s us vs x) fit.bounds fit.reach true m (suc (n + length ns))) (until_runs w true m (suc (n + length ns)))
-              (operand_fine q (second_part ns ms i f) (pieces_right s us vs x) true m (suc (n + length ns))),
-        ))
-    timed_fine (since {k = k} {a = a} {b} {ts = ts} {us} {vs} {ns} {ms} p w q) f c marks n =
-        let c2 = rw (append_assoc ts (word (codes "since") ∷ us) vs) at c in
-        let x = pieces_rest s (word (codes "since")) (us ++ vs) (pieces_right s ts (word (codes "since") ∷ (us ++ vs)) c2) in
-        let i = Since (top k ns) (top (k + length ns) ms) a b in
-        let fit = last_part ns ms i f in
+        let r = left_runs (left_binds o) (left_two o) d marks n in
+        let x = pieces_rest s w us (pieces_right s ts (w ∷ us) c) in
+        let y = derived_fine e (second_part ns ms _ f) x (after_connective o m) (suc (n + length ns)) in
+        fine_then (st at_operand false marks n) (st at_end r.0 m (n + length ns)) ts (w ∷ us)
+        (derived_fine d (first_part ns ms _ f) (pieces_left s ts (w ∷ us) c) marks n) r.1
+        ((refl, refl, refl), rw (connective_steps o r.0 m (n + length ns)) y)
+    derived_fine (beside of {ts = ts} {us} {vs} {ns} {ms} e l p b q) f c marks n =
+        let w : Token = word (timed_word of) in
         let m = without_operators marks in
-        rw (append_assoc ts (word (codes "since") ∷ us) vs) (
-        fine_then (st at_operand false marks n) (st at_end false m (n + length ns)) ts (word (codes "since") ∷ (us ++ vs))
-        (operand_fine p (first_part ns ms i f) (pieces_left s ts (word (codes "since") ∷ (us ++ vs)) c2) false marks n) (operand_runs p false marks n) (
-          (refl, refl, refl),
-          since_fine s w q time x fit.bounds fit.reach true m (suc (n + length ns))
-              (operand_fine q (second_part ns ms i f) (pieces_right s us vs x) true m (suc (n + length ns))),
-        ))
+        let x = pieces_rest s w (us ++ vs) (pieces_right s ts (w ∷ (us ++ vs)) c) in
+        let y = bound_then_fine s b q time x (small_bound of _ _ b (last_part ns ms _ f)) true m (suc (n + length ns))
+        (operand_fine q (second_part ns ms _ f) (pieces_right s us vs x) true m (suc (n + length ns))) in
+        fine_then (st at_operand false marks n) (st at_end false m (n + length ns)) ts (w ∷ (us ++ vs))
+        (operand_fine p (first_part ns ms _ f) (pieces_left s ts (w ∷ (us ++ vs)) c) false marks n) (operand_runs p false marks n)
+        ((refl, refl, refl), rw (beside_steps of e m (n + length ns)) y)
+    derived_fine (alone p) f c marks n = operand_fine p f c false marks n
 
-    operand_fine : {k : ℕ} {ts : List Token} {ns : List Node} → IsOperand s k ts ns → All IsFit ns → Pieces s ts
+    operand_fine : {k : ℕ} {ts : List Token} {ns : List Node} → Operand s k ts ns → All IsFit ns → Pieces s ts
         → (h : Bool) (marks : List Mark) (n : ℕ) → Fine (st at_operand h marks n) ts
-    operand_fine (not {k = k} {ts = ts} {ns} p) f c h marks n =
-        ((refl, refl, refl), operand_fine p (all_left IsFit ns (Not (top k ns) ∷ []) f) (pieces_rest s (word (codes "not")) ts c) h (operator ∷ marks) (suc n))
-    operand_fine (eventually {k = k} {a} {b} {a_in} {b_in} {ts} {us} {ns} w p) f c h marks n =
-        let i = Eventually (top k ns) a b a_in b_in in
-        let fit = all_last IsFit ns i f in
-        let x = pieces_rest s (word (codes "eventually")) (us ++ ts) c in (
-          (refl, refl, refl),
-          fine_then (st (at_bound of_future) h (operator ∷ marks) (suc n)) (st at_operand h (operator ∷ marks) (suc n)) us ts
-              (window_fine s w time (pieces_left s us ts x) fit.bounds fit.reach h (operator ∷ marks) (suc n)) (window_runs w h (operator ∷ marks) (suc n))
-              (operand_fine p (all_left IsFit ns (i ∷ []) f) (pieces_right s us ts x) h (operator ∷ marks) (suc n)),
-        )
-    operand_fine (always {k = k} {a} {b} {a_in} {b_in} {ts} {us} {ns} w p) f c h marks n =
-        let i = Always (top k ns) a b a_in b_in in
-        let fit = all_last IsFit ns i f in
-        let x = pieces_rest s (word (codes "always")) (us ++ ts) c in (
-          (refl, refl, refl),
-          fine_then (st (at_bound of_future) h (operator ∷ marks) (suc n)) (st at_operand h (operator ∷ marks) (suc n)) us ts
-              (window_fine s w time (pieces_left s us ts x) fit.bounds fit.reach h (operator ∷ marks) (suc n)) (window_runs w h (operator ∷ marks) (suc n))
-              (operand_fine p (all_left IsFit ns (i ∷ []) f) (pieces_right s us ts x) h (operator ∷ marks) (suc n)),
-        )
-    operand_fine (once {k = k} {a} {b} {a_in} {b_in} {ts} {us} {ns} w p) f c h marks n =
-        let i = Once (top k ns) a b a_in b_in in
-        let fit = all_last IsFit ns i f in
-        let x = pieces_rest s (word (codes "once")) (us ++ ts) c in (
-          (refl, refl, refl),
-          past_fine s w p time x fit.bounds.0 fit.reach h (operator ∷ marks) (suc n)
-              (operand_fine p (all_left IsFit ns (i ∷ []) f) (pieces_right s us ts x) h (operator ∷ marks) (suc n)),
-        )
-    operand_fine (historically {k = k} {a} {b} {a_in} {b_in} {ts} {us} {ns} w p) f c h marks n =
-        let i = Historically (top k ns) a b a_in b_in in
-        let fit = all_last IsFit ns i f in
-        let x = pieces_rest s (word (codes "historically")) (us ++ ts) c in (
-          (refl, refl, refl),
-          past_fine s w p time x fit.bounds.0 fit.reach h (operator ∷ marks) (suc n)
-              (operand_fine p (all_left IsFit ns (i ∷ []) f) (pieces_right s us ts x) h (operator ∷ marks) (suc n)),
-        )
-    operand_fine always_true f c h marks n = ((refl, refl, refl), tt)
-    operand_fine always_false f c h marks n = ((refl, refl, refl), tt)
-    operand_fine (parens {ts = ts} {ns} g) f c h marks n =
-        let r = formula_runs g (paren h ∷ marks) n in (
+    operand_fine (negated {ts = ts} {ns} p) f c h marks n =
+        ((refl, refl, refl), operand_fine p (all_left IsFit ns _ f) (pieces_rest s (word (codes "not")) ts c) h (operator ∷ marks) (suc n))
+    operand_fine (prefixed of {ts = ts} {us} {ns} e b p) f c h marks n =
+        let x = pieces_rest s (word (timed_word of)) (us ++ ts) c in
+        let y = bound_then_fine s b p time x (small_bound of _ _ b (all_last IsFit ns _ f)) h (operator ∷ marks) (suc n)
+        (operand_fine p (all_left IsFit ns _ f) (pieces_right s us ts x) h (operator ∷ marks) (suc n)) in
+        ((refl, refl, refl), rw (before_steps of e h marks n) y)
+    operand_fine (constant b) f c h marks n = ((refl, refl, refl), tt)
+    operand_fine (enclosed {ts = ts} {ns} d) f c h marks n =
+        let r = derived_runs d (paren h ∷ marks) n in (
           (refl, refl, refl),
           fine_then (st at_operand false (paren h ∷ marks) n) (st at_end r.0 r.1 (n + length ns)) ts (close_paren ∷ [])
-              (formula_fine g f (pieces_left s ts (close_paren ∷ []) (pieces_rest s open_paren (ts ++ close_paren ∷ []) c)) (paren h ∷ marks) n) r.3
+              (derived_fine d f (pieces_left s ts (close_paren ∷ []) (pieces_rest s open_paren (ts ++ close_paren ∷ []) c)) (paren h ∷ marks) n) r.3
               ((refl, refl, refl), tt),
         )
-    operand_fine (atom {a = a} x) f c h marks n = let fit = all_last IsFit [] _ f in atom_fine s x value fit.atom c h marks n
+    operand_fine (compared x) f c h marks n = let fit = all_last IsFit [] _ f in atom_fine s x value fit.atom c h marks n

@@ -21,11 +21,12 @@ use Rattle.stl_grammar.specs.Machine.{future_at}
 use Rattle.stl_grammar.specs.declared.fault.FormulaFault.{FormulaFault}
 use Rattle.stl_grammar.specs.Building.{is_large}
 use Rattle.stl_grammar.proofs.BuildLemmas.{no_fault}
+use Rattle.stl_grammar.proofs.Derivations.{formula_derived}
 use Rattle.stl_grammar.proofs.LawProofs.{one_formula}
 use Rattle.stl_grammar.proofs.LeastDigits.{printed_texts_are_read}
-use Rattle.stl_grammar.proofs.MachineRuns.{go, st, run_go, formula_runs, run_stops, step_stops, run_goes_on, step_runs}
+use Rattle.stl_grammar.proofs.MachineRuns.{go, st, run_go, derived_runs, run_stops, step_stops, run_goes_on, step_runs}
 use Rattle.stl_grammar.proofs.MachineView.{run_expected, run_nodes, run_fifth, run_disorder, run_future}
-use Rattle.stl_grammar.proofs.PrintedFine.{bad_of, FineAt, Fine, neat_pieces, formula_fine}
+use Rattle.stl_grammar.proofs.PrintedFine.{bad_of, FineAt, Fine, neat_pieces, derived_fine}
 use Rattle.stl_grammar.proofs.PrintedRead.{each_reach, all_fit, printed_read}
 use Rattle.stl_grammar.proofs.ReadNodes.{reverse_more}
 use Rattle.stl_grammar.proofs.RefusalLaw.{token-unique, no_token_at_blank, no_token_at_end}
@@ -253,9 +254,10 @@ pub printed_texts_are_formulas : PrintedTextsAreFormulas
 printed_texts_are_formulas f text r w least h fault =
     let (ts, l, d, neat) = printed_read f text w h in
     let fit = all_fit f.nodes w.nodes.atoms w.nodes.bounds (each_reach f.nodes w.nodes.reach) in
-    let fine = formula_fine f.scale w.scale.time w.scale.value d fit (neat_pieces f.scale ts neat) [] 0 in
+    let t = formula_derived 1 (omega arith) d in
+    let fine = derived_fine f.scale w.scale.time w.scale.value t fit (neat_pieces f.scale ts neat) [] 0 in
     let back : reverse (reverse ts) ≡ ts = reverse-reverse ts in
-    let state = formula_runs d [] 0 in
+    let state = derived_runs t [] 0 in
     let run_is : run (reverse ts) ≡ st at_whole state.0 state.1 (0 + length f.nodes) = run_go (reverse ts) ∙ (ap (λ z. go (Some start) z) back ∙ state.3) in
     let made : nodes_made (reverse ts) ≡ 0 + length f.nodes = run_nodes (reverse ts) _ run_is in
     let some = w.nodes.few in

@@ -1,16 +1,15 @@
 -- The printed text of a formula is read as its nodes.
-use Rattle.std.proofs.Common.{◌≡◌, ℕ, suc, ◌+◌, ◌-◌, ◌^◌, ◌<◌, ◌≤◌, List, [], ◌∷◌, ◌++◌, length, refl, ap, sym}
-use Rattle.std.proofs.Common.{subst, ◌∙◌, Bool, true, false, ◌&&◌, pos, negsuc, arith, append_assoc, length-append}
+use Rattle.std.proofs.Common.{◌≡◌, ℕ, suc, ◌+◌, ◌-◌, ◌^◌, ◌<◌, ◌≤◌, List, [], ◌∷◌, ◌++◌, length, refl, ap, sym, inl, inr, ◌⊎◌}
+use Rattle.std.proofs.Common.{subst, ◌∙◌, Bool, true, false, ◌&&◌, ◌||◌, pos, negsuc, arith, append_assoc, length-append}
 use Rattle.std.specs.Prelude.{codes, decimal, ◌==◌, nat_abs, neg_ℤ, ℤ, Option, Some, None, All, IsTrue, slice_get}
 use Rattle.std.proofs.lemmas.List.{append-nil}
 use Rattle.std.proofs.lemmas.List.Elements.{All-head, All-tail, All-cons, All-nil}
 use Rattle.std.proofs.lemmas.Bool.{eqb-true, and_parts}
+use Rattle.std.proofs.Math.Bool.{or-false}
 use Rattle.rational.proofs.Lists.{slice_get-append_here}
 use Rattle.stl_syntax.specs.Characters.{ticks}
 use Rattle.stl_syntax.specs.Names.{is_name}
-use Rattle.stl_syntax.specs.Formula.{Formula, Subformula, negation, conjunction, disjunction, implication, tree_of, subformula}
-use Rattle.stl_syntax.specs.Formula.{until as until_tree, since as since_tree, eventually as eventually_tree}
-use Rattle.stl_syntax.specs.Formula.{always as always_tree, once as once_tree, historically as historically_tree}
+use Rattle.stl_syntax.specs.Formula.{Formula, Subformula, tree_of, subformula}
 use Rattle.std.proofs.lemmas.List.Sums.{sum_by-cons}
 use Rattle.stl_syntax.proofs.FormulaLemmas.{subformula-at}
 use Rattle.stl_syntax.proofs.PostOrderLemmas.{placed}
@@ -18,8 +17,8 @@ use Rattle.stl_syntax.proofs.TreeLaw.{one_tree}
 use Rattle.stl_syntax.specs.PostOrder.{children, IsPostOrder, top, IsTreeFrom, leaf, one, two}
 use Rattle.stl_syntax.specs.WellFormed.{IsTermInLimits, IsAtomInLimits, IsLeafInLimits, HasBounds, IsInOrder, IsInWhereInfinite, IsWellFormed}
 use Rattle.stl_syntax.specs.Limits.{own_reach, reach_of_bound, reach}
-use Rattle.stl_syntax.specs.Print.{IsConstantText, relation_text, scaled_text, further_terms, terms_text, IsAtomText, opening}
-use Rattle.stl_syntax.specs.Print.{closing, IsBoundText, IsPastBoundText, has_two, InParens, IsPrinted, IsPrintedFormula}
+use Rattle.stl_syntax.specs.Print.{IsConstantText, relation_text, scaled_text, further_terms, terms_text, IsAtomText, opening, closing, IsBoundText}
+use Rattle.stl_syntax.specs.Print.{IsPastBoundText, has_two, InParens, Before, Between, Bare, Bounded as WithBound, IsPrinted, IsPrintedFormula}
 use Rattle.stl_syntax.specs.declared.scale.Scale.{Scale}
 use Rattle.stl_syntax.specs.declared.atom.Atom.{Atom}
 use Rattle.stl_syntax.specs.declared.atom.Term.{Term}
@@ -27,20 +26,21 @@ use Rattle.stl_syntax.specs.declared.rel.Rel.{Rel}
 use Rattle.stl_syntax.specs.declared.node.Node.{Node}
 use Rattle.stl_syntax.specs.declared.node.Node.TheVariants.{Const, Atom as Leaf, Not, And, Or, Implies, Until, Eventually, Always, Since, Once, Historically}
 use Rattle.stl_grammar.specs.Grammar.{Token, word, number, relation, open_paren, close_paren, open_bracket, close_bracket, comma, star, plus, minus, Lexes}
-use Rattle.stl_grammar.specs.Grammar.{IsConstant, plain, negative, IsTerm, scaled, AreTerms, more_plus}
-use Rattle.stl_grammar.specs.Grammar.{more_minus, IsAtom, first, signed, IsOpening, IsClosing, inside, outside}
-use Rattle.stl_grammar.specs.Grammar.{name as term_name, none as no_terms}
-use Rattle.stl_grammar.specs.Grammar.{IsFutureWindow, bound, IsPastWindow, nothing, bounded, unbounded, IsFuture, IsPast}
-use Rattle.stl_grammar.specs.Grammar.IsPast.{nothing as since_nothing, bounded as since_bounded, unbounded as since_unbounded}
-use Rattle.stl_grammar.specs.Grammar.{IsFormula, IsTimed, IsOperand, disjunct, implies, conjunct, or}
-use Rattle.stl_grammar.specs.Grammar.{timed, and, operand, until, since, not, eventually, always}
-use Rattle.stl_grammar.specs.Grammar.{once, historically, always_true, always_false, parens, atom}
-use Rattle.stl_grammar.specs.Grammar.{first_decimals, time_digits}
+use Rattle.stl_grammar.specs.Grammar.{IsConstant, plain, negative, IsTerm, scaled, AreTerms, more_plus, more_minus, IsAtom, first, signed}
+use Rattle.stl_grammar.specs.Grammar.{name as term_name, none as no_terms, IsFormula, first_decimals, time_digits}
+use Rattle.stl_grammar.specs.Machine.{Owner, of_until, of_since, of_future, of_past, looks_back, may_be_open}
+use Rattle.stl_grammar.specs.Refusing.{owner, is_beside}
 use Rattle.stl_grammar.specs.Tokens.{blank}
-use Rattle.stl_grammar.proofs.TokenEnds.{formula_ends, operand_ends, short_atom, short_signed}
-use Rattle.stl_grammar.proofs.TokenNeat.{ArePlain, IsNeat, constant_plain, neat_joined, neat_word, neat_parens, neat_window, neat_past, neat_since}
+use Rattle.stl_grammar.specs.declared.place.Timed.{Timed}
+use Rattle.stl_grammar.specs.declared.place.Timed.TheVariants.{Until as TUntil, Since as TSince, Eventually as TEventually}
+use Rattle.stl_grammar.specs.declared.place.Timed.TheVariants.{Always as TAlways, Once as TOnce, Historically as THistorically}
+use Rattle.stl_grammar.proofs.Derivations.{Connective, by_and, by_or, by_implies, connective_word, connective_node, timed_word, timed_node, upper}
+use Rattle.stl_grammar.proofs.Derivations.{Opens, opens_in, opens_out, Closes, closes_in, closes_out, by_brackets, Bounded, left_out, within, endless}
+use Rattle.stl_grammar.proofs.Derivations.{Operand, negated, prefixed, constant, enclosed, compared, Derived, joined, beside, alone, one_binds, as_formula}
+use Rattle.stl_grammar.proofs.TokenEnds.{derived_ends, operand_ends, short_atom, short_signed}
+use Rattle.stl_grammar.proofs.TokenNeat.{ArePlain, IsNeat, constant_plain, neat_joined, neat_word, neat_parens, neat_bound}
 use Rattle.stl_grammar.proofs.PrintedTokens.{Separates, Lexed, LexedAny, Parts, any_lexed, then_lexed, parted_any}
-use Rattle.stl_grammar.proofs.PrintedTokens.{parted, spaced, lexed_whole, lexed_word, lexed_name, paren_lexed}
+use Rattle.stl_grammar.proofs.PrintedTokens.{parted, spaced, lexed_whole, is_plain_word, word_lexed, lexed_name, paren_lexed}
 use Rattle.stl_grammar.proofs.PrintedTokens.{paren_end_lexed, bracket_lexed, bracket_end_lexed, comma_lexed, star_lexed}
 use Rattle.stl_grammar.proofs.PrintedTokens.{plus_lexed, minus_lexed, relation_lexed, integer_text, number_text}
 
@@ -164,17 +164,22 @@ atom_read s a text g (limit, h, e) =
     )
 
 -- bounds
-abbrev opening_read : (b : Bool) → (t : Token) × LexedAny (opening b) (t ∷ []) × IsOpening t b
-opening_read true = (open_bracket, bracket_lexed, inside)
-opening_read false = (close_bracket, bracket_end_lexed, outside)
+abbrev opening_read : (b : Bool) → (t : Token) × LexedAny (opening b) (t ∷ [])
+opening_read true = (open_bracket, bracket_lexed)
+opening_read false = (close_bracket, bracket_end_lexed)
 
-abbrev closing_read : (b : Bool) → (t : Token) × LexedAny (closing b) (t ∷ []) × IsClosing t b × Parts (closing b)
-closing_read true = (close_bracket, bracket_end_lexed, inside, λ z. (refl, refl))
-closing_read false = (open_bracket, bracket_lexed, outside, λ z. (refl, refl))
+abbrev closing_read : (b : Bool) → (t : Token) × LexedAny (closing b) (t ∷ []) × Parts (closing b)
+closing_read true = (close_bracket, bracket_end_lexed, λ z. (refl, refl))
+closing_read false = (open_bracket, bracket_lexed, λ z. (refl, refl))
 
--- a bound with two numbers
-abbrev FutureRead : Scale → ℕ → ℕ → Bool → Bool → List ℕ → Type 0
-FutureRead s a b a_in b_in text = (us : List Token) × LexedAny text us × Parts text × IsFutureWindow s.time us a b a_in b_in × (time_digits us ≤ s.time)
+-- the operator may have such an end
+opening_fits : (o : Owner) (x : Bool) → may_be_open o || x ≡ true → Opens o (opening_read x).0 x
+opening_fits o true e = opens_in
+opening_fits o false e = opens_out (sym (or-false (may_be_open o)) ∙ e)
+
+closing_fits : (o : Owner) (x : Bool) → may_be_open o || x ≡ true → Closes o (closing_read x).0 x
+closing_fits o true e = closes_in
+closing_fits o false e = closes_out (sym (or-false (may_be_open o)) ∙ e)
 
 -- brackets about two pieces
 about : (a_in b_in : Bool) (low high : List ℕ) (t u : Token) → Lexed low (t ∷ []) → Lexed high (u ∷ [])
@@ -185,130 +190,89 @@ about a_in b_in low high t u x y =
     let m = then_lexed (opening a_in) low (o.0 ∷ []) (t ∷ []) o.1 x in
     let n = parted_any (opening a_in ++ low) (codes ",") (o.0 ∷ t ∷ []) (comma ∷ []) m (λ z. (refl, refl)) comma_lexed in
     let p = then_lexed (opening a_in ++ low ++ codes ",") high (o.0 ∷ t ∷ comma ∷ []) (u ∷ []) n y in
-    parted_any (opening a_in ++ low ++ codes "," ++ high) (closing b_in) (o.0 ∷ t ∷ comma ∷ u ∷ []) (c.0 ∷ []) p c.3 c.1
+    parted_any (opening a_in ++ low ++ codes "," ++ high) (closing b_in) (o.0 ∷ t ∷ comma ∷ u ∷ []) (c.0 ∷ []) p c.2 c.1
 
 about_parts : (a_in b_in : Bool) (low high : List ℕ) → Parts (opening a_in ++ low ++ codes "," ++ high ++ closing b_in)
 about_parts true b_in low high z = (refl, refl)
 about_parts false b_in low high z = (refl, refl)
 
-bound_time : (a_in b_in : Bool) (v i w j d : ℕ) → i ≤ d → j ≤ d
-    → time_digits ((opening_read a_in).0 ∷ number v i ∷ comma ∷ number w j ∷ (closing_read b_in).0 ∷ []) ≤ d
-bound_time true true v i w j d l m = omega arith
-bound_time true false v i w j d l m = omega arith
-bound_time false true v i w j d l m = omega arith
-bound_time false false v i w j d l m = omega arith
+bound_time : {o : Owner} {t u : Token} {x y : Bool} (v i w j d : ℕ) → i ≤ d → j ≤ d → Opens o t x → Closes o u y
+    → time_digits (t ∷ number v i ∷ comma ∷ number w j ∷ u ∷ []) ≤ d
+bound_time v i w j d l m = by_brackets (λ t u. time_digits (t ∷ number v i ∷ comma ∷ number w j ∷ u ∷ []) ≤ d)
+    (omega arith) (omega arith) (omega arith) (omega arith)
 
-inf_time : (a_in b_in : Bool) (v i d : ℕ) → i ≤ d
-    → time_digits ((opening_read a_in).0 ∷ number v i ∷ comma ∷ word (codes "inf") ∷ (closing_read b_in).0 ∷ []) ≤ d
-inf_time true true v i d l = omega arith
-inf_time true false v i d l = omega arith
-inf_time false true v i d l = omega arith
-inf_time false false v i d l = omega arith
+inf_time : {o : Owner} {t u : Token} {x y : Bool} (v i d : ℕ) → i ≤ d → Opens o t x → Closes o u y
+    → time_digits (t ∷ number v i ∷ comma ∷ word (codes "inf") ∷ u ∷ []) ≤ d
+inf_time v i d l = by_brackets (λ t u. time_digits (t ∷ number v i ∷ comma ∷ word (codes "inf") ∷ u ∷ []) ≤ d)
+    (omega arith) (omega arith) (omega arith) (omega arith)
 
-future_read : (s : Scale) (a b : ℕ) (a_in b_in : Bool) (text : List ℕ) → a < 2 ^ 64 → b < 2 ^ 64
-    → IsBoundText s a (Some b) a_in b_in text → FutureRead s a b a_in b_in text
-future_read s a b a_in b_in text l m (low, high, h, k, e) =
-    let (v, i, x, f, f1, f2) = number_text s.time a low l h in
-    let (w, j, y, g, g1, g2) = number_text s.time b high m k in
-    let d : IsFutureWindow s.time ((opening_read a_in).0 ∷ number v i ∷ comma ∷ number w j ∷ (closing_read b_in).0 ∷ [])
-    (ticks s.time v i) (ticks s.time w j) a_in b_in =
-    bound (opening_read a_in).2 (closing_read b_in).2 in (
-      _,
-      rw e (about a_in b_in low high (number v i) (number w j) x y),
-      rw e (about_parts a_in b_in low high),
-      rw (f, g) at d,
-      bound_time a_in b_in v i w j s.time f1 g1,
-    )
+-- what a bound's text is read as, after a word
+abbrev BoundRead : Scale → Owner → ℕ → Option ℕ → Bool → Bool → List ℕ → Type 0
+BoundRead s o a b x y text = (us : List Token) × ((w : List ℕ) (ts : List Token) → Lexed w ts → Lexed (w ++ text) (ts ++ us))
+    × Bounded s.time o us a b x y × (time_digits us ≤ s.time)
 
--- the bound of an operator that looks back
-abbrev PastRead : Scale → ℕ → Option ℕ → Bool → Bool → List ℕ → Type 0
-PastRead s a b a_in b_in text = (us : List Token) × ((x : List ℕ) (ts : List Token) → Lexed x ts → Lexed (x ++ text) (ts ++ us))
-    × IsPastWindow s.time us a b a_in b_in × (time_digits us ≤ s.time)
+-- a bound whose numbers are within the limits, with brackets that the operator may have
+record IsOf (o : Owner) (a : ℕ) (b : Option ℕ) (x y : Bool) : Type 0 where
+  order : IsInOrder a b
+  reach : reach_of_bound a b ≤ 4294967295
+  infinite : IsInWhereInfinite b y
+  low : may_be_open o || x ≡ true
+  high : may_be_open o || y ≡ true
 
-of_future : {d a b : ℕ} {us : List Token} {x y : Bool} → IsFutureWindow d us a b x y → IsPastWindow d us a (Some b) x y
-of_future (bound o c) = bounded o c
+within_read : (s : Scale) (o : Owner) (a b : ℕ) (x y : Bool) (text : List ℕ) → a < 2 ^ 64 → b < 2 ^ 64 → Opens o (opening_read x).0 x
+    → Closes o (closing_read y).0 y → IsBoundText s a (Some b) x y text → BoundRead s o a (Some b) x y text
+within_read s o a b x y text l m c d (low, high, h, k, e) =
+    let (v, i, z, f, f1, f2) = number_text s.time a low l h in
+    let (w, j, q, g, g1, g2) = number_text s.time b high m k in
+    let us : List Token = (opening_read x).0 ∷ number v i ∷ comma ∷ number w j ∷ (closing_read y).0 ∷ [] in
+    let t : LexedAny text us = rw e (about x y low high (number v i) (number w j) z q) in
+    let p : Parts text = rw e (about_parts x y low high) in
+    let n : Bounded s.time o us (ticks s.time v i) (Some (ticks s.time w j)) x y = within c d in
+    (us, λ y ts r. any_lexed (y ++ text) (ts ++ us) (parted_any y text ts us r p t), rw (f, g) at n, bound_time v i w j s.time f1 g1 c d)
 
-past_bound : (s : Scale) (a : ℕ) (b : Option ℕ) (a_in b_in : Bool) (text : List ℕ) → a < 2 ^ 64 → IsInWhereInfinite b b_in → ((n : ℕ) → b ≡ Some n → n < 2 ^ 64)
-    → IsBoundText s a b a_in b_in text → PastRead s a b a_in b_in text
-past_bound s a (Some b) a_in b_in text l i m h =
-    let (us, x, p, w, sh) = future_read s a b a_in b_in text l (m b refl) h in
-    (us, λ y ts k. any_lexed (y ++ text) (ts ++ us) (parted_any y text ts us k p x), of_future w, sh)
-past_bound s a None a_in b_in text l i m (low, high, h, k, e) =
-    let (v, j, x, f, f1, f2) = number_text s.time a low l h in
-    let inf : Lexed high (word (codes "inf") ∷ []) = rw k (lexed_word 105 (codes "nf") refl refl) in
-    let d : IsPastWindow s.time ((opening_read a_in).0 ∷ number v j ∷ comma ∷ word (codes "inf") ∷ (closing_read b_in).0 ∷ [])
-    (ticks s.time v j) None a_in true =
-    unbounded (opening_read a_in).2 (closing_read b_in).2 in
-    let us : List Token = (opening_read a_in).0 ∷ number v j ∷ comma ∷ word (codes "inf") ∷ (closing_read b_in).0 ∷ [] in
-    let z : LexedAny text us = rw e (about a_in b_in low high (number v j) (word (codes "inf")) x inf) in
-    let parts : Parts text = rw e (about_parts a_in b_in low high) in
-    let w : IsPastWindow s.time us a None a_in b_in = subst (λ y. IsPastWindow s.time us a None a_in y) (sym i) (rw f at d) in
-    (us, λ y ts q. any_lexed (y ++ text) (ts ++ us) (parted_any y text ts us q parts z), w, inf_time a_in b_in v j s.time f1)
+endless_read : (s : Scale) (o : Owner) (a : ℕ) (x y : Bool) (text : List ℕ) → a < 2 ^ 64 → looks_back o ≡ true → y ≡ true
+    → Opens o (opening_read x).0 x → Closes o (closing_read y).0 y → IsBoundText s a None x y text → BoundRead s o a None x y text
+endless_read s o a x y text l back all c d (low, high, h, k, e) =
+    let (v, i, z, f, f1, f2) = number_text s.time a low l h in
+    let inf : Lexed high (word (codes "inf") ∷ []) = rw k (word_lexed (codes "inf") refl) in
+    let us : List Token = (opening_read x).0 ∷ number v i ∷ comma ∷ word (codes "inf") ∷ (closing_read y).0 ∷ [] in
+    let t : LexedAny text us = rw e (about x y low high (number v i) (word (codes "inf")) z inf) in
+    let p : Parts text = rw e (about_parts x y low high) in
+    let n : Bounded s.time o us (ticks s.time v i) None x true = endless back c d in
+    let m : Bounded s.time o us a None x y = subst (λ z. Bounded s.time o us a None x z) (sym all) (rw f at n) in
+    (us, λ y ts r. any_lexed (y ++ text) (ts ++ us) (parted_any y text ts us r p t), m, inf_time v i s.time f1 c d)
 
-past_read : (s : Scale) (a : ℕ) (b : Option ℕ) (a_in b_in : Bool) (text : List ℕ) → a < 2 ^ 64 → IsInWhereInfinite b b_in → ((n : ℕ) → b ≡ Some n → n < 2 ^ 64)
-    → IsPastBoundText s a b a_in b_in text → PastRead s a b a_in b_in text
-past_read s a (Some b) a_in b_in text l i m h = past_bound s a (Some b) a_in b_in text l i m h
-past_read s a None a_in b_in text l i m h = split ((a == 0) && a_in) refl
+bound_read : (s : Scale) (o : Owner) (a : ℕ) (b : Option ℕ) (x y : Bool) (text : List ℕ) → IsOf o a b x y → looks_back o ≡ true ⊎ Some (upper b) ≡ b
+    → IsBoundText s a b x y text → BoundRead s o a b x y text
+bound_read s o a (Some b) x y text l back h =
+    let order = l.order in let reach = l.reach in
+    within_read s o a b x y text (omega arith) (omega arith) (opening_fits o x l.low) (closing_fits o y l.high) h
+bound_read s o a None x y text l (inr e) h = absurd (cc)
+bound_read s o a None x y text l (inl back) h =
+    let reach = l.reach in endless_read s o a x y text (omega arith) back l.infinite (opening_fits o x l.low) (closing_fits o y l.high) h
+
+-- the bound of an operator that looks back may be left out
+past_read : (s : Scale) (o : Owner) (a : ℕ) (b : Option ℕ) (x y : Bool) (text : List ℕ) → IsOf o a b x y → looks_back o ≡ true
+    → IsPastBoundText s a b x y text → BoundRead s o a b x y text
+past_read s o a (Some b) x y text l back h = bound_read s o a (Some b) x y text l (inl back) h
+past_read s o a None x y text l back h = split ((a == 0) && x) refl
   where
-    split : (b : Bool) → ((a == 0) && a_in) ≡ b → PastRead s a None a_in b_in text
+    split : (b : Bool) → ((a == 0) && x) ≡ b → BoundRead s o a None x y text
     split true e =
         let t : text ≡ [] = rw e at h in
-        let p = and_parts (a == 0) a_in e in
-        let z : a ≡ 0 = eqb-true a 0 p.0 in
-        let w : IsPastWindow s.time [] a None a_in b_in = rw (z, p.1, i) nothing in
+        let p = and_parts (a == 0) x e in
+        let w : Bounded s.time o [] a None x y = rw (eqb-true a 0 p.0, p.1, l.infinite) (left_out back) in
         ([], λ y ts q. rw (t, append-nil y, append-nil ts) q, w, omega arith)
-    split false e = past_bound s a None a_in b_in text l i m (rw e at h)
-
--- the bound of `since` is closed
-abbrev SinceRead : Scale → ℕ → Option ℕ → List ℕ → Type 0
-SinceRead s a b text = (us : List Token) × ((x : List ℕ) (ts : List Token) → Lexed x ts → Lexed (x ++ text) (ts ++ us))
-    × IsPast s.time us a b × (time_digits us ≤ s.time)
-
-since_bound : (s : Scale) (a : ℕ) (b : Option ℕ) (text : List ℕ) → a < 2 ^ 64 → ((n : ℕ) → b ≡ Some n → n < 2 ^ 64)
-    → IsBoundText s a b true true text → SinceRead s a b text
-since_bound s a (Some b) text l m (low, high, h, k, e) =
-    let (v, i, x, f, f1, f2) = number_text s.time a low l h in
-    let (w, j, y, g, g1, g2) = number_text s.time b high (m b refl) k in
-    let d : IsPast s.time (open_bracket ∷ number v i ∷ comma ∷ number w j ∷ close_bracket ∷ []) (ticks s.time v i) (Some (ticks s.time w j)) = since_bounded in
-    let us : List Token = open_bracket ∷ number v i ∷ comma ∷ number w j ∷ close_bracket ∷ [] in
-    let z : LexedAny text us = rw e (about true true low high (number v i) (number w j) x y) in
-    let parts : Parts text = rw e (about_parts true true low high) in
-    (us, λ y ts q. any_lexed (y ++ text) (ts ++ us) (parted_any y text ts us q parts z), rw (f, g) at d, bound_time true true v i w j s.time f1 g1)
-since_bound s a None text l m (low, high, h, k, e) =
-    let (v, j, x, f, f1, f2) = number_text s.time a low l h in
-    let inf : Lexed high (word (codes "inf") ∷ []) = rw k (lexed_word 105 (codes "nf") refl refl) in
-    let d : IsPast s.time (open_bracket ∷ number v j ∷ comma ∷ word (codes "inf") ∷ close_bracket ∷ []) (ticks s.time v j) None = since_unbounded in
-    let us : List Token = open_bracket ∷ number v j ∷ comma ∷ word (codes "inf") ∷ close_bracket ∷ [] in
-    let z : LexedAny text us = rw e (about true true low high (number v j) (word (codes "inf")) x inf) in
-    let parts : Parts text = rw e (about_parts true true low high) in
-    (us, λ y ts q. any_lexed (y ++ text) (ts ++ us) (parted_any y text ts us q parts z), rw f at d, inf_time true true v j s.time f1)
-
-since_read : (s : Scale) (a : ℕ) (b : Option ℕ) (text : List ℕ) → a < 2 ^ 64 → ((n : ℕ) → b ≡ Some n → n < 2 ^ 64)
-    → IsPastBoundText s a b true true text → SinceRead s a b text
-since_read s a (Some b) text l m h = since_bound s a (Some b) text l m h
-since_read s a None text l m h = split ((a == 0) && true) refl
-  where
-    split : (b : Bool) → ((a == 0) && true) ≡ b → SinceRead s a None text
-    split true e =
-        let t : text ≡ [] = rw e at h in
-        let p = and_parts (a == 0) true e in
-        let z : a ≡ 0 = eqb-true a 0 p.0 in
-        let w : IsPast s.time [] a None = rw z since_nothing in
-        ([], λ y ts q. rw (t, append-nil y, append-nil ts) q, w, omega arith)
-    split false e = since_bound s a None text l m (rw e at h)
-
-until_read : (s : Scale) (a b : ℕ) (text : List ℕ) → a < 2 ^ 64 → b < 2 ^ 64 → IsBoundText s a (Some b) true true text
-    → (us : List Token) × LexedAny text us × Parts text × IsFuture s.time us a b × (time_digits us ≤ s.time)
-until_read s a b text l m h = let (us, x, p, w, sh) = future_read s a b true true text l m h in (us, x, p, w, sh)
+    split false e = bound_read s o a None x y text l (inl back) (rw e at h)
 
 -- what a tree's text is read as
 abbrev Parsed : Scale → ℕ → Bool → List ℕ → List Node → Type 0
-Parsed s k true text ns = (ts : List Token) × Lexed text ts × IsFormula s k ts ns × IsNeat s ts
-Parsed s k false text ns = (ts : List Token) × Lexed text ts × IsOperand s k ts ns × IsNeat s ts
+Parsed s k true text ns = (ts : List Token) × Lexed text ts × Derived s 1 k ts ns × IsNeat s ts
+Parsed s k false text ns = (ts : List Token) × Lexed text ts × Operand s k ts ns × IsNeat s ts
 
 -- and the same in parentheses where it has two operands
 abbrev OperandRead : Scale → ℕ → List ℕ → List Node → Type 0
-OperandRead s k text ns = (ts : List Token) × Lexed text ts × IsOperand s k ts ns × IsNeat s ts
+OperandRead s k text ns = (ts : List Token) × Lexed text ts × Operand s k ts ns × IsNeat s ts
 
 in_parens_read : (s : Scale) (k : ℕ) (two : Bool) (P : List ℕ → Type 0) (text : List ℕ) (ns : List Node)
     → ((inner : List ℕ) → P inner → Parsed s k two inner ns) → InParens two P text
@@ -319,64 +283,37 @@ in_parens_read s k true P text ns f (inner, h, e) =
     let b = parted_any (codes "(" ++ inner) (codes ")") (open_paren ∷ ts) (close_paren ∷ []) a (λ z. (refl, refl)) paren_end_lexed in (
       open_paren ∷ ts ++ close_paren ∷ [],
       rw e (any_lexed (codes "(" ++ inner ++ codes ")") (open_paren ∷ ts ++ close_paren ∷ []) b),
-      parens d,
-      neat_parens s ts (formula_ends d) sh,
+      enclosed d,
+      neat_parens s ts (derived_ends d) sh,
     )
 in_parens_read s k false P text ns f (inner, h, e) = let (ts, x, d, sh) = f inner h in (ts, rw e x, d, sh)
 
--- a formula of an operand
-whole_formula : {s : Scale} {k : ℕ} {ts : List Token} {ns : List Node} → IsTimed s k ts ns → IsFormula s k ts ns
-whole_formula t = disjunct (conjunct (timed t))
-
 parsed_formula : (s : Scale) (k : ℕ) (two : Bool) (text : List ℕ) (ns : List Node) → Parsed s k two text ns
     → (ts : List Token) × Lexed text ts × IsFormula s k ts ns × IsNeat s ts
-parsed_formula s k true text ns h = h
-parsed_formula s k false text ns (ts, x, p, sh) = (ts, x, whole_formula (operand p), sh)
+parsed_formula s k true text ns (ts, x, d, sh) = (ts, x, as_formula d, sh)
+parsed_formula s k false text ns (ts, x, p, sh) = (ts, x, as_formula {r = 1} (alone p), sh)
 
 -- a word, and an operand after it
 before_read : (word_text x : List ℕ) (ts us : List Token) → Lexed word_text ts → Lexed x us → Lexed (word_text ++ codes " " ++ x) (ts ++ us)
 before_read w x ts us a b = then_lexed (w ++ codes " ") x ts us (spaced w ts a) b
 
-between_read : (x w y : List ℕ) (ts us vs : List Token) → Lexed x ts → Lexed w us → Lexed y vs → Lexed (x ++ codes " " ++ w ++ codes " " ++ y) (ts ++ us ++ vs)
+-- a word between two operands
+between_read : (x w y : List ℕ) (ts us vs : List Token) → Lexed x ts → Lexed w us → Lexed y vs
+    → Lexed (x ++ codes " " ++ w ++ codes " " ++ y) (ts ++ (us ++ vs))
 between_read x w y ts us vs a b c =
     let m = then_lexed (x ++ codes " ") w ts us (spaced x ts a) b in
-    then_lexed (x ++ codes " " ++ w ++ codes " ") y (ts ++ us) vs (spaced (x ++ codes " " ++ w) (ts ++ us) m) c
+    rw (append_assoc ts us vs) at (then_lexed (x ++ codes " " ++ w ++ codes " ") y (ts ++ us) vs (spaced (x ++ codes " " ++ w) (ts ++ us) m) c)
 
-lexed_not : Lexed (codes "not") (word (codes "not") ∷ [])
-lexed_not = lexed_word 110 (codes "ot") refl refl
+connective_plain : (o : Connective) → is_plain_word (connective_word o) ≡ true
+connective_plain by_and = refl
+connective_plain _ = refl
 
-lexed_and : Lexed (codes "and") (word (codes "and") ∷ [])
-lexed_and = lexed_word 97 (codes "nd") refl refl
+timed_plain : (of : Timed) → is_plain_word (timed_word of) ≡ true
+timed_plain TUntil = refl
+timed_plain _ = refl
 
-lexed_or : Lexed (codes "or") (word (codes "or") ∷ [])
-lexed_or = lexed_word 111 (codes "r") refl refl
-
-lexed_implies : Lexed (codes "implies") (word (codes "implies") ∷ [])
-lexed_implies = lexed_word 105 (codes "mplies") refl refl
-
-lexed_until : Lexed (codes "until") (word (codes "until") ∷ [])
-lexed_until = lexed_word 117 (codes "ntil") refl refl
-
-lexed_since : Lexed (codes "since") (word (codes "since") ∷ [])
-lexed_since = lexed_word 115 (codes "ince") refl refl
-
-lexed_eventually : Lexed (codes "eventually") (word (codes "eventually") ∷ [])
-lexed_eventually = lexed_word 101 (codes "ventually") refl refl
-
-lexed_always : Lexed (codes "always") (word (codes "always") ∷ [])
-lexed_always = lexed_word 97 (codes "lways") refl refl
-
-lexed_once : Lexed (codes "once") (word (codes "once") ∷ [])
-lexed_once = lexed_word 111 (codes "nce") refl refl
-
-lexed_historically : Lexed (codes "historically") (word (codes "historically") ∷ [])
-lexed_historically = lexed_word 104 (codes "istorically") refl refl
-
-lexed_true : Lexed (codes "true") (word (codes "true") ∷ [])
-lexed_true = lexed_word 116 (codes "rue") refl refl
-
-lexed_false : Lexed (codes "false") (word (codes "false") ∷ [])
-lexed_false = lexed_word 102 (codes "alse") refl refl
+bare_neat : (s : Scale) (w : List ℕ) → IsNeat s (word w ∷ [])
+bare_neat s w = record { short = record { time = omega arith; value = omega arith }; plain = tt }
 
 -- a node whose numbers are within their limits
 pub record IsFit (n : Node) : Type 0 where
@@ -401,190 +338,122 @@ all_right P (x ∷ xs) ys h = all_right P xs ys (All-tail P x (xs ++ ys) h)
 pub all_last : (P : Node → Type 0) (xs : List Node) (n : Node) → All P (xs ++ n ∷ []) → P n
 all_last P xs n h = All-head P n [] (all_right P xs (n ∷ []) h)
 
-past_small : (a : ℕ) (b : Option ℕ) → IsInOrder a b → reach_of_bound a b ≤ 4294967295 → (a < 2 ^ 64) × ((n : ℕ) → b ≡ Some n → n < 2 ^ 64)
-past_small a None o r = (omega arith, λ n e. absurd (cc))
-past_small a (Some b) o r = (omega arith, λ n e. let f : b ≡ n = cc in omega arith)
-
 module _ (s : Scale) (at : ℕ → Subformula) where
   leaf_read : (k i : ℕ) (n : Node) (text : List ℕ) → children n ≡ [] → IsFit n → IsPrinted s (tree_of at i n) text
       → Parsed s k (has_two (tree_of at i n)) text (n ∷ [])
-  leaf_read k i (Const true) text e f h =
-      (word (codes "true") ∷ [], rw h lexed_true, always_true, record { short = record { time = omega arith; value = omega arith }; plain = tt })
-  leaf_read k i (Const false) text e f h =
-      (word (codes "false") ∷ [], rw h lexed_false, always_false, record { short = record { time = omega arith; value = omega arith }; plain = tt })
-  leaf_read k i (Leaf a) text e f h = let (ts, x, d, sh) = atom_read s a text f.atom h in (ts, x, atom d, sh)
+  leaf_read k i (Const true) text e f h = (word (codes "true") ∷ [], rw h (word_lexed (codes "true") refl), constant true, bare_neat s (codes "true"))
+  leaf_read k i (Const false) text e f h = (word (codes "false") ∷ [], rw h (word_lexed (codes "false") refl), constant false, bare_neat s (codes "false"))
+  leaf_read k i (Leaf a) text e f h = let (ts, x, d, sh) = atom_read s a text f.atom h in (ts, x, compared d, sh)
   leaf_read k i _ text e f h = absurd (cc)
 
   -- the operand of a node
+  abbrev Printed : ℕ → List ℕ → Type 0
+  Printed p = InParens (has_two (at p)) (IsPrinted s (at p))
+
   abbrev Reads : ℕ → List Node → ℕ → Type 0
-  Reads k ns p = (inner : List ℕ) → IsPrinted s (at p) inner → Parsed s k (has_two (at p)) inner ns
+  Reads k ns p = (x : List ℕ) → Printed p x → OperandRead s k x ns
 
-  not_read : (k : ℕ) (ns : List Node) (text : List ℕ) → Reads k ns (top k ns) → IsPrinted s (negation (at (top k ns))) text
-      → Parsed s k false text (ns ++ Not (top k ns) ∷ [])
-  not_read k ns text f (w, x, g, h, e) =
-      let (ts, y, d, sh) = in_parens_read s k (has_two (at (top k ns))) (IsPrinted s (at (top k ns))) x ns f h in
-      (word (codes "not") ∷ ts, rw (e, g) (before_read (codes "not") x (word (codes "not") ∷ []) ts lexed_not y), not d, neat_word s (codes "not") ts sh)
+  reads_of : (k : ℕ) (ns : List Node) → ((inner : List ℕ) → IsPrinted s (at (top k ns)) inner → Parsed s k (has_two (at (top k ns))) inner ns)
+      → Reads k ns (top k ns)
+  reads_of k ns f x h = in_parens_read s k (has_two (at (top k ns))) (IsPrinted s (at (top k ns))) x ns f h
 
-  eventually_read : (k : ℕ) (ns : List Node) (a b : ℕ) (a_in b_in : Bool) (text : List ℕ) → a < 2 ^ 64 → b < 2 ^ 64 → Reads k ns (top k ns)
-      → IsPrinted s (eventually_tree a b a_in b_in (at (top k ns))) text → Parsed s k false text (ns ++ Eventually (top k ns) a b a_in b_in ∷ [])
-  eventually_read k ns a b a_in b_in text l m f (w, x, (bd, g, gw), h, e) =
-      let (ts, y, d, sh) = in_parens_read s k (has_two (at (top k ns))) (IsPrinted s (at (top k ns))) x ns f h in
-      let (us, z, p, v, few) = future_read s a b a_in b_in bd l m g in
-      let q = any_lexed (codes "eventually" ++ bd) (word (codes "eventually") ∷ us) (parted_any (codes "eventually") bd
-      (word (codes "eventually") ∷ []) us lexed_eventually p z) in (
-        word (codes "eventually") ∷ us ++ ts,
-        rw (e, gw) (before_read (codes "eventually" ++ bd) x (word (codes "eventually") ∷ us) ts q y),
-        eventually v d,
-        neat_word s (codes "eventually") (us ++ ts) (neat_window s ts v few sh),
-      )
-
-  always_read : (k : ℕ) (ns : List Node) (a b : ℕ) (a_in b_in : Bool) (text : List ℕ) → a < 2 ^ 64 → b < 2 ^ 64 → Reads k ns (top k ns)
-      → IsPrinted s (always_tree a b a_in b_in (at (top k ns))) text → Parsed s k false text (ns ++ Always (top k ns) a b a_in b_in ∷ [])
-  always_read k ns a b a_in b_in text l m f (w, x, (bd, g, gw), h, e) =
-      let (ts, y, d, sh) = in_parens_read s k (has_two (at (top k ns))) (IsPrinted s (at (top k ns))) x ns f h in
-      let (us, z, p, v, few) = future_read s a b a_in b_in bd l m g in
-      let q = any_lexed (codes "always" ++ bd) (word (codes "always") ∷ us) (parted_any (codes "always") bd
-      (word (codes "always") ∷ []) us lexed_always p z) in (
-        word (codes "always") ∷ us ++ ts,
-        rw (e, gw) (before_read (codes "always" ++ bd) x (word (codes "always") ∷ us) ts q y),
-        always v d,
-        neat_word s (codes "always") (us ++ ts) (neat_window s ts v few sh),
-      )
-
-  once_read : (k : ℕ) (ns : List Node) (a : ℕ) (b : Option ℕ) (a_in b_in : Bool) (text : List ℕ) → a < 2 ^ 64
-      → ((n : ℕ) → b ≡ Some n → n < 2 ^ 64) → IsInWhereInfinite b b_in
-      → Reads k ns (top k ns) → IsPrinted s (once_tree a b a_in b_in (at (top k ns))) text → Parsed s k false text (ns ++ Once (top k ns) a b a_in b_in ∷ [])
-  once_read k ns a b a_in b_in text l m i f (w, x, (bd, g, gw), h, e) =
-      let (ts, y, d, sh) = in_parens_read s k (has_two (at (top k ns))) (IsPrinted s (at (top k ns))) x ns f h in
-      let (us, z, v, few) = past_read s a b a_in b_in bd l i m g in (
-        word (codes "once") ∷ us ++ ts,
-        rw (e, gw) (before_read (codes "once" ++ bd) x (word (codes "once") ∷ us) ts (z (codes "once") (word (codes "once") ∷ []) lexed_once) y),
-        once v d,
-        neat_word s (codes "once") (us ++ ts) (neat_past s ts v few sh),
-      )
-
-  historically_read : (k : ℕ) (ns : List Node) (a : ℕ) (b : Option ℕ) (a_in b_in : Bool) (text : List ℕ) → a < 2 ^ 64
-      → ((n : ℕ) → b ≡ Some n → n < 2 ^ 64) → IsInWhereInfinite b b_in
-      → Reads k ns (top k ns) → IsPrinted s (historically_tree a b a_in b_in (at (top k ns))) text
-      → Parsed s k false text (ns ++ Historically (top k ns) a b a_in b_in ∷ [])
-  historically_read k ns a b a_in b_in text l m i f (w, x, (bd, g, gw), h, e) =
-      let (ts, y, d, sh) = in_parens_read s k (has_two (at (top k ns))) (IsPrinted s (at (top k ns))) x ns f h in
-      let (us, z, v, few) = past_read s a b a_in b_in bd l i m g in (
-        word (codes "historically") ∷ us ++ ts,
-        rw (e, gw) (before_read (codes "historically" ++ bd) x (word (codes "historically") ∷ us) ts
-            (z (codes "historically") (word (codes "historically") ∷ []) lexed_historically) y),
-        historically v d,
-        neat_word s (codes "historically") (us ++ ts) (neat_past s ts v few sh),
+  -- an operator with a bound before its operand
+  timed_read : (of : Timed) → is_beside of ≡ false → (k : ℕ) (ns : List Node) (a : ℕ) (b : Option ℕ) (x y : Bool) (Bound : List ℕ → Type 0)
+      → ((bd : List ℕ) → Bound bd → BoundRead s (owner of) a b x y bd) → (text : List ℕ) → Reads k ns (top k ns)
+      → Before (WithBound (timed_word of) Bound) (Printed (top k ns)) text → Parsed s k false text (ns ++ timed_node of a b x y 0 (top k ns) ∷ [])
+  timed_read of side k ns a b x y Bound read text f (w, z, (bd, g, gw), h, e) =
+      let (ts, c, d, sh) = f z h in
+      let (us, q, v, few) = read bd g in
+      let t : Token = word (timed_word of) in (
+        t ∷ (us ++ ts),
+        rw (e, gw) (before_read (timed_word of ++ bd) z (t ∷ us) ts (q (timed_word of) (t ∷ []) (word_lexed (timed_word of) (timed_plain of))) c),
+        prefixed of side v d,
+        neat_word s (timed_word of) (us ++ ts) (neat_bound s ts v few sh),
       )
 
   one_read : (k i : ℕ) (ns : List Node) (n : Node) (text : List ℕ) → children n ≡ top k ns ∷ [] → IsFit n → Reads k ns (top k ns)
       → IsPrinted s (tree_of at i n) text
       → Parsed s k (has_two (tree_of at i n)) text (ns ++ n ∷ [])
-  one_read k i ns (Not p) text e f r h = let g : p ≡ top k ns = cc in rw g (not_read k ns text r (rw g at h))
-  one_read k i ns (Eventually p a b a_in b_in) text e f r h =
-      let g : p ≡ top k ns = cc in rw g (eventually_read k ns a b a_in b_in text (omega (arith, f.bounds, f.reach)) (omega (arith, f.reach)) r (rw g at h))
-  one_read k i ns (Always p a b a_in b_in) text e f r h =
-      let g : p ≡ top k ns = cc in rw g (always_read k ns a b a_in b_in text (omega (arith, f.bounds, f.reach)) (omega (arith, f.reach)) r (rw g at h))
-  one_read k i ns (Once p a b a_in b_in) text e f r h =
-      let g : p ≡ top k ns = cc in let z = past_small a b f.bounds.0 f.reach in rw g (once_read k ns a b a_in b_in text z.0 z.1 f.bounds.1 r (rw g at h))
-  one_read k i ns (Historically p a b a_in b_in) text e f r h =
+  one_read k i ns (Not p) text e f r h = let g : p ≡ top k ns = cc in rw g (by_text (rw g at h))
+    where
+      by_text : Before (Bare (codes "not")) (Printed (top k ns)) text → Parsed s k false text (ns ++ Not (top k ns) ∷ [])
+      by_text (w, x, g, h, e) =
+          let (ts, y, d, sh) = r x h in (
+            word (codes "not") ∷ ts,
+            rw (e, g) (before_read (codes "not") x (word (codes "not") ∷ []) ts (word_lexed (codes "not") refl) y),
+            negated d,
+            neat_word s (codes "not") ts sh,
+          )
+  one_read k i ns (Eventually p a b x y) text e f r h =
+      let l : IsOf of_future a (Some b) x y = record { order = f.bounds; reach = f.reach; infinite = tt; low = refl; high = refl } in
       let g : p ≡ top k ns = cc in
-      let z = past_small a b f.bounds.0 f.reach in
-      rw g (historically_read k ns a b a_in b_in text z.0 z.1 f.bounds.1 r (rw g at h))
+      rw g (timed_read TEventually refl k ns a (Some b) x y _ (λ bd h. bound_read s of_future a (Some b) x y bd l (inr refl) h) text r (rw g at h))
+  one_read k i ns (Always p a b x y) text e f r h =
+      let l : IsOf of_future a (Some b) x y = record { order = f.bounds; reach = f.reach; infinite = tt; low = refl; high = refl } in
+      let g : p ≡ top k ns = cc in
+      rw g (timed_read TAlways refl k ns a (Some b) x y _ (λ bd h. bound_read s of_future a (Some b) x y bd l (inr refl) h) text r (rw g at h))
+  one_read k i ns (Once p a b x y) text e f r h =
+      let l : IsOf of_past a b x y = record { order = f.bounds.0; reach = f.reach; infinite = f.bounds.1; low = refl; high = refl } in
+      let g : p ≡ top k ns = cc in
+      rw g (timed_read TOnce refl k ns a b x y _ (λ bd h. past_read s of_past a b x y bd l refl h) text r (rw g at h))
+  one_read k i ns (Historically p a b x y) text e f r h =
+      let l : IsOf of_past a b x y = record { order = f.bounds.0; reach = f.reach; infinite = f.bounds.1; low = refl; high = refl } in
+      let g : p ≡ top k ns = cc in
+      rw g (timed_read THistorically refl k ns a b x y _ (λ bd h. past_read s of_past a b x y bd l refl h) text r (rw g at h))
   one_read k i ns _ text e f r h = absurd (cc)
 
-  -- a word between two operands
-  joined_lexed : (x w y : List ℕ) (ts us vs : List Token) → Lexed x ts → Lexed w us → Lexed y vs
-      → Lexed (x ++ codes " " ++ w ++ codes " " ++ y) (ts ++ (us ++ vs))
-  joined_lexed x w y ts us vs a b c = rw (append_assoc ts us vs) at (between_read x w y ts us vs a b c)
-
-  and_read : (k : ℕ) (ns ms : List Node) (text : List ℕ) → Reads k ns (top k ns) → Reads (k + length ns) ms (top (k + length ns) ms)
-      → IsPrinted s (conjunction (at (top k ns)) (at (top (k + length ns) ms))) text
-      → Parsed s k true text (ns ++ ms ++ And (top k ns) (top (k + length ns) ms) ∷ [])
-  and_read k ns ms text f g (x, w, y, h, i, j, e) =
-      let (ts, a, d, sh) = in_parens_read s k (has_two (at (top k ns))) (IsPrinted s (at (top k ns))) x ns f h in
-      let (us, b, c, sh2) = in_parens_read s (k + length ns) (has_two (at (top (k + length ns) ms))) (IsPrinted s (at (top (k + length ns) ms))) y ms g j in (
-        ts ++ word (codes "and") ∷ us,
-        rw (e, i) (joined_lexed x (codes "and") y ts (word (codes "and") ∷ []) us a lexed_and b),
-        disjunct (conjunct (and (timed (operand d)) (operand c))),
-        neat_joined s ts (word (codes "and") ∷ us) (operand_ends d) refl refl sh (neat_word s (codes "and") us sh2),
-      )
-
-  or_read : (k : ℕ) (ns ms : List Node) (text : List ℕ) → Reads k ns (top k ns) → Reads (k + length ns) ms (top (k + length ns) ms)
-      → IsPrinted s (disjunction (at (top k ns)) (at (top (k + length ns) ms))) text
-      → Parsed s k true text (ns ++ ms ++ Or (top k ns) (top (k + length ns) ms) ∷ [])
-  or_read k ns ms text f g (x, w, y, h, i, j, e) =
-      let (ts, a, d, sh) = in_parens_read s k (has_two (at (top k ns))) (IsPrinted s (at (top k ns))) x ns f h in
-      let (us, b, c, sh2) = in_parens_read s (k + length ns) (has_two (at (top (k + length ns) ms))) (IsPrinted s (at (top (k + length ns) ms))) y ms g j in (
-        ts ++ word (codes "or") ∷ us,
-        rw (e, i) (joined_lexed x (codes "or") y ts (word (codes "or") ∷ []) us a lexed_or b),
-        disjunct (or (conjunct (timed (operand d))) (timed (operand c))),
-        neat_joined s ts (word (codes "or") ∷ us) (operand_ends d) refl refl sh (neat_word s (codes "or") us sh2),
-      )
-
-  implies_read : (k : ℕ) (ns ms : List Node) (text : List ℕ) → Reads k ns (top k ns) → Reads (k + length ns) ms (top (k + length ns) ms)
-      → IsPrinted s (implication (at (top k ns)) (at (top (k + length ns) ms))) text
-      → Parsed s k true text (ns ++ ms ++ Implies (top k ns) (top (k + length ns) ms) ∷ [])
-  implies_read k ns ms text f g (x, w, y, h, i, j, e) =
-      let (ts, a, d, sh) = in_parens_read s k (has_two (at (top k ns))) (IsPrinted s (at (top k ns))) x ns f h in
-      let (us, b, c, sh2) = in_parens_read s (k + length ns) (has_two (at (top (k + length ns) ms))) (IsPrinted s (at (top (k + length ns) ms))) y ms g j in (
-        ts ++ word (codes "implies") ∷ us,
-        rw (e, i) (joined_lexed x (codes "implies") y ts (word (codes "implies") ∷ []) us a lexed_implies b),
-        implies (conjunct (timed (operand d))) (whole_formula (operand c)),
-        neat_joined s ts (word (codes "implies") ∷ us) (operand_ends d) refl refl sh (neat_word s (codes "implies") us sh2),
-      )
-
-  until_tree_read : (k : ℕ) (ns ms : List Node) (l r : ℕ) (text : List ℕ) → l < 2 ^ 64 → r < 2 ^ 64 → Reads k ns (top k ns)
+  -- a connective between its operands
+  connective_read : (o : Connective) (k : ℕ) (ns ms : List Node) (text : List ℕ) → Reads k ns (top k ns)
       → Reads (k + length ns) ms (top (k + length ns) ms)
-      → IsPrinted s (until_tree l r (at (top k ns)) (at (top (k + length ns) ms))) text
-      → Parsed s k true text (ns ++ ms ++ Until (top k ns) (top (k + length ns) ms) l r ∷ [])
-  until_tree_read k ns ms l r text m n f g (x, w, y, h, (bd, i, iw), j, e) =
-      let (ts, a, d, sh) = in_parens_read s k (has_two (at (top k ns))) (IsPrinted s (at (top k ns))) x ns f h in
-      let (us, b, c, sh2) = in_parens_read s (k + length ns) (has_two (at (top (k + length ns) ms))) (IsPrinted s (at (top (k + length ns) ms))) y ms g j in
-      let (vs, z, p, v, few) = until_read s l r bd m n i in
-      let q = any_lexed (codes "until" ++ bd) (word (codes "until") ∷ vs) (parted_any (codes "until") bd (word (codes "until") ∷ []) vs lexed_until p z) in (
-        ts ++ word (codes "until") ∷ vs ++ us,
-        rw (e, iw) (between_read x (codes "until" ++ bd) y ts (word (codes "until") ∷ vs) us a q b),
-        whole_formula (until d v c),
-        rw (append_assoc ts (word (codes "until") ∷ vs) us) (neat_joined s ts (word (codes "until") ∷ (vs ++ us))
-            (operand_ends d) refl refl sh (neat_word s (codes "until") (vs ++ us) (neat_window s us v few sh2))),
+      → Between (Printed (top k ns)) (Bare (connective_word o)) (Printed (top (k + length ns) ms)) text
+      → Parsed s k true text (ns ++ ms ++ connective_node o (top k ns) (top (k + length ns) ms) ∷ [])
+  connective_read o k ns ms text f g (x, w, y, h, i, j, e) =
+      let (ts, a, d, sh) = f x h in
+      let (us, b, c, sh2) = g y j in
+      let t : Token = word (connective_word o) in (
+        ts ++ t ∷ us,
+        rw (e, i) (between_read x (connective_word o) y ts (t ∷ []) us a (word_lexed (connective_word o) (connective_plain o)) b),
+        joined o (one_binds o) (alone d) (alone c),
+        neat_joined s ts (t ∷ us) (operand_ends d) refl refl sh (neat_word s (connective_word o) us sh2),
       )
 
-  since_tree_read : (k : ℕ) (ns ms : List Node) (l : ℕ) (r : Option ℕ) (text : List ℕ) → l < 2 ^ 64
-      → ((n : ℕ) → r ≡ Some n → n < 2 ^ 64) → Reads k ns (top k ns)
-      → Reads (k + length ns) ms (top (k + length ns) ms) → IsPrinted s (since_tree l r (at (top k ns)) (at (top (k + length ns) ms))) text
-      → Parsed s k true text (ns ++ ms ++ Since (top k ns) (top (k + length ns) ms) l r ∷ [])
-  since_tree_read k ns ms l r text m n f g (x, w, y, h, (bd, i, iw), j, e) =
-      let (ts, a, d, sh) = in_parens_read s k (has_two (at (top k ns))) (IsPrinted s (at (top k ns))) x ns f h in
-      let (us, b, c, sh2) = in_parens_read s (k + length ns) (has_two (at (top (k + length ns) ms))) (IsPrinted s (at (top (k + length ns) ms))) y ms g j in
-      let (vs, z, v, few) = since_read s l r bd m n i in (
-        ts ++ word (codes "since") ∷ vs ++ us,
-        rw (e, iw) (between_read x (codes "since" ++ bd) y ts (word (codes "since") ∷ vs) us a (z (codes "since") (word (codes "since") ∷ []) lexed_since) b),
-        whole_formula (since d v c),
-        rw (append_assoc ts (word (codes "since") ∷ vs) us) (neat_joined s ts (word (codes "since") ∷ (vs ++ us))
-            (operand_ends d) refl refl sh (neat_word s (codes "since") (vs ++ us) (neat_since s us v few sh2))),
+  -- and an operator with a bound
+  beside_read : (of : Timed) → is_beside of ≡ true → (k : ℕ) (ns ms : List Node) (a : ℕ) (b : Option ℕ) (Bound : List ℕ → Type 0)
+      → ((bd : List ℕ) → Bound bd → BoundRead s (owner of) a b true true bd) → (text : List ℕ) → Reads k ns (top k ns)
+      → Reads (k + length ns) ms (top (k + length ns) ms)
+      → Between (Printed (top k ns)) (WithBound (timed_word of) Bound) (Printed (top (k + length ns) ms)) text
+      → Parsed s k true text (ns ++ ms ++ timed_node of a b true true (top k ns) (top (k + length ns) ms) ∷ [])
+  beside_read of side k ns ms l r Bound read text f g (x, w, y, h, (bd, i, iw), j, e) =
+      let (ts, a, d, sh) = f x h in
+      let (us, b, c, sh2) = g y j in
+      let (vs, q, v, few) = read bd i in
+      let t : Token = word (timed_word of) in (
+        ts ++ t ∷ (vs ++ us),
+        rw (e, iw) (between_read x (timed_word of ++ bd) y ts (t ∷ vs) us a (q (timed_word of) (t ∷ []) (word_lexed (timed_word of) (timed_plain of))) b),
+        beside of side (omega arith) d v c,
+        neat_joined s ts (t ∷ (vs ++ us)) (operand_ends d) refl refl sh (neat_word s (timed_word of) (vs ++ us) (neat_bound s us v few sh2)),
       )
 
   two_read : (k i : ℕ) (ns ms : List Node) (n : Node) (text : List ℕ) → children n ≡ top k ns ∷ top (k + length ns) ms ∷ [] → IsFit n → Reads k ns (top k ns)
       → Reads (k + length ns) ms (top (k + length ns) ms) → IsPrinted s (tree_of at i n) text → Parsed s k (has_two (tree_of at i n)) text (ns ++ ms ++ n ∷ [])
   two_read k i ns ms (And p q) text e f r t h =
-      let g : p ≡ top k ns = cc in
-      let j : q ≡ top (k + length ns) ms = cc in
-      rw (g, j) (and_read k ns ms text r t (rw (g, j) at h))
+      let g : p ≡ top k ns = cc in let j : q ≡ top (k + length ns) ms = cc in rw (g, j) (connective_read by_and k ns ms text r t (rw (g, j) at h))
   two_read k i ns ms (Or p q) text e f r t h =
-      let g : p ≡ top k ns = cc in
-      let j : q ≡ top (k + length ns) ms = cc in
-      rw (g, j) (or_read k ns ms text r t (rw (g, j) at h))
+      let g : p ≡ top k ns = cc in let j : q ≡ top (k + length ns) ms = cc in rw (g, j) (connective_read by_or k ns ms text r t (rw (g, j) at h))
   two_read k i ns ms (Implies p q) text e f r t h =
-      let g : p ≡ top k ns = cc in
-      let j : q ≡ top (k + length ns) ms = cc in
-      rw (g, j) (implies_read k ns ms text r t (rw (g, j) at h))
+      let g : p ≡ top k ns = cc in let j : q ≡ top (k + length ns) ms = cc in rw (g, j) (connective_read by_implies k ns ms text r t (rw (g, j) at h))
   two_read k i ns ms (Until p q a b) text e f r t h =
+      let l : IsOf of_until a (Some b) true true = record { order = f.bounds; reach = f.reach; infinite = tt; low = refl; high = refl } in
       let g : p ≡ top k ns = cc in let j : q ≡ top (k + length ns) ms = cc in
-      rw (g, j) (until_tree_read k ns ms a b text (omega (arith, f.bounds, f.reach)) (omega (arith, f.reach)) r t (rw (g, j) at h))
+      rw (g, j) (beside_read TUntil refl k ns ms a (Some b) _ (λ bd h. bound_read s of_until a (Some b) true true bd l (inr refl) h) text r t (rw (g, j) at h))
   two_read k i ns ms (Since p q a b) text e f r t h =
-      let g : p ≡ top k ns = cc in let j : q ≡ top (k + length ns) ms = cc in let z = past_small a b f.bounds f.reach in
-      rw (g, j) (since_tree_read k ns ms a b text z.0 z.1 r t (rw (g, j) at h))
+      let l : IsOf of_since a b true true = record { order = f.bounds; reach = f.reach; infinite = closed b; low = refl; high = refl } in
+      let g : p ≡ top k ns = cc in let j : q ≡ top (k + length ns) ms = cc in
+      rw (g, j) (beside_read TSince refl k ns ms a b _ (λ bd h. past_read s of_since a b true true bd l refl h) text r t (rw (g, j) at h))
+    where
+      closed : (b : Option ℕ) → IsInWhereInfinite b true
+      closed None = refl
+      closed (Some b) = tt
   two_read k i ns ms _ text e f r t h = absurd (cc)
 
 module _ (s : Scale) (all : List Node) (order : IsPostOrder all) where
@@ -608,7 +477,8 @@ module _ (s : Scale) (all : List Node) (order : IsPostOrder all) where
       let b = last_is pre ns post k n a l in
       let r = λ (inner : List ℕ) (i : IsPrinted s (subformula all (top k ns)) inner).
       tree_read t pre (n ∷ post) (a ∙ simp append_assoc) l (all_left IsFit ns (n ∷ []) f) inner i in
-      let x = one_read s (subformula all) k (top k (ns ++ n ∷ [])) ns n text e (all_last IsFit ns n f) r (rw b at h) in rw b x
+      let x = one_read s (subformula all) k (top k (ns ++ n ∷ [])) ns n text e (all_last IsFit ns n f) (reads_of s (subformula all) k ns r) (rw b at h) in
+      rw b x
   tree_read {k} (two {ns = ns} {ms} n t u e) pre post a l f text h =
       let b = last_is pre (ns ++ ms) post k n a l in
       let g = all_left IsFit (ns ++ ms) (n ∷ []) f in
@@ -616,7 +486,8 @@ module _ (s : Scale) (all : List Node) (order : IsPostOrder all) where
       tree_read t pre (ms ++ n ∷ post) (a ∙ simp append_assoc) l (all_left IsFit ns ms g) inner i in
       let q = λ (inner : List ℕ) (i : IsPrinted s (subformula all (top (k + length ns) ms)) inner).
       tree_read u (pre ++ ns) (n ∷ post) (a ∙ simp append_assoc) (omega (arith, l, length-append pre ns)) (all_right IsFit ns ms g) inner i in
-      let x = two_read s (subformula all) k (top k (ns ++ ms ++ n ∷ [])) ns ms n text e (all_last IsFit (ns ++ ms) n f) r q (rw b at h) in rw b x
+      let x = two_read s (subformula all) k (top k (ns ++ ms ++ n ∷ [])) ns ms n text e (all_last IsFit (ns ++ ms) n f)
+      (reads_of s (subformula all) k ns r) (reads_of s (subformula all) (k + length ns) ms q) (rw b at h) in rw b x
 
 -- a node's own reach is at most the sum
 pub each_reach : (nodes : List Node) → reach nodes ≤ 4294967295 → All (λ n. own_reach n ≤ 4294967295) nodes

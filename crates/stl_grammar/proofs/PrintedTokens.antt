@@ -87,6 +87,15 @@ no_decimals (c ∷ d ∷ z) s = rw (no_point c s.0) refl
 pub lexed_word : (c : ℕ) (rest : List ℕ) → begins_word c ≡ true → all goes_on_word rest ≡ true → Lexed (c ∷ rest) (word (c ∷ rest) ∷ [])
 lexed_word c rest b a z us s l = token (c ∷ rest) z refl (a_word b a (stops_word z s)) l
 
+abbrev pub is_plain_word : List ℕ → Bool
+is_plain_word [] = false
+is_plain_word (c ∷ rest) = begins_word c && all goes_on_word rest
+
+-- a word of letters
+pub word_lexed : (w : List ℕ) → is_plain_word w ≡ true → Lexed w (word w ∷ [])
+word_lexed [] e = absurd (cc)
+word_lexed (c ∷ rest) e = let p = and_parts (begins_word c) (all goes_on_word rest) e in lexed_word c rest p.0 p.1
+
 -- names
 pub lexed_name : (name : List ℕ) → IsTrue (is_name name) → Lexed name (word name ∷ []) × (is_among name reserved ≡ false)
 lexed_name [] h = absurd (cc)

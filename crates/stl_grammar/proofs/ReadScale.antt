@@ -1,28 +1,28 @@
 -- The scale of a formula that was read is the least that holds its numbers.
-use Rattle.std.proofs.Common.{◌≡◌, ℕ, zero, suc, ◌+◌, ◌-◌, ◌*◌, ◌^◌, ◌%◌, ◌<◌, ◌≤◌, List, [], ◌∷◌, ◌++◌, length}
+use Rattle.std.proofs.Common.{◌≡◌, ℕ, zero, suc, ◌-◌, ◌*◌, ◌^◌, ◌%◌, ◌<◌, ◌≤◌, List, [], ◌∷◌, ◌++◌, length}
 use Rattle.std.proofs.Common.{reverse, refl, ap, sym, ◌∙◌, Bool, true, false, max, arith, append_assoc, inl, inr, ◌⊎◌}
 use Rattle.std.specs.Prelude.{codes, ◌==◌, nat_abs, Option}
-use Rattle.std.proofs.lemmas.List.{reverse-append}
+use Rattle.std.proofs.lemmas.List.{append-nil, reverse-append}
 use Rattle.std.proofs.lemmas.Bool.{cases_order, and_parts}
 use Rattle.std.proofs.lemmas.Bool.Decides.{nat_tests}
 use Rattle.stl_syntax.specs.Characters.{is_digit, all, decimal_value, without_zeros, after_first, ticks}
 use Rattle.stl_syntax.specs.declared.scale.Scale.{Scale}
 use Rattle.stl_syntax.specs.declared.node.Node.{Node}
-use Rattle.stl_syntax.specs.declared.node.Node.TheVariants.{Atom as Leaf, Not, Until, Eventually, Always, Since, Once, Historically}
+use Rattle.stl_syntax.specs.declared.node.Node.TheVariants.{Atom as Leaf}
+use Rattle.stl_syntax.specs.declared.atom.Atom.{Atom}
 use Rattle.stl_syntax.proofs.DecimalLemmas.{decimal_value-push, all-without_zeros}
-use Rattle.stl_grammar.specs.Tokens.{a_word, an_integer, a_decimal, at_least, at_most, above, below, paren, paren_end, bracket}
-use Rattle.stl_grammar.specs.Tokens.{bracket_end, a_comma, a_star, a_plus, a_minus, Lexes, nothing as no_text, token, blank}
-use Rattle.stl_grammar.specs.Grammar.{top, Token, word, number, relation, close_paren, first_decimals, value_digits, time_digits}
+use Rattle.stl_grammar.specs.Tokens.{an_integer, a_decimal, Lexes, nothing as no_text, token, blank}
+use Rattle.stl_grammar.specs.Grammar.{Token, word, number, relation, open_paren, close_paren, comma, first_decimals, value_digits, time_digits}
 use Rattle.stl_grammar.specs.Grammar.{IsConstant, plain, positive, negative, IsAtom, first, signed}
-use Rattle.stl_grammar.specs.Grammar.{inside, outside, IsFutureWindow, bound, IsPastWindow, nothing, bounded, unbounded, IsPast}
-use Rattle.stl_grammar.specs.Grammar.IsPast.{nothing as since_nothing, bounded as since_bounded, unbounded as since_unbounded}
-use Rattle.stl_grammar.specs.Grammar.{IsFormula, IsDisjunct, IsConjunct, IsTimed, IsOperand, disjunct, implies}
-use Rattle.stl_grammar.specs.Grammar.{conjunct, or, timed, and, operand, until, since, not, eventually, always}
-use Rattle.stl_grammar.specs.Grammar.{once, historically, always_true, always_false, parens, atom}
 use Rattle.stl_grammar.specs.Laws.{with_upper, bounds_of, constants_of, Any, IsUneven, NeedsDigits, ReadScalesAreLeast}
+use Rattle.stl_grammar.specs.Machine.{Owner}
+use Rattle.stl_grammar.specs.Refusing.{owner}
+use Rattle.stl_grammar.specs.declared.place.Timed.{Timed}
+use Rattle.stl_grammar.proofs.Derivations.{connective_word, timed_word, timed_node, constant_word, by_brackets, Bounded, left_out, within, endless}
+use Rattle.stl_grammar.proofs.Derivations.{Operand, negated, prefixed, constant, enclosed, compared, Derived, joined, beside, alone, formula_derived}
 use Rattle.stl_grammar.proofs.NumberLemmas.{abs_neg}
-use Rattle.stl_grammar.proofs.LeastDigits.{value_low}
-use Rattle.stl_grammar.proofs.TokenEnds.{ends_well, formula_ends, disjunct_ends, conjunct_ends, operand_ends}
+use Rattle.stl_grammar.proofs.LeastDigits.{value_low, node_bounds}
+use Rattle.stl_grammar.proofs.TokenEnds.{ends_well, begins_comma, derived_ends, operand_ends, bound_time, bound_value}
 use Rattle.stl_grammar.proofs.TokenEnds.{time_append, value_append, short_atom, short_signed}
 
 -- a decimal whose last digit is no zero is no multiple of ten
@@ -87,34 +87,18 @@ number_exact digits decimals h = by_case (without_ends decimals)
 lexes_exact : {text : List ℕ} {ts : List Token} → Lexes text ts → AreExact ts
 lexes_exact no_text = tt
 lexes_exact (blank b l) = lexes_exact l
-lexes_exact (token bytes text e (a_word b a s) l) = lexes_exact l
 lexes_exact (token bytes text e (an_integer a s n) l) = (inl refl, lexes_exact l)
 lexes_exact (token bytes text e (a_decimal c digits d decimals a b s) l) = (number_exact (c ∷ digits) (d ∷ decimals) b, lexes_exact l)
-lexes_exact (token bytes text e at_least l) = lexes_exact l
-lexes_exact (token bytes text e at_most l) = lexes_exact l
-lexes_exact (token bytes text e (above h) l) = lexes_exact l
-lexes_exact (token bytes text e (below h) l) = lexes_exact l
-lexes_exact (token bytes text e paren l) = lexes_exact l
-lexes_exact (token bytes text e paren_end l) = lexes_exact l
-lexes_exact (token bytes text e bracket l) = lexes_exact l
-lexes_exact (token bytes text e bracket_end l) = lexes_exact l
-lexes_exact (token bytes text e a_comma l) = lexes_exact l
-lexes_exact (token bytes text e a_star l) = lexes_exact l
-lexes_exact (token bytes text e a_plus l) = lexes_exact l
-lexes_exact (token bytes text e a_minus l) = lexes_exact l
+lexes_exact (token bytes text e _ l) = lexes_exact l
 
 exact_left : (ts us : List Token) → AreExact (ts ++ us) → AreExact ts
 exact_left [] us h = tt
 exact_left (number n k ∷ ts) us h = (h.0, exact_left ts us h.1)
-exact_left (word w ∷ ts) us h = exact_left ts us h
-exact_left (relation r ∷ ts) us h = exact_left ts us h
 exact_left (t ∷ ts) us h = exact_left ts us h
 
 exact_right : (ts us : List Token) → AreExact (ts ++ us) → AreExact us
 exact_right [] us h = h
 exact_right (number n k ∷ ts) us h = exact_right ts us h.1
-exact_right (word w ∷ ts) us h = exact_right ts us h
-exact_right (relation r ∷ ts) us h = exact_right ts us h
 exact_right (t ∷ ts) us h = exact_right ts us h
 
 -- a number with all the digits
@@ -152,26 +136,6 @@ in_right P ns ms n h = any_left P (ns ++ ms) (n ∷ []) (any_right P ns ms h)
 in_last : (P : Node → Type 0) (ns : List Node) (n : Node) → P n → Any P (ns ++ n ∷ [])
 in_last P ns n h = any_right P ns (n ∷ []) (inl h)
 
--- the digits of a bound, and of the operand after it
-window_max : {d a b : ℕ} {us : List Token} {x y : Bool} (ts : List Token) → IsFutureWindow d us a b x y
-    → time_digits (us ++ ts) ≡ max (time_digits us) (time_digits ts)
-window_max ts (bound inside inside) = omega arith
-window_max ts (bound inside outside) = omega arith
-window_max ts (bound outside inside) = omega arith
-window_max ts (bound outside outside) = omega arith
-
-past_max : {d a : ℕ} {b : Option ℕ} {us : List Token} {x y : Bool} (ts : List Token) → IsPastWindow d us a b x y
-    → time_digits (us ++ ts) ≡ max (time_digits us) (time_digits ts)
-past_max ts (bounded inside inside) = omega arith
-past_max ts (bounded outside inside) = omega arith
-past_max ts (unbounded inside inside) = omega arith
-past_max ts (unbounded outside inside) = omega arith
-past_max ts _ = omega arith
-
-since_max : {d a : ℕ} {b : Option ℕ} {us : List Token} (ts : List Token) → IsPast d us a b → time_digits (us ++ ts) ≡ max (time_digits us) (time_digits ts)
-since_max ts since_nothing = omega arith
-since_max ts _ = omega arith
-
 -- of two numbers with the greatest decimals
 one_of_two : (d a j b k : ℕ) → max j k ≡ d → 0 < d → (j ≡ 0) ⊎ IsUneven a → (k ≡ 0) ⊎ IsUneven b → Any IsUneven (ticks d a j ∷ ticks d b k ∷ [])
 one_of_two d a j b k e l g h = by_which (of_max j k d e)
@@ -180,28 +144,22 @@ one_of_two d a j b k e l g h = by_which (of_max j k d e)
     by_which (inl f) = inl (ticks_full d a j f l g)
     by_which (inr f) = inr (inl (ticks_full d b k f l h))
 
-window_any : {d a b : ℕ} {us : List Token} {x y : Bool} → IsFutureWindow d us a b x y → AreExact us → 0 < d → time_digits us ≡ d → Any IsUneven (a ∷ b ∷ [])
-window_any {d} (bound {a = a} {j} {b} {k} inside inside) h l e = one_of_two d a j b k (omega (arith, e)) l h.0 h.1.0
-window_any {d} (bound {a = a} {j} {b} {k} inside outside) h l e = one_of_two d a j b k (omega (arith, e)) l h.0 h.1.0
-window_any {d} (bound {a = a} {j} {b} {k} outside inside) h l e = one_of_two d a j b k (omega (arith, e)) l h.0 h.1.0
-window_any {d} (bound {a = a} {j} {b} {k} outside outside) h l e = one_of_two d a j b k (omega (arith, e)) l h.0 h.1.0
-
-past_any : {d a : ℕ} {b : Option ℕ} {us : List Token} {x y : Bool} → IsPastWindow d us a b x y → AreExact us → 0 < d
+-- a bound that has all the digits
+bound_any : {d a : ℕ} {o : Owner} {b : Option ℕ} {us : List Token} {x y : Bool} → Bounded d o us a b x y → AreExact us → 0 < d
     → time_digits us ≡ d → Any IsUneven (with_upper a b)
-past_any {d} nothing h l e = absurd (omega (arith, e))
-past_any {d} (bounded {a = a} {j} {b} {k} inside inside) h l e = one_of_two d a j b k (omega (arith, e)) l h.0 h.1.0
-past_any {d} (bounded {a = a} {j} {b} {k} inside outside) h l e = one_of_two d a j b k (omega (arith, e)) l h.0 h.1.0
-past_any {d} (bounded {a = a} {j} {b} {k} outside inside) h l e = one_of_two d a j b k (omega (arith, e)) l h.0 h.1.0
-past_any {d} (bounded {a = a} {j} {b} {k} outside outside) h l e = one_of_two d a j b k (omega (arith, e)) l h.0 h.1.0
-past_any {d} (unbounded {a = a} {j} inside inside) h l e = inl (ticks_full d a j (omega (arith, e)) l h.0)
-past_any {d} (unbounded {a = a} {j} inside outside) h l e = inl (ticks_full d a j (omega (arith, e)) l h.0)
-past_any {d} (unbounded {a = a} {j} outside inside) h l e = inl (ticks_full d a j (omega (arith, e)) l h.0)
-past_any {d} (unbounded {a = a} {j} outside outside) h l e = inl (ticks_full d a j (omega (arith, e)) l h.0)
-
-since_any : {d a : ℕ} {b : Option ℕ} {us : List Token} → IsPast d us a b → AreExact us → 0 < d → time_digits us ≡ d → Any IsUneven (with_upper a b)
-since_any {d} since_nothing h l e = absurd (omega (arith, e))
-since_any {d} (since_bounded {a = a} {j} {b} {k}) h l e = one_of_two d a j b k (omega (arith, e)) l h.0 h.1.0
-since_any {d} (since_unbounded {a = a} {j}) h l e = inl (ticks_full d a j (omega (arith, e)) l h.0)
+bound_any {d} (left_out e) h l f = absurd (omega (arith, f))
+bound_any {d} (within {a = a} {j} {b} {k} p q) h l e =
+    let f = by_brackets (λ t u. time_digits (t ∷ number a j ∷ comma ∷ number b k ∷ u ∷ []) ≡ max j k)
+    (omega arith) (omega arith) (omega arith) (omega arith) p q in
+    let x = by_brackets (λ t u. AreExact (t ∷ number a j ∷ comma ∷ number b k ∷ u ∷ []) → ((j ≡ 0) ⊎ IsUneven a) × ((k ≡ 0) ⊎ IsUneven b))
+    (λ h. (h.0, h.1.0)) (λ h. (h.0, h.1.0)) (λ h. (h.0, h.1.0)) (λ h. (h.0, h.1.0)) p q h in
+    one_of_two d a j b k (sym f ∙ e) l x.0 x.1
+bound_any {d} (endless {a = a} {j} e p q) h l f =
+    let g = by_brackets (λ t u. time_digits (t ∷ number a j ∷ comma ∷ word (codes "inf") ∷ u ∷ []) ≡ j)
+    (omega arith) (omega arith) (omega arith) (omega arith) p q in
+    let x = by_brackets (λ t u. AreExact (t ∷ number a j ∷ comma ∷ word (codes "inf") ∷ u ∷ []) → (j ≡ 0) ⊎ IsUneven a)
+    (λ h. h.0) (λ h. h.0) (λ h. h.0) (λ h. h.0) p q h in
+    inl (ticks_full d a j (sym g ∙ f) l x)
 
 -- an atom has no bounds
 atom_time : {d : ℕ} {ts : List Token} {a : _} → IsAtom d ts a → time_digits ts ≡ 0
@@ -216,88 +174,68 @@ atom_time (signed {vs = vs} {rel = rel} u c) =
 abbrev HasUnevenBound : Node → Type 0
 HasUnevenBound n = Any IsUneven (bounds_of n)
 
-module _ (s : Scale) (some : 0 < s.time) where
-  -- the sides of an operator without a bound
-  by_sides : (ts us : List Token) (w : List ℕ) → ends_well ts ≡ true → time_digits (ts ++ word w ∷ us) ≡ s.time
-      → (time_digits ts ≡ s.time) ⊎ (time_digits us ≡ s.time)
-  by_sides ts us w h e = of_max (time_digits ts) (time_digits us) s.time (sym (time_append ts (word w ∷ us) h refl) ∙ e)
+-- a measure of tokens, as the most decimals of their bounds, that is d where a node is one of P
+record Measures (s : Scale) (m : List Token → ℕ) (d : ℕ) (P : Node → Type 0) : Type 0 where
+  some : 0 < d
+  none : m [] ≡ 0
+  words : (w : List ℕ) (ts : List Token) → m (word w ∷ ts) ≡ m ts
+  parens : (ts : List Token) → m (open_paren ∷ ts) ≡ m ts
+  paren_ends : m (close_paren ∷ []) ≡ 0
+  joins : (ts us : List Token) → ends_well ts ≡ true → begins_comma us ≡ false → m (ts ++ us) ≡ max (m ts) (m us)
+  bounds : {o : Owner} {a : ℕ} {b : Option ℕ} {us : List Token} {x y : Bool} (ts : List Token) → Bounded s.time o us a b x y
+      → m (us ++ ts) ≡ max (m us) (m ts)
+  bound : (of : Timed) {a : ℕ} {b : Option ℕ} {us : List Token} {x y : Bool} (p q : ℕ) → Bounded s.time (owner of) us a b x y → AreExact us
+      → m us ≡ d → P (timed_node of a b x y p q)
+  atom : {ts : List Token} {a : Atom} → IsAtom s.value ts a → AreExact ts → m ts ≡ d → P (Leaf a)
+
+module _ (s : Scale) (m : List Token → ℕ) (d : ℕ) (P : Node → Type 0) (h : Measures s m d P) where
+  -- the sides of an operator
+  sides : (ts us : List Token) (w : List ℕ) → ends_well ts ≡ true → m (ts ++ word w ∷ us) ≡ d → (m ts ≡ d) ⊎ (m us ≡ d)
+  sides ts us w e f = of_max (m ts) (m us) d (sym (h.joins ts (word w ∷ us) e refl ∙ ap (λ n. max (m ts) n) (h.words w us)) ∙ f)
 
   mutual
-    formula_any : {k : ℕ} {ts : List Token} {ns : List Node} → IsFormula s k ts ns → AreExact ts → time_digits ts ≡ s.time → Any HasUnevenBound ns
-    formula_any (disjunct d) x e = disjunct_any d x e
-    formula_any (implies {k = k} {ts = ts} {us} {ns} {ms} d g) x e = elim (by_sides ts us (codes "implies") (disjunct_ends d) e) [
-      | inl f ↦ in_left HasUnevenBound ns ms _ (disjunct_any d (exact_left ts (word (codes "implies") ∷ us) x) f)
-      | inr f ↦ in_right HasUnevenBound ns ms _ (formula_any g (exact_right ts (word (codes "implies") ∷ us) x) f)
+    derived_any : {r k : ℕ} {ts : List Token} {ns : List Node} → Derived s r k ts ns → AreExact ts → m ts ≡ d → Any P ns
+    derived_any (joined o {ts = ts} {us} {ns} {ms} l c e) x f = elim (sides ts us (connective_word o) (derived_ends c) f) [
+      | inl g ↦ in_left P ns ms _ (derived_any c (exact_left ts (word (connective_word o) ∷ us) x) g)
+      | inr g ↦ in_right P ns ms _ (derived_any e (exact_right ts (word (connective_word o) ∷ us) x) g)
     ]
-
-    disjunct_any : {k : ℕ} {ts : List Token} {ns : List Node} → IsDisjunct s k ts ns → AreExact ts → time_digits ts ≡ s.time → Any HasUnevenBound ns
-    disjunct_any (conjunct d) x e = conjunct_any d x e
-    disjunct_any (or {k = k} {ts = ts} {us} {ns} {ms} d g) x e = elim (by_sides ts us (codes "or") (disjunct_ends d) e) [
-      | inl f ↦ in_left HasUnevenBound ns ms _ (disjunct_any d (exact_left ts (word (codes "or") ∷ us) x) f)
-      | inr f ↦ in_right HasUnevenBound ns ms _ (conjunct_any g (exact_right ts (word (codes "or") ∷ us) x) f)
-    ]
-
-    conjunct_any : {k : ℕ} {ts : List Token} {ns : List Node} → IsConjunct s k ts ns → AreExact ts → time_digits ts ≡ s.time → Any HasUnevenBound ns
-    conjunct_any (timed d) x e = timed_any d x e
-    conjunct_any (and {k = k} {ts = ts} {us} {ns} {ms} d g) x e = elim (by_sides ts us (codes "and") (conjunct_ends d) e) [
-      | inl f ↦ in_left HasUnevenBound ns ms _ (conjunct_any d (exact_left ts (word (codes "and") ∷ us) x) f)
-      | inr f ↦ in_right HasUnevenBound ns ms _ (timed_any g (exact_right ts (word (codes "and") ∷ us) x) f)
-    ]
-
-    timed_any : {k : ℕ} {ts : List Token} {ns : List Node} → IsTimed s k ts ns → AreExact ts → time_digits ts ≡ s.time → Any HasUnevenBound ns
-    timed_any (operand p) x e = operand_any p x e
-    timed_any (until {k = k} {a = a} {b} {ts = ts} {us} {vs} {ns} {ms} p w q) x e =
-        let y : AreExact (ts ++ word (codes "until") ∷ (us ++ vs)) = rw (append_assoc ts (word (codes "until") ∷ us) vs) at x in
-        let f : time_digits (ts ++ word (codes "until") ∷ (us ++ vs)) ≡ s.time = ap time_digits (sym (append_assoc ts (word (codes "until") ∷ us) vs)) ∙ e in
-        let z : AreExact (us ++ vs) = exact_right ts (word (codes "until") ∷ (us ++ vs)) y in
-        let n : Node = Until (top k ns) (top (k + length ns) ms) a b in
-        elim (by_sides ts (us ++ vs) (codes "until") (operand_ends p) f) [
-          | inl g ↦ in_left HasUnevenBound ns ms n (operand_any p (exact_left ts (word (codes "until") ∷ (us ++ vs)) y) g)
-          | inr g ↦ elim (of_max (time_digits us) (time_digits vs) s.time (sym (window_max vs w) ∙ g)) [
-            | inl h ↦ in_last HasUnevenBound (ns ++ ms) n (window_any w (exact_left us vs z) some h)
-            | inr h ↦ in_right HasUnevenBound ns ms n (operand_any q (exact_right us vs z) h)
+    derived_any (beside of {ts = ts} {us} {vs} {ns} {ms} e l p w q) x f =
+        let z : AreExact (us ++ vs) = exact_right ts (word (timed_word of) ∷ (us ++ vs)) x in
+        elim (sides ts (us ++ vs) (timed_word of) (operand_ends p) f) [
+          | inl g ↦ in_left P ns ms _ (operand_any p (exact_left ts (word (timed_word of) ∷ (us ++ vs)) x) g)
+          | inr g ↦ elim (of_max (m us) (m vs) d (sym (h.bounds vs w) ∙ g)) [
+            | inl i ↦ in_last P (ns ++ ms) _ (h.bound of _ _ w (exact_left us vs z) i)
+            | inr i ↦ in_right P ns ms _ (operand_any q (exact_right us vs z) i)
           ]
         ]
-    timed_any (since {k = k} {a = a} {b} {ts = ts} {us} {vs} {ns} {ms} p w q) x e =
-        let y : AreExact (ts ++ word (codes "since") ∷ (us ++ vs)) = rw (append_assoc ts (word (codes "since") ∷ us) vs) at x in
-        let f : time_digits (ts ++ word (codes "since") ∷ (us ++ vs)) ≡ s.time = ap time_digits (sym (append_assoc ts (word (codes "since") ∷ us) vs)) ∙ e in
-        let z : AreExact (us ++ vs) = exact_right ts (word (codes "since") ∷ (us ++ vs)) y in
-        let n : Node = Since (top k ns) (top (k + length ns) ms) a b in
-        elim (by_sides ts (us ++ vs) (codes "since") (operand_ends p) f) [
-          | inl g ↦ in_left HasUnevenBound ns ms n (operand_any p (exact_left ts (word (codes "since") ∷ (us ++ vs)) y) g)
-          | inr g ↦ elim (of_max (time_digits us) (time_digits vs) s.time (sym (since_max vs w) ∙ g)) [
-            | inl h ↦ in_last HasUnevenBound (ns ++ ms) n (since_any w (exact_left us vs z) some h)
-            | inr h ↦ in_right HasUnevenBound ns ms n (operand_any q (exact_right us vs z) h)
-          ]
-        ]
+    derived_any (alone p) x f = operand_any p x f
 
-    operand_any : {k : ℕ} {ts : List Token} {ns : List Node} → IsOperand s k ts ns → AreExact ts → time_digits ts ≡ s.time → Any HasUnevenBound ns
-    operand_any (not {k = k} {ts} {ns} p) x e = any_left HasUnevenBound ns (Not (top k ns) ∷ []) (operand_any p x e)
-    operand_any (eventually {k = k} {a} {b} {a_in} {b_in} {ts} {us} {ns} w p) x e =
-        elim (of_max (time_digits us) (time_digits ts) s.time (sym (window_max ts w) ∙ e)) [
-          | inl h ↦ in_last HasUnevenBound ns (Eventually (top k ns) a b a_in b_in) (window_any w (exact_left us ts x) some h)
-          | inr h ↦ any_left HasUnevenBound ns (Eventually (top k ns) a b a_in b_in ∷ []) (operand_any p (exact_right us ts x) h)
+    operand_any : {k : ℕ} {ts : List Token} {ns : List Node} → Operand s k ts ns → AreExact ts → m ts ≡ d → Any P ns
+    operand_any (negated {ts = ts} {ns} p) x f = any_left P ns _ (operand_any p x (sym (h.words _ ts) ∙ f))
+    operand_any (prefixed of {ts = ts} {us} {ns} e w p) x f =
+        elim (of_max (m us) (m ts) d (sym (h.words (timed_word of) (us ++ ts) ∙ h.bounds ts w) ∙ f)) [
+          | inl i ↦ in_last P ns _ (h.bound of _ _ w (exact_left us ts x) i)
+          | inr i ↦ any_left P ns _ (operand_any p (exact_right us ts x) i)
         ]
-    operand_any (always {k = k} {a} {b} {a_in} {b_in} {ts} {us} {ns} w p) x e =
-        elim (of_max (time_digits us) (time_digits ts) s.time (sym (window_max ts w) ∙ e)) [
-          | inl h ↦ in_last HasUnevenBound ns (Always (top k ns) a b a_in b_in) (window_any w (exact_left us ts x) some h)
-          | inr h ↦ any_left HasUnevenBound ns (Always (top k ns) a b a_in b_in ∷ []) (operand_any p (exact_right us ts x) h)
-        ]
-    operand_any (once {k = k} {a} {b} {a_in} {b_in} {ts} {us} {ns} w p) x e = elim (of_max (time_digits us) (time_digits ts) s.time (sym (past_max ts w) ∙ e)) [
-      | inl h ↦ in_last HasUnevenBound ns (Once (top k ns) a b a_in b_in) (past_any w (exact_left us ts x) some h)
-      | inr h ↦ any_left HasUnevenBound ns (Once (top k ns) a b a_in b_in ∷ []) (operand_any p (exact_right us ts x) h)
-    ]
-    operand_any (historically {k = k} {a} {b} {a_in} {b_in} {ts} {us} {ns} w p) x e =
-        elim (of_max (time_digits us) (time_digits ts) s.time (sym (past_max ts w) ∙ e)) [
-          | inl h ↦ in_last HasUnevenBound ns (Historically (top k ns) a b a_in b_in) (past_any w (exact_left us ts x) some h)
-          | inr h ↦ any_left HasUnevenBound ns (Historically (top k ns) a b a_in b_in ∷ []) (operand_any p (exact_right us ts x) h)
-        ]
-    operand_any always_true x e = absurd (omega (arith, e))
-    operand_any always_false x e = absurd (omega (arith, e))
-    operand_any (parens {ts = ts} f) x e =
-        let g : time_digits (ts ++ close_paren ∷ []) ≡ max (time_digits ts) 0 = time_append ts (close_paren ∷ []) (formula_ends f) refl in
-        formula_any f (exact_left ts (close_paren ∷ []) x) (omega (arith, g, e))
-    operand_any (atom a) x e = let z = atom_time a in absurd (omega (arith, z, e))
+    operand_any (constant b) x f = let g = h.words (constant_word b) [] in absurd (omega (arith, f, g, h.none, h.some))
+    operand_any (enclosed {ts = ts} c) x f =
+        let g = h.parens (ts ++ close_paren ∷ []) ∙ h.joins ts (close_paren ∷ []) (derived_ends c) refl in
+        derived_any c (exact_left ts (close_paren ∷ []) x) (omega (arith, f, g, h.paren_ends))
+    operand_any (compared a) x f = inl (h.atom a x f)
+
+-- the decimals of bounds
+time_measure : (s : Scale) → 0 < s.time → Measures s time_digits s.time HasUnevenBound
+time_measure s some = record {
+  some = some;
+  none = refl;
+  words = λ w ts. refl;
+  parens = λ ts. refl;
+  paren_ends = refl;
+  joins = λ ts us e f. time_append ts us e f;
+  bounds = λ ts w. bound_time ts w;
+  bound = λ of p q w x e. rw (node_bounds of p q w) (bound_any w x some e);
+  atom = λ a x e. let z = atom_time a in absurd (omega (arith, z, e, some));
+}
 
 -- an atom has the digits of its constant
 constant_any : {d : ℕ} {vs : List Token} {c : _} → IsConstant d vs c → AreExact vs → 0 < d → first_decimals vs ≡ d → IsUneven (nat_abs c)
@@ -319,87 +257,22 @@ atom_any {d} (signed {us = us} {vs} {rel = rel} u c) h l e =
     let y = value_low us vs rel in
     inl (constant_any c (exact_right us (relation rel ∷ vs) h) l (omega (arith, x, y, e)))
 
-window_value : {d a b : ℕ} {us : List Token} {x y : Bool} (ts : List Token) → IsFutureWindow d us a b x y → value_digits (us ++ ts) ≡ value_digits ts
-window_value ts (bound inside inside) = refl
-window_value ts (bound inside outside) = refl
-window_value ts (bound outside inside) = refl
-window_value ts (bound outside outside) = refl
+bound_none : {d a : ℕ} {o : Owner} {b : Option ℕ} {us : List Token} {x y : Bool} → Bounded d o us a b x y → value_digits us ≡ 0
+bound_none {us = us} w = ap value_digits (sym (append-nil us)) ∙ bound_value [] w
 
-past_value : {d a : ℕ} {b : Option ℕ} {us : List Token} {x y : Bool} (ts : List Token) → IsPastWindow d us a b x y → value_digits (us ++ ts) ≡ value_digits ts
-past_value ts (bounded inside inside) = refl
-past_value ts (bounded outside inside) = refl
-past_value ts (unbounded inside inside) = refl
-past_value ts (unbounded outside inside) = refl
-past_value ts _ = refl
-
-since_value : {d a : ℕ} {b : Option ℕ} {us : List Token} (ts : List Token) → IsPast d us a b → value_digits (us ++ ts) ≡ value_digits ts
-since_value ts since_nothing = refl
-since_value ts _ = refl
-
-module _ (s : Scale) (some : 0 < s.value) where
-  value_sides : (ts us : List Token) (w : List ℕ) → ends_well ts ≡ true → value_digits (ts ++ word w ∷ us) ≡ s.value
-      → (value_digits ts ≡ s.value) ⊎ (value_digits us ≡ s.value)
-  value_sides ts us w h e = of_max (value_digits ts) (value_digits us) s.value (sym (value_append ts (word w ∷ us) h) ∙ e)
-
-  mutual
-    formula_value : {k : ℕ} {ts : List Token} {ns : List Node} → IsFormula s k ts ns → AreExact ts → value_digits ts ≡ s.value → Any HasUnevenConstant ns
-    formula_value (disjunct d) x e = disjunct_value d x e
-    formula_value (implies {k = k} {ts = ts} {us} {ns} {ms} d g) x e = elim (value_sides ts us (codes "implies") (disjunct_ends d) e) [
-      | inl f ↦ in_left HasUnevenConstant ns ms _ (disjunct_value d (exact_left ts (word (codes "implies") ∷ us) x) f)
-      | inr f ↦ in_right HasUnevenConstant ns ms _ (formula_value g (exact_right ts (word (codes "implies") ∷ us) x) f)
-    ]
-
-    disjunct_value : {k : ℕ} {ts : List Token} {ns : List Node} → IsDisjunct s k ts ns → AreExact ts → value_digits ts ≡ s.value → Any HasUnevenConstant ns
-    disjunct_value (conjunct d) x e = conjunct_value d x e
-    disjunct_value (or {k = k} {ts = ts} {us} {ns} {ms} d g) x e = elim (value_sides ts us (codes "or") (disjunct_ends d) e) [
-      | inl f ↦ in_left HasUnevenConstant ns ms _ (disjunct_value d (exact_left ts (word (codes "or") ∷ us) x) f)
-      | inr f ↦ in_right HasUnevenConstant ns ms _ (conjunct_value g (exact_right ts (word (codes "or") ∷ us) x) f)
-    ]
-
-    conjunct_value : {k : ℕ} {ts : List Token} {ns : List Node} → IsConjunct s k ts ns → AreExact ts → value_digits ts ≡ s.value → Any HasUnevenConstant ns
-    conjunct_value (timed d) x e = timed_value d x e
-    conjunct_value (and {k = k} {ts = ts} {us} {ns} {ms} d g) x e = elim (value_sides ts us (codes "and") (conjunct_ends d) e) [
-      | inl f ↦ in_left HasUnevenConstant ns ms _ (conjunct_value d (exact_left ts (word (codes "and") ∷ us) x) f)
-      | inr f ↦ in_right HasUnevenConstant ns ms _ (timed_value g (exact_right ts (word (codes "and") ∷ us) x) f)
-    ]
-
-    timed_value : {k : ℕ} {ts : List Token} {ns : List Node} → IsTimed s k ts ns → AreExact ts → value_digits ts ≡ s.value → Any HasUnevenConstant ns
-    timed_value (operand p) x e = operand_value p x e
-    timed_value (until {k = k} {a = a} {b} {ts = ts} {us} {vs} {ns} {ms} p w q) x e =
-        let y : AreExact (ts ++ word (codes "until") ∷ (us ++ vs)) = rw (append_assoc ts (word (codes "until") ∷ us) vs) at x in
-        let f : value_digits (ts ++ word (codes "until") ∷ (us ++ vs)) ≡ s.value = ap value_digits (sym (append_assoc ts (word (codes "until") ∷ us) vs)) ∙ e in
-        let z : AreExact (us ++ vs) = exact_right ts (word (codes "until") ∷ (us ++ vs)) y in
-        let n : Node = Until (top k ns) (top (k + length ns) ms) a b in
-        elim (value_sides ts (us ++ vs) (codes "until") (operand_ends p) f) [
-          | inl g ↦ in_left HasUnevenConstant ns ms n (operand_value p (exact_left ts (word (codes "until") ∷ (us ++ vs)) y) g)
-          | inr g ↦ in_right HasUnevenConstant ns ms n (operand_value q (exact_right us vs z) (sym (window_value vs w) ∙ g))
-        ]
-    timed_value (since {k = k} {a = a} {b} {ts = ts} {us} {vs} {ns} {ms} p w q) x e =
-        let y : AreExact (ts ++ word (codes "since") ∷ (us ++ vs)) = rw (append_assoc ts (word (codes "since") ∷ us) vs) at x in
-        let f : value_digits (ts ++ word (codes "since") ∷ (us ++ vs)) ≡ s.value = ap value_digits (sym (append_assoc ts (word (codes "since") ∷ us) vs)) ∙ e in
-        let z : AreExact (us ++ vs) = exact_right ts (word (codes "since") ∷ (us ++ vs)) y in
-        let n : Node = Since (top k ns) (top (k + length ns) ms) a b in
-        elim (value_sides ts (us ++ vs) (codes "since") (operand_ends p) f) [
-          | inl g ↦ in_left HasUnevenConstant ns ms n (operand_value p (exact_left ts (word (codes "since") ∷ (us ++ vs)) y) g)
-          | inr g ↦ in_right HasUnevenConstant ns ms n (operand_value q (exact_right us vs z) (sym (since_value vs w) ∙ g))
-        ]
-
-    operand_value : {k : ℕ} {ts : List Token} {ns : List Node} → IsOperand s k ts ns → AreExact ts → value_digits ts ≡ s.value → Any HasUnevenConstant ns
-    operand_value (not {k = k} {ts} {ns} p) x e = any_left HasUnevenConstant ns (Not (top k ns) ∷ []) (operand_value p x e)
-    operand_value (eventually {k = k} {a} {b} {a_in} {b_in} {ts} {us} {ns} w p) x e =
-        any_left HasUnevenConstant ns (Eventually (top k ns) a b a_in b_in ∷ []) (operand_value p (exact_right us ts x) (sym (window_value ts w) ∙ e))
-    operand_value (always {k = k} {a} {b} {a_in} {b_in} {ts} {us} {ns} w p) x e =
-        any_left HasUnevenConstant ns (Always (top k ns) a b a_in b_in ∷ []) (operand_value p (exact_right us ts x) (sym (window_value ts w) ∙ e))
-    operand_value (once {k = k} {a} {b} {a_in} {b_in} {ts} {us} {ns} w p) x e =
-        any_left HasUnevenConstant ns (Once (top k ns) a b a_in b_in ∷ []) (operand_value p (exact_right us ts x) (sym (past_value ts w) ∙ e))
-    operand_value (historically {k = k} {a} {b} {a_in} {b_in} {ts} {us} {ns} w p) x e =
-        any_left HasUnevenConstant ns (Historically (top k ns) a b a_in b_in ∷ []) (operand_value p (exact_right us ts x) (sym (past_value ts w) ∙ e))
-    operand_value always_true x e = absurd (omega (arith, e))
-    operand_value always_false x e = absurd (omega (arith, e))
-    operand_value (parens {ts = ts} f) x e =
-        let g : value_digits (ts ++ close_paren ∷ []) ≡ max (value_digits ts) 0 = value_append ts (close_paren ∷ []) (formula_ends f) in
-        formula_value f (exact_left ts (close_paren ∷ []) x) (omega (arith, g, e))
-    operand_value (atom a) x e = inl (atom_any a x some e)
+-- and those of constants
+value_measure : (s : Scale) → 0 < s.value → Measures s value_digits s.value HasUnevenConstant
+value_measure s some = record {
+  some = some;
+  none = refl;
+  words = λ w ts. refl;
+  parens = λ ts. refl;
+  paren_ends = refl;
+  joins = λ ts us e f. value_append ts us e;
+  bounds = λ ts w. let f = bound_value ts w in let g = bound_none w in omega (arith, f, g);
+  bound = λ of p q w x e. let f = bound_none w in absurd (omega (arith, e, f, some));
+  atom = λ a x e. atom_any a x some e;
+}
 
 -- none, or some
 none_or : (n : ℕ) → (n ≡ 0) ⊎ (0 < n)
@@ -413,10 +286,17 @@ read_scales_are_least f text h = record {
   value = by_value (none_or f.scale.value);
 }
   where
+    parsed : Derived f.scale 1 0 h.tokens f.nodes
+    parsed = formula_derived 1 (omega arith) h.parsed
+
+    exact : AreExact h.tokens
+    exact = lexes_exact h.lexed
+
     by_time : (f.scale.time ≡ 0) ⊎ (0 < f.scale.time) → NeedsDigits f.scale.time bounds_of f.nodes
     by_time (inl e) = inl e
-    by_time (inr l) = inr (formula_any f.scale l h.parsed (lexes_exact h.lexed) (ap (λ s. s.time) (sym h.scale)))
+    by_time (inr l) = inr (derived_any f.scale time_digits f.scale.time HasUnevenBound (time_measure f.scale l) parsed exact (ap (λ s. s.time) (sym h.scale)))
 
     by_value : (f.scale.value ≡ 0) ⊎ (0 < f.scale.value) → NeedsDigits f.scale.value constants_of f.nodes
     by_value (inl e) = inl e
-    by_value (inr l) = inr (formula_value f.scale l h.parsed (lexes_exact h.lexed) (ap (λ s. s.value) (sym h.scale)))
+    by_value (inr l) =
+        inr (derived_any f.scale value_digits f.scale.value HasUnevenConstant (value_measure f.scale l) parsed exact (ap (λ s. s.value) (sym h.scale)))

@@ -11,7 +11,8 @@ use Rattle.stl_grammar.specs.Grammar.{name as term_name, none as no_terms}
 use Rattle.stl_grammar.specs.FormulaRefusals.{MayBegin, MayEnd, BeginsNoToken, RefusedAt, here, later, at_end}
 use Rattle.stl_grammar.specs.FormulaRefusals.{blank, bad_byte, IsFormulaFault, is_unbounded, pending, nodes_made}
 use Rattle.stl_grammar.specs.FormulaRefusals.{begins_fifth_term, is_bad_number, is_out_of_order}
-use Rattle.stl_grammar.proofs.TokenEnds.{can_end, ends_well, formula_ends}
+use Rattle.stl_grammar.proofs.Derivations.{formula_derived}
+use Rattle.stl_grammar.proofs.TokenEnds.{can_end, ends_well, derived_ends}
 use Rattle.stl_syntax.specs.declared.node.Node.TheVariants.{Const, Atom as Leaf, Eventually}
 use Rattle.stl_syntax.specs.declared.rel.Rel.TheVariants.{AtLeast}
 use Rattle.stl_grammar.specs.declared.fault.What.TheVariants.{Constant}
@@ -81,7 +82,7 @@ no_constant = inr (
 )
   where
     none : ¬ MayEnd (relation AtLeast ∷ word (codes "x") ∷ [])
-    none (nodes, f) = let h = formula_ends f in cc
+    none (nodes, f) = let h = derived_ends (formula_derived 1 (omega arith) f) in cc
 
 -- a point begins no token
 abbrev first_byte : List ℕ → ℕ

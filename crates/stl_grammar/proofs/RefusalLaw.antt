@@ -6,8 +6,8 @@ use Rattle.stl_syntax.specs.Characters.{is_blank, is_digit, begins_word, goes_on
 use Rattle.stl_syntax.proofs.ChoiceLemmas.{AtMostOne, where-unique, or_else-unique}
 use Rattle.stl_syntax.proofs.CharacterLemmas.{span_of, span_all, after_all}
 use Rattle.stl_grammar.specs.Tokens.{Token, word, relation, open_paren, close_paren, open_bracket, close_bracket, comma, star}
-use Rattle.stl_grammar.specs.Tokens.{plus, minus, decimal_number, IsToken, a_word, an_integer, a_decimal, at_least, at_most}
-use Rattle.stl_grammar.specs.Tokens.{above, below, paren, paren_end, bracket, bracket_end, a_comma, a_star, a_plus, a_minus}
+use Rattle.stl_grammar.specs.Tokens.{plus, minus, decimal_number, IsToken, a_word, an_integer, a_decimal}
+use Rattle.stl_grammar.specs.Tokens.{above, below}
 use Rattle.stl_grammar.specs.Tokens.{Lexes, nothing, token, blank as skip}
 use Rattle.stl_syntax.specs.Formula.{Formula}
 use Rattle.stl_grammar.specs.Grammar.{FormulaText, time_digits, value_digits}
@@ -83,20 +83,11 @@ token_first bytes text t (an_integer {c = c} {digits} h k l) =
     rw (digit_not_blank c d, digit_no_word c d, span_all is_digit (c ∷ digits) text h k, after_all is_digit (c ∷ digits) text h k, d, l) refl
 token_first bytes text t (a_decimal c digits d decimals h k l) =
     ap first_token (append_assoc (c ∷ digits) (46 ∷ d ∷ decimals) text) ∙ decimal_first c digits d decimals text h k l
-token_first bytes text t at_least = refl
-token_first bytes text t at_most = refl
 token_first bytes [] t (above h) = refl
 token_first bytes (d ∷ text) t (above h) = rw h refl
 token_first bytes [] t (below h) = refl
 token_first bytes (d ∷ text) t (below h) = rw h refl
-token_first bytes text t paren = refl
-token_first bytes text t paren_end = refl
-token_first bytes text t bracket = refl
-token_first bytes text t bracket_end = refl
-token_first bytes text t a_comma = refl
-token_first bytes text t a_star = refl
-token_first bytes text t a_plus = refl
-token_first bytes text t a_minus = refl
+token_first bytes text t _ = refl
 
 abbrev token_of : Option (Token × List ℕ) → Token
 token_of None = comma

@@ -33,8 +33,7 @@ use Rattle.stl_grammar.proofs.MachineView.{run_expected, run_depth, run_nodes, r
 use Rattle.stl_grammar.specs.declared.decimal.Decimal.{Decimal}
 use Rattle.stl_grammar.specs.declared.token.Keyword.TheVariants.{Until, Eventually, Always, Inf}
 use Rattle.stl_grammar.specs.declared.token.Token.{Token as Code}
-use Rattle.stl_grammar.specs.declared.token.Token.TheVariants.{Keyword as IsKeyword, Name, Number, Relation, OpenParen}
-use Rattle.stl_grammar.specs.declared.token.Token.TheVariants.{CloseParen, OpenBracket, CloseBracket, Comma, Star, Plus, Minus}
+use Rattle.stl_grammar.specs.declared.token.Token.TheVariants.{Keyword as IsKeyword, Name, Number}
 use Rattle.stl_grammar.specs.declared.place.Place.{Place}
 use Rattle.stl_grammar.specs.declared.place.Place.TheVariants.{High}
 use Rattle.stl_grammar.specs.declared.place.Place.TheVariants.{Term as AtTerm}
@@ -52,7 +51,6 @@ SpellsLarge _ t = ⊥
 
 -- the code spells the token exactly, or a large number
 pub spells_plain : (text : List ℕ) (c : Code) (t : Token) → Spells text c t → (t ≡ plain text c) ⊎ SpellsLarge c t
-spells_plain text (IsKeyword w) t h = inl h
 spells_plain text (Name from to) t (name, e, at) =
     let size : to - from ≡ length name = omega (arith, at.ends) in
     let same : between from to text ≡ name = rw (size, at.stands) (take_at name at.after (length name) refl) in
@@ -63,15 +61,7 @@ spells_plain text (Number d) t h = by_size (nat_le d.decimals 6) refl h
         → (t ≡ plain text (Number d)) ⊎ SpellsLarge (Number d) t
     by_size true e h = inl h
     by_size false e h = inr (e, h)
-spells_plain text (Relation r) t h = inl h
-spells_plain text OpenParen t h = inl h
-spells_plain text CloseParen t h = inl h
-spells_plain text OpenBracket t h = inl h
-spells_plain text CloseBracket t h = inl h
-spells_plain text Comma t h = inl h
-spells_plain text Star t h = inl h
-spells_plain text Plus t h = inl h
-spells_plain text Minus t h = inl h
+spells_plain text _ t h = inl h
 
 -- a name that the code spells stands in the text
 some_name : (w : List ℕ) → IsTrue (is_name w) → 0 < length w
@@ -182,6 +172,20 @@ none_of : {A : Type 0} (a : A) (b : Bool) (rest : Option A) → (if b then Some 
 none_of a true rest e = absurd (cc)
 none_of a false rest e = (refl, e)
 
+-- what holds where a token is spelled exactly, and of large numbers, holds of each that is spelled
+by_spelling : (text : List ℕ) (P : Code → Token → Type 0) → ((c : Code) → IsKnown text c → P c (plain text c))
+    → ((d : Decimal) (n k : ℕ) → nat_le d.decimals 6 ≡ false → IsTrue (nat_lt 6 k || nat_lt 4294967295 n) → P (Number d) (number n k))
+    → (c : Code) (t : Token) → Spells text c t → P c t
+by_spelling text P exact large c t h = by_kind (spells_plain text c t h)
+  where
+    past : (c : Code) → SpellsLarge c t → P c t
+    past (Number d) (e, (n, k, f, l)) = rw f (large d n k e l)
+    past _ h = absurd h
+
+    by_kind : (t ≡ plain text c) ⊎ SpellsLarge c t → P c t
+    by_kind (inl e) = rw e (exact c (spells_known text c t h))
+    by_kind (inr g) = past c g
+
 -- a token after tokens that led to the parser's state
 module _ (text rest : List ℕ) (before : List Token) (p : Parse) (c : Code) (t : Token) (at : ℕ)
     (runs : run before ≡ Some (state_of p)) (fit : IsFit p) (spells : Spells text c t) where
@@ -189,20 +193,13 @@ module _ (text rest : List ℕ) (before : List Token) (p : Parse) (c : Code) (t 
   known = spells_known text c t spells
 
   stepped : Alike (option_map state_of (parse_step text p c)) (step (state_of p) t)
-  stepped = by_kind (spells_plain text c t spells)
+  stepped = by_spelling text (λ c t. Alike (option_map state_of (parse_step text p c)) (step (state_of p) t))
+      (λ c k. rw (view_step text p c k fit) (same (step (state_of p) (plain text c))))
+      (λ d n k e l. rw (view_step text p (Number d) tt fit) (numbers_alike (state_of p).place (state_of p) d.value d.decimals n k)) c t spells
     where
       same : (o : Option State) → Alike o o
       same None = tt
       same (Some a) = (refl, refl)
-
-      large : (c : Code) → SpellsLarge c t → IsKnown text c → Alike (option_map state_of (parse_step text p c)) (step (state_of p) t)
-      large (Number d) (e, (n, k, f, l)) sees =
-          rw (view_step text p (Number d) sees fit, f) (numbers_alike (state_of p).place (state_of p) d.value d.decimals n k)
-      large _ h sees = absurd h
-
-      by_kind : (t ≡ plain text c) ⊎ SpellsLarge c t → Alike (option_map state_of (parse_step text p c)) (step (state_of p) t)
-      by_kind (inl e) = rw (view_step text p c known fit, e) (same (step (state_of p) (plain text c)))
-      by_kind (inr h) = large c h known
 
   stops : parse_step text p c ≡ None → ¬ MayBegin (t ∷ before)
   stops e = by_step (step (state_of p) t) refl (rw e at stepped)
@@ -222,58 +219,28 @@ module _ (text rest : List ℕ) (before : List Token) (p : Parse) (c : Code) (t 
           (step_begins before (state_of p) next t runs e, run_depth (t ∷ before) next r ∙ ap length (sym h.0), run_nodes (t ∷ before) next r ∙ sym h.1)
 
   unbounded : is_unbounded before t rest ≡ unbounded_in p.place c rest
-  unbounded = by_kind (spells_plain text c t spells)
-    where
-      future : begins_future_bound before ≡ future_in p.place
-      future = run_future before (state_of p) runs ∙ future_same p.place (length p.terms)
-
-      large : (c : Code) → SpellsLarge c t → is_unbounded before t rest ≡ unbounded_in p.place c rest
-      large (Number d) (e, (n, k, f, l)) = rw f refl
-      large _ h = absurd h
-
-      by_kind : (t ≡ plain text c) ⊎ SpellsLarge c t → is_unbounded before t rest ≡ unbounded_in p.place c rest
-      by_kind (inl e) = rw e (unbounded_same text rest before p.place c known future)
-      by_kind (inr h) = large c h
+  unbounded = by_spelling text (λ c t. is_unbounded before t rest ≡ unbounded_in p.place c rest)
+      (λ c k. unbounded_same text rest before p.place c k (run_future before (state_of p) runs ∙ future_same p.place (length p.terms)))
+      (λ d n k e l. refl) c t spells
 
   fifth : begins_fifth_term before t ≡ fifth_in p.place (length p.terms) c
-  fifth = run_fifth before (state_of p) runs t ∙ by_kind (spells_plain text c t spells)
-    where
-      large : (c : Code) → SpellsLarge c t → fifth_at (place_at p.place (length p.terms)) t ≡ fifth_in p.place (length p.terms) c
-      large (Number d) (e, (n, k, f, l)) = rw f (fifth_number p.place (length p.terms) n k d)
-      large _ h = absurd h
-
-      by_kind : (t ≡ plain text c) ⊎ SpellsLarge c t → fifth_at (place_at p.place (length p.terms)) t ≡ fifth_in p.place (length p.terms) c
-      by_kind (inl e) = rw e (fifth_same text p.place (length p.terms) c)
-      by_kind (inr h) = large c h
+  fifth = run_fifth before (state_of p) runs t
+      ∙ by_spelling text (λ c t. fifth_at (place_at p.place (length p.terms)) t ≡ fifth_in p.place (length p.terms) c)
+      (λ c k. fifth_same text p.place (length p.terms) c) (λ d n k e l. fifth_number p.place (length p.terms) n k d) c t spells
 
   bad : is_bad_number before t ≡ bad_in p.place c
-  bad = by_kind (spells_plain text c t spells)
+  bad = by_spelling text (λ c t. is_bad_number before t ≡ bad_in p.place c) (λ c k. exact c)
+      (λ d n k e l. rw (code_passes (number_in p.place) d.value d.decimals e)
+      (run_bad_number before (state_of p) runs n k ∙ passes_large (expected_at (state_of p).place (state_of p).marks) n k l)) c t spells
     where
       exact : (c : Code) → is_bad_number before (plain text c) ≡ bad_in p.place c
       exact (Number d) = run_bad_number before (state_of p) runs d.value d.decimals ∙ passes_same p.place (length p.terms) (state_of p).marks d.value d.decimals
       exact _ = refl
 
-      large : (c : Code) → SpellsLarge c t → is_bad_number before t ≡ bad_in p.place c
-      large (Number d) (e, (n, k, f, l)) =
-          rw (f, code_passes (number_in p.place) d.value d.decimals e)
-          (run_bad_number before (state_of p) runs n k ∙ passes_large (expected_at (state_of p).place (state_of p).marks) n k l)
-      large _ h = absurd h
-
-      by_kind : (t ≡ plain text c) ⊎ SpellsLarge c t → is_bad_number before t ≡ bad_in p.place c
-      by_kind (inl e) = rw e (exact c)
-      by_kind (inr h) = large c h
-
   -- a number that is not refused is spelled exactly
   pub exact_where_good : bad_in p.place c ≡ false → t ≡ plain text c
-  exact_where_good g = by_kind (spells_plain text c t spells)
-    where
-      large : (c : Code) → SpellsLarge c t → bad_in p.place c ≡ false → t ≡ plain text c
-      large (Number d) (e, (n, k, f, l)) g = absurd (let h = code_passes (number_in p.place) d.value d.decimals e in cc)
-      large _ h g = absurd h
-
-      by_kind : (t ≡ plain text c) ⊎ SpellsLarge c t → t ≡ plain text c
-      by_kind (inl e) = e
-      by_kind (inr h) = large c h g
+  exact_where_good = by_spelling text (λ c t. bad_in p.place c ≡ false → t ≡ plain text c) (λ c k g. refl)
+      (λ d n k e l g. absurd (let h = code_passes (number_in p.place) d.value d.decimals e in cc)) c t spells
 
   disorder : bad_in p.place c ≡ false → is_out_of_order before t ≡ disorder_in p.place c
   disorder g = run_disorder before (state_of p) runs t ∙ rw (exact_where_good g) (disorder_same text p.place (length p.terms) c)

@@ -5,13 +5,11 @@ use Rattle.stl_syntax.specs.declared.scale.Scale.{Scale}
 use Rattle.stl_syntax.specs.declared.node.Node.{Node}
 use Rattle.stl_grammar.specs.Tokens.{Token, word, number, relation, open_paren, close_paren, comma, plus, minus}
 use Rattle.stl_grammar.specs.Grammar.{IsConstant, plain, IsTerm, scaled, AreTerms, more_plus}
-use Rattle.stl_grammar.specs.Grammar.{more_minus, IsAtom, IsFormula, IsDisjunct, IsConjunct, IsTimed, IsOperand}
-use Rattle.stl_grammar.specs.Grammar.{disjunct, implies, conjunct, or, timed, and, operand, until, since, not}
-use Rattle.stl_grammar.specs.Grammar.{eventually, always, once, historically, always_true, always_false, parens}
-use Rattle.stl_grammar.specs.Grammar.{atom, first, signed, first_decimals, value_digits, time_digits}
+use Rattle.stl_grammar.specs.Grammar.{more_minus, IsAtom, first, signed, first_decimals, value_digits, time_digits}
 use Rattle.stl_grammar.specs.Grammar.{name as term_name, none as no_terms}
-use Rattle.stl_grammar.specs.Grammar.{inside, outside, IsFutureWindow, bound, IsPastWindow, nothing, bounded, unbounded, IsPast}
-use Rattle.stl_grammar.specs.Grammar.IsPast.{nothing as since_nothing, bounded as since_bounded, unbounded as since_unbounded}
+use Rattle.stl_grammar.specs.Machine.{Owner}
+use Rattle.stl_grammar.proofs.Derivations.{constant_word, by_brackets, Bounded, left_out, within, endless, Operand, negated, prefixed, constant}
+use Rattle.stl_grammar.proofs.Derivations.{enclosed, compared, Derived, joined, beside, alone}
 
 -- the last token may be that of a formula
 unfoldable pub can_end : Token → Bool
@@ -45,51 +43,30 @@ atom_ends : {digits : ℕ} {ts : List Token} {a : _} → IsAtom digits ts a → 
 atom_ends (first {ts = ts} {us} {vs} {rel = rel} t u c) = after_some (ts ++ us) (relation rel ∷ vs) (after_one (relation rel) vs (constant_ends c))
 atom_ends (signed {us = us} {vs} {rel = rel} u c) = after_some us (relation rel ∷ vs) (after_one (relation rel) vs (constant_ends c))
 
-true_ends : ends_well (word (codes "true") ∷ []) ≡ true
+truth_ends : (b : Bool) → ends_well (word (constant_word b) ∷ []) ≡ true
 unfolding ends_well can_end
-true_ends = refl
-
-false_ends : ends_well (word (codes "false") ∷ []) ≡ true
-unfolding ends_well can_end
-false_ends = refl
+truth_ends true = refl
+truth_ends false = refl
 
 paren_ends : ends_well (close_paren ∷ []) ≡ true
 unfolding ends_well can_end
 paren_ends = refl
 
 mutual
-  -- a formula
-  pub formula_ends : {s : Scale} {k : ℕ} {ts : List Token} {ns : List Node} → IsFormula s k ts ns → ends_well ts ≡ true
-  formula_ends (disjunct d) = disjunct_ends d
-  formula_ends (implies {ts = ts} {us} d f) = after_some ts (word (codes "implies") ∷ us) (after_one _ us (formula_ends f))
-
-  -- what `or` joins
-  pub disjunct_ends : {s : Scale} {k : ℕ} {ts : List Token} {ns : List Node} → IsDisjunct s k ts ns → ends_well ts ≡ true
-  disjunct_ends (conjunct c) = conjunct_ends c
-  disjunct_ends (or {ts = ts} {us} d c) = after_some ts (word (codes "or") ∷ us) (after_one _ us (conjunct_ends c))
-
-  -- what `and` joins
-  pub conjunct_ends : {s : Scale} {k : ℕ} {ts : List Token} {ns : List Node} → IsConjunct s k ts ns → ends_well ts ≡ true
-  conjunct_ends (timed t) = timed_ends t
-  conjunct_ends (and {ts = ts} {us} c t) = after_some ts (word (codes "and") ∷ us) (after_one _ us (timed_ends t))
-
-  -- what until and since join
-  pub timed_ends : {s : Scale} {k : ℕ} {ts : List Token} {ns : List Node} → IsTimed s k ts ns → ends_well ts ≡ true
-  timed_ends (operand o) = operand_ends o
-  timed_ends (until {ts = ts} {us} {vs} o b p) = after_some (ts ++ (word (codes "until") ∷ us)) vs (operand_ends p)
-  timed_ends (since {ts = ts} {us} {vs} o b p) = after_some (ts ++ (word (codes "since") ∷ us)) vs (operand_ends p)
+  -- a formula, or a part of one that operators join
+  pub derived_ends : {s : Scale} {r k : ℕ} {ts : List Token} {ns : List Node} → Derived s r k ts ns → ends_well ts ≡ true
+  derived_ends (joined o {ts = ts} {us} l d e) = after_some ts (word _ ∷ us) (after_one _ us (derived_ends e))
+  derived_ends (beside of {ts = ts} {us} {vs} e l p w q) =
+      after_some ts (word _ ∷ (us ++ vs)) (after_one _ (us ++ vs) (after_some us vs (operand_ends q)))
+  derived_ends (alone p) = operand_ends p
 
   -- an operand
-  pub operand_ends : {s : Scale} {k : ℕ} {ts : List Token} {ns : List Node} → IsOperand s k ts ns → ends_well ts ≡ true
-  operand_ends (not {ts = ts} o) = after_one _ ts (operand_ends o)
-  operand_ends (eventually {ts = ts} {us} b o) = after_one _ (us ++ ts) (after_some us ts (operand_ends o))
-  operand_ends (always {ts = ts} {us} b o) = after_one _ (us ++ ts) (after_some us ts (operand_ends o))
-  operand_ends (once {ts = ts} {us} b o) = after_one _ (us ++ ts) (after_some us ts (operand_ends o))
-  operand_ends (historically {ts = ts} {us} b o) = after_one _ (us ++ ts) (after_some us ts (operand_ends o))
-  operand_ends always_true = true_ends
-  operand_ends always_false = false_ends
-  operand_ends (parens {ts = ts} f) = after_one _ (ts ++ close_paren ∷ []) (after_some ts (close_paren ∷ []) paren_ends)
-  operand_ends (atom a) = atom_ends a
+  pub operand_ends : {s : Scale} {k : ℕ} {ts : List Token} {ns : List Node} → Operand s k ts ns → ends_well ts ≡ true
+  operand_ends (negated {ts = ts} p) = after_one _ ts (operand_ends p)
+  operand_ends (prefixed of {ts = ts} {us} e w p) = after_one _ (us ++ ts) (after_some us ts (operand_ends p))
+  operand_ends (constant b) = truth_ends b
+  operand_ends (enclosed {ts = ts} d) = after_one _ (ts ++ close_paren ∷ []) (after_some ts (close_paren ∷ []) paren_ends)
+  operand_ends (compared a) = atom_ends a
 
 -- tokens that do not begin with a comma
 abbrev pub begins_comma : List Token → Bool
@@ -213,27 +190,25 @@ short_signed s {us} {vs} rel u c l =
     let f = terms_time (relation rel ∷ vs) u ∙ constant_time c in let g = terms_value (relation rel ∷ vs) u in let i = constant_value c in
     record { time = omega (arith, f); value = omega (arith, g, i, l) }
 
+-- the decimals of a bound, before other tokens
+pub bound_time : {d a : ℕ} {o : Owner} {b : _} {us : List Token} {x y : Bool} (ts : List Token) → Bounded d o us a b x y
+    → time_digits (us ++ ts) ≡ max (time_digits us) (time_digits ts)
+bound_time ts (left_out e) = omega arith
+bound_time ts (within {a = a} {j} {b} {k} p q) = by_brackets (λ t u. time_digits (t ∷ number a j ∷ comma ∷ number b k ∷ u ∷ ts)
+    ≡ max (time_digits (t ∷ number a j ∷ comma ∷ number b k ∷ u ∷ [])) (time_digits ts)) (omega arith) (omega arith) (omega arith) (omega arith) p q
+bound_time ts (endless {a = a} {j} e p q) = by_brackets (λ t u. time_digits (t ∷ number a j ∷ comma ∷ word (codes "inf") ∷ u ∷ ts)
+    ≡ max (time_digits (t ∷ number a j ∷ comma ∷ word (codes "inf") ∷ u ∷ [])) (time_digits ts)) (omega arith) (omega arith) (omega arith) (omega arith) p q
+
+-- it has no constant
+pub bound_value : {d a : ℕ} {o : Owner} {b : _} {us : List Token} {x y : Bool} (ts : List Token) → Bounded d o us a b x y
+    → value_digits (us ++ ts) ≡ value_digits ts
+bound_value ts (left_out e) = refl
+bound_value ts (within {a = a} {j} {b} {k} p q) =
+    by_brackets (λ t u. value_digits (t ∷ number a j ∷ comma ∷ number b k ∷ u ∷ ts) ≡ value_digits ts) refl refl refl refl p q
+bound_value ts (endless {a = a} {j} e p q) =
+    by_brackets (λ t u. value_digits (t ∷ number a j ∷ comma ∷ word (codes "inf") ∷ u ∷ ts) ≡ value_digits ts) refl refl refl refl p q
+
 -- a bound before an operand
-pub short_window : {d a b : ℕ} {us : List Token} {x y : Bool} (s : Scale) (ts : List Token) → IsFutureWindow d us a b x y
+pub short_bound : {d a : ℕ} {o : Owner} {b : _} {us : List Token} {x y : Bool} (s : Scale) (ts : List Token) → Bounded d o us a b x y
     → time_digits us ≤ s.time → IsShort s ts → IsShort s (us ++ ts)
-short_window s ts (bound inside inside) l a = let t = a.time in record { time = omega arith; value = a.value }
-short_window s ts (bound inside outside) l a = let t = a.time in record { time = omega arith; value = a.value }
-short_window s ts (bound outside inside) l a = let t = a.time in record { time = omega arith; value = a.value }
-short_window s ts (bound outside outside) l a = let t = a.time in record { time = omega arith; value = a.value }
-
--- a bound of the past before an operand
-pub short_past : {d a : ℕ} {b : _} {us : List Token} {x y : Bool} (s : Scale) (ts : List Token) → IsPastWindow d us a b x y
-    → time_digits us ≤ s.time → IsShort s ts → IsShort s (us ++ ts)
-short_past s ts nothing l a = a
-short_past s ts (bounded inside inside) l a = let t = a.time in record { time = omega arith; value = a.value }
-short_past s ts (bounded outside inside) l a = let t = a.time in record { time = omega arith; value = a.value }
-short_past s ts (unbounded inside inside) l a = let t = a.time in record { time = omega arith; value = a.value }
-short_past s ts (unbounded outside inside) l a = let t = a.time in record { time = omega arith; value = a.value }
-short_past s ts _ l a = let t = a.time in record { time = omega arith; value = a.value }
-
--- a bound of since
-pub short_since : {d a : ℕ} {b : _} {us : List Token} (s : Scale) (ts : List Token) → IsPast d us a b → time_digits us ≤ s.time
-    → IsShort s ts → IsShort s (us ++ ts)
-short_since s ts since_nothing l a = a
-short_since s ts since_bounded l a = let t = a.time in record { time = omega arith; value = a.value }
-short_since s ts since_unbounded l a = let t = a.time in record { time = omega arith; value = a.value }
+short_bound s ts w l h = record { time = omega (arith, bound_time ts w, h.time); value = rw (bound_value ts w) h.value }

@@ -1,11 +1,12 @@
 -- Tokens with few decimals, of which no coefficient has any.
 use Rattle.std.proofs.Common.{◌≡◌, ℕ, ◌≤◌, List, [], ◌∷◌, ◌++◌, refl, Bool, true, false}
+use Rattle.std.specs.Prelude.{codes}
 use Rattle.stl_syntax.specs.declared.scale.Scale.{Scale}
-use Rattle.stl_grammar.specs.Tokens.{Token, word, number, relation, open_paren, close_paren, star}
-use Rattle.stl_grammar.specs.Grammar.{IsConstant, plain, IsFutureWindow, bound, IsPastWindow}
-use Rattle.stl_grammar.specs.Grammar.{nothing, bounded, unbounded, IsPast, inside, outside, time_digits}
-use Rattle.stl_grammar.specs.Grammar.IsPast.{nothing as since_nothing, bounded as since_bounded, unbounded as since_unbounded}
-use Rattle.stl_grammar.proofs.TokenEnds.{ends_well, begins_comma, IsShort, short_joined, short_word, short_parens, short_window, short_past, short_since}
+use Rattle.stl_grammar.specs.Tokens.{Token, word, number, relation, open_paren, close_paren, comma, star}
+use Rattle.stl_grammar.specs.Grammar.{IsConstant, plain, time_digits}
+use Rattle.stl_grammar.specs.Machine.{Owner}
+use Rattle.stl_grammar.proofs.Derivations.{by_brackets, Bounded, left_out, within, endless}
+use Rattle.stl_grammar.proofs.TokenEnds.{ends_well, begins_comma, IsShort, short_joined, short_word, short_parens, short_bound}
 
 -- a number before a star has no decimals
 abbrev pub BeforeStar : ℕ → List Token → Type 0
@@ -35,8 +36,6 @@ pub plain_append : (ts us : List Token) → begins_star us ≡ false → ArePlai
 plain_append [] us e a b = b
 plain_append (number n k ∷ []) us e a b = (before_none k us e, b)
 plain_append (number n k ∷ t ∷ ts) us e a b = (before_more k t ts us a.0, plain_append (t ∷ ts) us e a.1 b)
-plain_append (word w ∷ ts) us e a b = plain_append ts us e a b
-plain_append (relation r ∷ ts) us e a b = plain_append ts us e a b
 plain_append (_ ∷ ts) us e a b = plain_append ts us e a b
 
 pub record IsNeat (s : Scale) (ts : List Token) : Type 0 where
@@ -63,39 +62,14 @@ pub constant_plain : {d : ℕ} {vs : List Token} {c : _} (r : _) → IsConstant 
 constant_plain r plain = (tt, tt)
 constant_plain r _ = (tt, tt)
 
-window_plain : {d a b : ℕ} {us : List Token} {x y : Bool} (ts : List Token) → IsFutureWindow d us a b x y → ArePlain ts → ArePlain (us ++ ts)
-window_plain ts (bound inside inside) a = (tt, (tt, a))
-window_plain ts (bound inside outside) a = (tt, (tt, a))
-window_plain ts (bound outside inside) a = (tt, (tt, a))
-window_plain ts (bound outside outside) a = (tt, (tt, a))
+bound_plain : {d a : ℕ} {o : Owner} {b : _} {us : List Token} {x y : Bool} (ts : List Token) → Bounded d o us a b x y → ArePlain ts → ArePlain (us ++ ts)
+bound_plain ts (left_out e) h = h
+bound_plain ts (within {a = a} {j} {b} {k} p q) h =
+    by_brackets (λ t u. ArePlain (t ∷ number a j ∷ comma ∷ number b k ∷ u ∷ ts)) (tt, (tt, h)) (tt, (tt, h)) (tt, (tt, h)) (tt, (tt, h)) p q
+bound_plain ts (endless {a = a} {j} e p q) h =
+    by_brackets (λ t u. ArePlain (t ∷ number a j ∷ comma ∷ word (codes "inf") ∷ u ∷ ts)) (tt, h) (tt, h) (tt, h) (tt, h) p q
 
--- a bound of the future before an operand
-pub neat_window : {d a b : ℕ} {us : List Token} {x y : Bool} (s : Scale) (ts : List Token) → IsFutureWindow d us a b x y
+-- a bound before an operand
+pub neat_bound : {d a : ℕ} {o : Owner} {b : _} {us : List Token} {x y : Bool} (s : Scale) (ts : List Token) → Bounded d o us a b x y
     → time_digits us ≤ s.time → IsNeat s ts → IsNeat s (us ++ ts)
-neat_window s ts w l a = record { short = short_window s ts w l a.short; plain = window_plain ts w a.plain }
-
-past_plain : {d a : ℕ} {b : _} {us : List Token} {x y : Bool} (ts : List Token) → IsPastWindow d us a b x y → ArePlain ts → ArePlain (us ++ ts)
-past_plain ts nothing a = a
-past_plain ts (bounded inside inside) a = (tt, (tt, a))
-past_plain ts (bounded inside outside) a = (tt, (tt, a))
-past_plain ts (bounded outside inside) a = (tt, (tt, a))
-past_plain ts (bounded outside outside) a = (tt, (tt, a))
-past_plain ts (unbounded inside inside) a = (tt, a)
-past_plain ts (unbounded inside outside) a = (tt, a)
-past_plain ts (unbounded outside inside) a = (tt, a)
-past_plain ts (unbounded outside outside) a = (tt, a)
-
--- a bound of the past
-pub neat_past : {d a : ℕ} {b : _} {us : List Token} {x y : Bool} (s : Scale) (ts : List Token) → IsPastWindow d us a b x y
-    → time_digits us ≤ s.time → IsNeat s ts → IsNeat s (us ++ ts)
-neat_past s ts w l a = record { short = short_past s ts w l a.short; plain = past_plain ts w a.plain }
-
-since_plain : {d a : ℕ} {b : _} {us : List Token} (ts : List Token) → IsPast d us a b → ArePlain ts → ArePlain (us ++ ts)
-since_plain ts since_nothing a = a
-since_plain ts since_bounded a = (tt, (tt, a))
-since_plain ts since_unbounded a = (tt, a)
-
--- a bound of since
-pub neat_since : {d a : ℕ} {b : _} {us : List Token} (s : Scale) (ts : List Token) → IsPast d us a b → time_digits us ≤ s.time
-    → IsNeat s ts → IsNeat s (us ++ ts)
-neat_since s ts w l a = record { short = short_since s ts w l a.short; plain = since_plain ts w a.plain }
+neat_bound s ts w l h = record { short = short_bound s ts w l h.short; plain = bound_plain ts w h.plain }

@@ -3,7 +3,7 @@ use Rattle.std.proofs.Common.{◌≡◌, ℕ, suc, ◌+◌, ◌<◌, ◌≤◌, 
 use Rattle.std.specs.Prelude.{nat_lt}
 use Rattle.std.proofs.lemmas.Bool.{or_parts}
 use Rattle.std.proofs.lemmas.Bool.Decides.{nat_tests}
-use Rattle.stl_grammar.specs.Tokens.{Token, word, number, relation, comma, plus, minus, Lexes, nothing, blank as skip, token}
+use Rattle.stl_grammar.specs.Tokens.{Token, number, relation, comma, plus, minus, Lexes, nothing, blank as skip, token}
 use Rattle.stl_grammar.specs.Grammar.{first_decimals, value_digits, time_digits}
 use Rattle.stl_grammar.specs.FormulaRefusals.{MayBegin, RefusedAt, TokenFault, blank, here, later, is_unbounded, expected}
 use Rattle.stl_grammar.specs.FormulaRefusals.{pending, nodes_made, begins_fifth_term, passes_limit, is_bad_number}
@@ -73,8 +73,6 @@ small_by _ n k e = let x = (or_parts (nat_lt 0 k) (nat_lt 16 n) e).0 in grind (a
 are_small : (before ts : List Token) → AreFree before ts → AreSmall ts
 are_small before [] h = tt
 are_small before (number n k ∷ ts) h = (small_by (expected before) n k h.0.small, are_small (number n k ∷ before) ts h.1)
-are_small before (word w ∷ ts) h = are_small (word w ∷ before) ts h.1
-are_small before (relation r ∷ ts) h = are_small (relation r ∷ before) ts h.1
 are_small before (t ∷ ts) h = are_small (t ∷ before) ts h.1
 
 first_small : (ts : List Token) → AreSmall ts → first_decimals ts ≤ 6
@@ -88,7 +86,6 @@ value_small : (ts : List Token) → AreSmall ts → value_digits ts ≤ 6
 value_small [] h = omega arith
 value_small (relation r ∷ ts) h = let x = first_small ts h in let y = value_small ts h in omega arith
 value_small (number n k ∷ ts) h = value_small ts h.1
-value_small (word w ∷ ts) h = value_small ts h
 value_small (_ ∷ ts) h = value_small ts h
 
 time_small : (ts : List Token) → AreSmall ts → time_digits ts ≤ 6
@@ -96,8 +93,6 @@ time_small [] h = omega arith
 time_small (number n k ∷ []) h = omega arith
 time_small (number n k ∷ comma ∷ ts) h = let x = h.0 in let y = first_small ts h.1 in let z = time_small (comma ∷ ts) h.1 in omega arith
 time_small (number n k ∷ t ∷ ts) h = let z = time_small (t ∷ ts) h.1 in omega arith
-time_small (word w ∷ ts) h = time_small ts h
-time_small (relation r ∷ ts) h = time_small ts h
 time_small (_ ∷ ts) h = time_small ts h
 
 -- the digits of a text that is not refused

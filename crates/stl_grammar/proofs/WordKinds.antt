@@ -1,12 +1,18 @@
 -- What a word is, and the lists of words that hold it.
-use Rattle.std.proofs.Common.{◌≡◌, ℕ, List, [], ◌∷◌, refl, Bool, true, false, inl, inr, ◌⊎◌}
+use Rattle.std.proofs.Common.{◌≡◌, ℕ, List, [], ◌∷◌, refl, Bool, true, false, ◌||◌, inl, inr, ◌⊎◌}
 use Rattle.std.specs.Prelude.{codes, bytes_eq}
 use Rattle.std.proofs.lemmas.Bool.{or_parts}
 use Rattle.std.proofs.lemmas.Slice.Eq.{bytes_eq-Decides}
 use Rattle.stl_syntax.specs.Characters.{is_among}
 use Rattle.stl_syntax.specs.Names.{reserved}
 use Rattle.stl_grammar.specs.FormulaRefusals.{constants, prefixes, ahead}
-use Rattle.stl_grammar.specs.Machine.{Kind, kind, a_constant, a_negation, an_implication, an_until, a_future, a_past, an_inf, a_name}
+use Rattle.stl_grammar.specs.Machine.{Kind, kind, a_constant, a_negation, a_join, an_implication, an_until, a_since, a_future, a_past, an_inf, a_name}
+use Rattle.stl_grammar.specs.Machine.{of_future, of_past}
+use Rattle.stl_grammar.specs.Refusing.{owner, is_beside}
+use Rattle.stl_grammar.specs.declared.place.Timed.{Timed}
+use Rattle.stl_grammar.specs.declared.place.Timed.TheVariants.{Eventually as TEventually, Always as TAlways, Once as TOnce}
+use Rattle.stl_grammar.specs.declared.place.Timed.TheVariants.{Historically as THistorically}
+use Rattle.stl_grammar.proofs.Derivations.{constant_word, timed_word}
 
 -- the word is one of the words
 abbrev pub OneOf : List ℕ → List (List ℕ) → Type 0
@@ -20,6 +26,19 @@ among_one w (v ∷ words) h = split (bytes_eq w v) refl (λ k. among_one w words
     split : (b : Bool) → bytes_eq w v ≡ b → (is_among w words ≡ true → OneOf w words) → OneOf w (v ∷ words)
     split true e f = inl ((bytes_eq-Decides w v).0 e)
     split false e f = inr (f (rw e at h))
+
+one_among : (w : List ℕ) (words : List (List ℕ)) → OneOf w words → is_among w words ≡ true
+one_among w [] h = absurd h
+one_among w (v ∷ words) (inl e) = rw ((bytes_eq-Decides w v).1 e) refl
+one_among w (v ∷ words) (inr h) = split (bytes_eq w v) (one_among w words h)
+  where
+    split : (b : Bool) → is_among w words ≡ true → (b || is_among w words) ≡ true
+    split true h = refl
+    split false h = h
+
+-- it is none of them where it is not among them
+pub none_of : (w : List ℕ) (words : List (List ℕ)) → is_among w words ≡ false → ¬ OneOf w words
+none_of w words e h = let f = one_among w words h in cc
 
 -- the word is none of the words
 abbrev pub NoneOf : List ℕ → List (List ℕ) → Type 0
@@ -149,3 +168,23 @@ pub among_reserved : (w : List ℕ) → is_among w reserved ≡ is_word (kind w)
 unfolding kind
 among_reserved = by_words (λ w. is_among w reserved ≡ is_word (kind w)) (refl, refl, refl) (refl, refl, refl, refl, refl) (refl, refl, refl, refl, refl)
     (λ w h. rw (h, name_kind w h) refl)
+
+-- the words of each kind
+abbrev pub OfKind : Kind → List ℕ → Type 0
+OfKind a_constant w = (b : Bool) × (w ≡ constant_word b)
+OfKind a_negation w = w ≡ codes "not"
+OfKind a_join w = (w ≡ codes "and") ⊎ (w ≡ codes "or")
+OfKind an_implication w = w ≡ codes "implies"
+OfKind an_until w = w ≡ codes "until"
+OfKind a_since w = w ≡ codes "since"
+OfKind a_future w = (of : Timed) × (w ≡ timed_word of) × (is_beside of ≡ false) × (owner of ≡ of_future)
+OfKind a_past w = (of : Timed) × (w ≡ timed_word of) × (is_beside of ≡ false) × (owner of ≡ of_past)
+OfKind an_inf w = w ≡ codes "inf"
+OfKind a_name w = is_among w reserved ≡ false
+
+-- a word is one of its kind
+pub kind_of : (w : List ℕ) → OfKind (kind w) w
+unfolding kind
+kind_of = by_words (λ w. OfKind (kind w) w) ((true, refl), (false, refl), refl)
+    (refl, (TEventually, refl, refl, refl), (TAlways, refl, refl, refl), (TOnce, refl, refl, refl), (THistorically, refl, refl, refl))
+    (inl refl, inr refl, refl, refl, refl) (λ w g. rw (name_kind w g) g)
