@@ -135,6 +135,7 @@ impl Content {
 
     /// Reads a line that the piece begins with, where it is a row of plain numbers without a fault, and answers how many bytes it
     /// has with its LF. Else nothing changes.
+    #[inline(always)]
     pub(crate) fn read_plain(&mut self, limits: &Limits, piece: &[u8]) -> Option<usize>
         requires most { limits.now.rows ≤ 2 ^ 32 }
         ensures { MatchOption result (self.new ≡ self.old) (λ n. IsRowTaken limits.now piece.now n self.old self.new) }

@@ -1,5 +1,5 @@
 //! Numbers of a few digits, maybe with a few decimals, which most rows have alone.
-ghost use Rattle.std.specs.Prelude.{◌≡◌, ◌≤◌, ◌<◌, ◌∷◌, ◌++◌, ◌⊎◌, [], length, take, get_or, MatchOption};
+ghost use Rattle.std.specs.Prelude.{◌≡◌, ◌≤◌, ◌<◌, ◌∷◌, ◌++◌, ◌⊎◌, [], length, take, get_or, if◌then◌else◌, MatchOption};
 ghost use Rattle.trace_reader.specs.Plain.{IsFewDigits, IsPlainNumber, IsPlainTime, IsPlainValue};
 
 use crate::digits::{BEYOND, Digits, more_digits};
@@ -102,6 +102,14 @@ fn value_size(size: u64) -> Option<u32>
     Some(size as u32)
 }
 
+/// How many bytes the sign of a number has. The digits behind it are read in one place, so that their word is one load.
+#[inline(always)]
+fn sign_len(minus: bool) -> usize
+    ensures { result ≡ (if minus then 1 else 0) }
+{
+    if minus { 1 } else { 0 }
+}
+
 /// The value, maybe with a minus, that a text begins with, in ticks of 1/10^digits, where it has at most `most` decimals and a byte follows.
 #[inline(always)]
 pub(crate) fn plain_value(text: &[u8], most: u8, digits: u8) -> Option<PlainValue>
@@ -112,16 +120,17 @@ pub(crate) fn plain_value(text: &[u8], most: u8, digits: u8) -> Option<PlainValu
     if text.len() < 11 {
         return None;
     }
-    if text[0] == b'-' {
-        let number = plain_number(&text[1..], most, digits)?;
+    let minus = text[0] == b'-';
+    let number = plain_number(&text[sign_len(minus)..], most, digits)?;
+    let size = value_size(number.size)?;
+    if minus {
         return Some(PlainValue {
-            value: opposite_of(value_size(number.size)?),
+            value: opposite_of(size),
             len: number.len + 1,
         });
     }
-    let number = plain_number(text, most, digits)?;
     Some(PlainValue {
-        value: value_of(value_size(number.size)?),
+        value: value_of(size),
         len: number.len,
     })
 }

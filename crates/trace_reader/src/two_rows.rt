@@ -76,6 +76,7 @@ impl TwoRows {
     }
 
     /// Reads a row of plain numbers that the piece begins with, and answers how many bytes it has with its LF.
+    #[inline(always)]
     pub(crate) fn read_plain(&mut self, heading: &Heading, piece: &[u8]) -> Option<usize>
         ensures row { MatchOption result (Unit {0}) (λ n. IsPlainRow heading.now piece.now n self.new.next) }
         ensures last { self.new.last ≡ self.old.last }

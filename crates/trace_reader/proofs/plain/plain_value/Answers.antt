@@ -1,5 +1,6 @@
 -- A value of a few digits, maybe after a minus.
-use Rattle.std.proofs.Common.{◌≡◌, ◌∷◌, ◌+◌, take, drop, arith, length-drop, w32, sym, subst}
+use Rattle.std.proofs.Common.{◌≡◌, ◌∷◌, ◌+◌, take, drop, get_or, if◌then◌else◌, arith, length-drop, w32, sym, subst, ap, ◌∙◌}
+use Rattle.std.proofs.lemmas.Bool.{ne_eqb, eq-eqb}
 use Rattle.std.proofs.lemmas.Int.{to_z-of_z}
 use Rattle.std.proofs.lemmas.List.{take_rest}
 use Rattle.trace_reader.specs.Plain.{IsPlainNumber, IsTicks}
@@ -10,10 +11,12 @@ use Rattle.trace_reader.proofs.plain.plain_value.Goals as goal
 pub returns : goal.returns
 returns c =
     let text = c.args.text.now in
-    let p = c.in_ok-number-2.ensures in
-    let n = c.in_ok-number-2.number in
-    let size = c.in_ok-value_size-2.ensures in
-    let s = c.in_ok-value_size-2.field-0 in
+    let n = c.in_ok-number.number in
+    let none : c.sign_len.result ≡ 0 = c.sign_len.ensures ∙ ap (λ b. if b then 1 else 0) (ne_eqb (get_or text 0 0) 45 c.if-minus.false) in
+    let p : IsPlainNumber c.args.most c.args.digits text n =
+    subst (λ k. IsPlainNumber c.args.most c.args.digits (drop k text) n) none (rw take_rest at c.in_ok-number.ensures) in
+    let size = c.in_ok-size.ensures in
+    let s = c.in_ok-size.size in
     rw (to_z-of_z w32 c.value_of.result (value_fits c.value_of.result c.value_of.ensures.small), c.value_of.ensures.value) (record {
       plain = p.plain;
       read = λ i. value_read (take n.len text) c.args.most c.args.digits i s
@@ -21,15 +24,17 @@ returns c =
       fits = size.1;
     })
 
-pub returns-then-text-eq45 : goal.returns-then-text-eq45
-returns-then-text-eq45 c =
+pub returns-then-minus : goal.returns-then-minus
+returns-then-minus c =
     let text = c.args.text.now in
     let n = c.in_ok-number.number in
-    let p : IsPlainNumber c.args.most c.args.digits (drop 1 text) n = rw take_rest at c.in_ok-number.ensures in
-    let size = c.in_ok-value_size.ensures in
-    let s = c.in_ok-value_size.field-0 in
+    let one : c.sign_len.result ≡ 1 = c.sign_len.ensures ∙ ap (λ b. if b then 1 else 0) (eq-eqb (get_or text 0 0) 45 c.if-minus.true) in
+    let p : IsPlainNumber c.args.most c.args.digits (drop 1 text) n =
+    subst (λ k. IsPlainNumber c.args.most c.args.digits (drop k text) n) one (rw take_rest at c.in_ok-number.ensures) in
+    let size = c.in_ok-size.ensures in
+    let s = c.in_ok-size.size in
     let m = length-drop 1 text in
-    let front : take (n.len + 1) text ≡ 45 ∷ take n.len (drop 1 text) = minus_front text n.len (omega (arith, c.if-text-lt11.false)) c.if-text-eq45.true in
+    let front : take (n.len + 1) text ≡ 45 ∷ take n.len (drop 1 text) = minus_front text n.len (omega (arith, c.if-text-lt11.false)) c.if-minus.true in
     rw (to_z-of_z w32 c.opposite_of.result (value_fits c.opposite_of.result c.opposite_of.ensures.small), c.opposite_of.ensures.value) (record {
       plain = record {
         some = omega arith;
