@@ -298,7 +298,7 @@ at_close nodes rows s order some at = record {
 driven : {nodes : List Node} {header : Header} {rows : List Row} {ended : Bool} {events : List Event} → IsPostOrder nodes
     → IsDriven nodes header rows ended events → IsAt nodes rows ended (state_from nodes initial events)
 driven order nothing = record { rows_are = refl; closed = refl; fronts = λ some i h. absurd (some refl) }
-driven {nodes = nodes} order (by_rows {rows = rows} {events = events} more r n before emptied) =
+driven {nodes = nodes} order (by_rows {rows = rows} {events = events} more r n few before emptied) =
     let at = driven order before in
     let s = state_from nodes initial (events ++ rows_of more) in
     let came = rows_come nodes (state_from nodes initial events) more in

@@ -19,8 +19,9 @@ use Rattle.frac128.specs.declared.cut.Cut.{Cut}
 use Rattle.online_nodes.specs.declared.window.Sweep.{Sweep}
 use Rattle.online_nodes.specs.declared.writer.Out.{Out}
 use Rattle.rational.proofs.PlaceLemmas.{sides, not_both, before_same, same_before, same_places, after_same, upto_same, upto_of_before}
-use Rattle.online_nodes.proofs.WindowLaw.{IsMet, before_it, settled, remembers_of, knows_passed, knows_entered}
+use Rattle.online_nodes.proofs.WindowLaw.{IsMet, before_it, settled, remembers_of, knows_passed, knows_entered, knows_continued}
 use Rattle.online_nodes.proofs.WindowPlaces.{meets_after, meets_upto}
+use Rattle.online_nodes.proofs.Writing.{same_itself}
 
 or_first : Verdict → Option Verdict → Verdict
 or_first d None = d
@@ -182,4 +183,27 @@ module _ (n p : Subformula) (tr : Trace) (w : Window) (begin : Place) (written :
         is = subst (λ b. AllAre b (Counted w.seeks p tr) read (ends (interval v.on))) h m.tells.2;
         begin = begins_there v rest from m.tells e;
         end = ends_there v (place next.reach) f;
+      }
+
+  -- what v finds counts on from where what was found ends
+  pub counts_on : {s : Sweep} {v : Verdict} {rest : List Verdict} (reach : Cut) → IsSwept n p tr w begin written s read stop (v ∷ rest)
+      → IsWindowOf n p tr w (place s.out.to) stop → v.holds ≡ w.seeks
+      → Same (place reach) (moved_end w.end_by w.end_in (ends (interval v.on)))
+      → ((t : Rational) → After (place s.reach) t → After (moved_begin w.begin_by w.begin_in (begins (interval v.on))) t)
+      → IsSwept n p tr w begin written (record { out = s.out; reach = reach }) (ends (interval v.on)) stop rest
+  counts_on {s} {v} {rest} reach m of h f along = record {
+    told = m.told;
+    knows = knows_continued stop met of.some along (told_inside v rest m.tells.3) m.knows;
+    tells = m.tells.3;
+  }
+    where
+      begin_place : Place
+      begin_place = moved_begin w.begin_by w.begin_in (begins (interval v.on))
+
+      met : IsMet w.seeks (Counted w.seeks p tr) (low_place w) (high_place w) read (ends (interval v.on)) begin_place (place reach)
+      met = record {
+        some = m.tells.1;
+        is = subst (λ b. AllAre b (Counted w.seeks p tr) read (ends (interval v.on))) h m.tells.2;
+        begin = begins_there v rest begin_place m.tells (same_itself begin_place);
+        end = ends_there v (place reach) f;
       }

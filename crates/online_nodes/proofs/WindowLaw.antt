@@ -72,6 +72,19 @@ module _ {seeks : Bool} {P : Truths} {low high : Rational → Place} where
     rest = λ t u a r lo hi h. absurd (not_both y u h (met_no_more met t u r lo));
   }
 
+  -- so is one that begins to count no later than where what was found ends
+  pub knows_continued : {x y from to at reach : Place} (stop : Place) → IsMet seeks P low high x y from to
+      → ((t : Rational) → Before (low t) (high t)) → ((t : Rational) → After reach t → After from t)
+      → ((u : Rational) → Upto y u → Upto stop u)
+      → Knows seeks P low high at reach x stop → Knows seeks P low high at to y stop
+  knows_continued {x} {y} {from} {to} {at} {reach} stop met window along inside k = record {
+    counts = λ t a r. elim (sides reach t) [
+      | inl h ↦ k.counts t a h
+      | inr h ↦ let u = met_in met window t (along t h) r in (u.0, u.3, u.4, inside u.0 u.2, met.is u.0 u.1 u.2)
+    ];
+    rest = λ t u a r lo hi h. absurd (not_both y u h (met_no_more met t u r lo));
+  }
+
   -- a later moment
   pub knows_later : {at reach read stop : Place} (at' : Place) → Knows seeks P low high at reach read stop
       → ((t : Rational) → After at' t → After at t) → Knows seeks P low high at' reach read stop

@@ -1,6 +1,6 @@
--- The run that a stream of rows drives: the rows that come together, and the end, are followed by a step of every node that is no atom, in
--- rising order, and by takes until nothing is left.
-use Rattle.std.specs.Prelude.{◌≡◌, ◌≢◌, ℕ, zero, suc, ◌-◌, Bool, true, false, if◌then◌else◌, List, [], ◌∷◌, ◌++◌, length}
+-- The run that a stream of rows drives: rows that come together, 64 at most, and the end, are followed by a step of every node that is no
+-- atom, in rising order, and by takes until nothing is left.
+use Rattle.std.specs.Prelude.{◌≡◌, ◌≢◌, ◌<◌, ℕ, zero, suc, ◌-◌, Bool, true, false, if◌then◌else◌, List, [], ◌∷◌, ◌++◌, length}
 use Rattle.stl_syntax.specs.Trace.{Header, Row}
 use Rattle.online_nodes.specs.Network.{Event, row, step, close, take, is_atom, Emitted}
 use Rattle.online_nodes.specs.Needed.{IsTaken}
@@ -34,10 +34,15 @@ pub record IsEmptied (nodes : List Node) (header : Header) (events : List Event)
   pub is_emitted : Emitted nodes header events (length nodes - 1) emitted
   pub all : taken ≡ length emitted
 
+-- so many rows come at most before every node steps
+abbrev pub most_rows : ℕ
+most_rows = 64
+
 -- the run after these rows, and after the end where the input has ended
 pub data IsDriven (nodes : List Node) (header : Header) : List Row → Bool → List Event → Type 0 where
   nothing : IsDriven nodes header [] false []
-  by_rows : {rows : List Row} {events : List Event} (more : List Row) (r : Row) (n : ℕ) → IsDriven nodes header rows false events
+  by_rows : {rows : List Row} {events : List Event} (more : List Row) (r : Row) (n : ℕ) → length more < most_rows
+      → IsDriven nodes header rows false events
       → IsEmptied nodes header ((events ++ rows_of more) ++ pass_of (row r) nodes n)
       → IsDriven nodes header ((rows ++ more) ++ r ∷ []) false ((events ++ rows_of more) ++ pass_of (row r) nodes n)
   by_end : {rows : List Row} {events : List Event} (n : ℕ) → IsDriven nodes header rows false events → rows ≢ []

@@ -2,7 +2,9 @@
 
 ghost use Rattle.std.specs.Prelude.{◌≡◌, ◌≢◌, ◌+◌, ◌*◌, ◌<◌, ℕ, length, slice_get, IfOk, OnErr, MatchOption, Some};
 ghost use Rattle.stl_syntax.specs.declared.items.Verdict.{Verdict as Told};
-ghost use Rattle.rational.specs.Places.{AtMost};
+ghost use Rattle.rational.specs.Rational.{Rational};
+ghost use Rattle.rational.specs.Places.{After, AtMost, begins, moved_begin};
+ghost use Rattle.frac128.specs.Spans.{interval};
 ghost use Rattle.frac128.specs.Cuts.{place};
 ghost use Rattle.online_nodes.specs.Held.{fresh_at};
 ghost use Rattle.online_nodes.specs.Written.{IsSound};
@@ -11,6 +13,7 @@ ghost use Rattle.online_nodes.specs.Sweeps.{FitsIn, HasEnded, HasRead, HasStoppe
 use crate::edges::Edges;
 use crate::writer::Out;
 use frac128::{Cut, Memory};
+use stl_syntax::Verdict;
 
 /// A window by what a time that was found counts for: from `begin_by` later to `end_by` later, each end in or out.
 /// The widest fields stand first, so that an operator takes two lines of the cache in place of three.
@@ -30,6 +33,28 @@ pub(crate) struct Window {
 pub(crate) struct Sweep {
     pub(crate) out: Out,
     pub(crate) reach: Cut,
+}
+
+/// Reads the next verdict, which is as sought and begins to count no later than where what was found ends: so it counts on from there,
+/// and nothing is told yet.
+#[inline(always)]
+fn read_along(edges: &mut Edges, window: Window, sweep: Sweep, v: Verdict) -> Sweep
+    requires input { window.of < length edges.old.edges }
+    requires apart { window.of ≢ sweep.out.edge }
+    requires sound { IsSound sweep.out }
+    requires inside { AtMost (place sweep.out.at) (place sweep.out.to) }
+    requires first { slice_get (fresh_at edges.old window.of) 0 ≡ Some v }
+    requires sought { v.holds ≡ window.seeks }
+    requires fits { FitsIn window v }
+    requires along { (t : Rational) → After (place sweep.reach) t → After (moved_begin window.begin_by window.begin_in (begins (interval v.on))) t }
+    ensures { HasRead edges.old edges.new window sweep result }
+{
+    let _ = edges.pass(window.of);
+    let reach = Cut::end(&v.on).shift_end(window.end_by, window.end_in);
+    Sweep {
+        out: sweep.out,
+        reach,
+    }
 }
 
 /// Reads the next verdict of the input. None where the rest of the stretch needs none, and then nothing changed.
@@ -55,6 +80,9 @@ fn read_one(edges: &mut Edges, window: Window, sweep: Sweep) -> Result<Option<Sw
     let begin = Cut::begin(&v.on).shift_begin(window.begin_by, window.begin_in);
     if sweep.out.end().precedes(&begin) {
         return Ok(None);
+    }
+    if !sweep.reach.precedes(&begin) {
+        return Ok(Some(read_along(edges, window, sweep, v)));
     }
     let found = sweep.out.upto(edges, window.seeks, sweep.reach)?;
     let out = found.upto(edges, !window.seeks, begin)?;

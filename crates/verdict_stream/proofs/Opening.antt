@@ -6,6 +6,7 @@ use Rattle.stl_syntax.specs.Formula.{Formula}
 use Rattle.stl_syntax.specs.Trace.{Header, Row}
 use Rattle.stl_syntax.specs.declared.node.Node.{Node}
 use Rattle.online_nodes.specs.Network.{Event, row, node_is_atom}
+use Rattle.online_nodes.specs.Driven.{most_rows}
 use Rattle.online_net.specs.Nets.{Stands, last_row_of}
 use Rattle.trace_stream.specs.Cases.{Takes, with_row}
 use Rattle.trace_stream.specs.Following.{Follows, IsOpen}
@@ -64,12 +65,12 @@ module _ (v : Verdicts) (c : Case) (made : List ℕ) where
       absurd (false≢true (sym o.no_atom ∙ ap (λ (f : Formula). node_is_atom f.nodes (length f.nodes - 1)) (sym o.formula) ∙ e))
 
   -- a row more, whose text is owed
-  pub owes_on : IsOpened → node_is_atom v.network.formula.nodes (length v.network.formula.nodes - 1) ≡ false → (after : Verdicts) (r : Row)
+  pub owes_on : IsOpened → length v.times.items < most_rows → node_is_atom v.network.formula.nodes (length v.network.formula.nodes - 1) ≡ false → (after : Verdicts) (r : Row)
       → ((nodes : List Node) (header : Header) (events : List Event) → Stands nodes header v.network.net events
       → Stands nodes header after.network.net (events ++ row r ∷ [])) → KeepsTime v after r → IsOwing after (with_row r c) made
-  owes_on (inl k) e after r stands by =
+  owes_on (inl k) room e after r stands by =
       owes_first v after c made r k
       (ap (λ (f : Formula). node_is_atom f.nodes (length f.nodes - 1)) (sym k.stands.formula) ∙ e)
       (stands c.formula.nodes c.trace.header k.stands.events k.stands.stands) by
-  owes_on (inr o) e after r stands by =
-      owes_more v after c made r o (stands c.formula.nodes c.trace.header o.events o.stands) by
+  owes_on (inr o) room e after r stands by =
+      owes_more v after c made r o room (stands c.formula.nodes c.trace.header o.events o.stands) by

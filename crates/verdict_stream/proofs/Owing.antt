@@ -3,6 +3,7 @@
 use Rattle.std.proofs.Common.{◌≡◌, ℕ, ◌+◌, ◌-◌, ◌<◌, Bool, true, false, List, [], ◌∷◌, ◌++◌, length, map, take, drop, refl}
 use Rattle.std.proofs.Common.{sym, ap, ◌∙◌, subst, arith, append-nil, append_assoc, length-append, Some, None, pos}
 use Rattle.std.specs.Prelude.{◌≢◌, cond, MatchBool}
+use Rattle.std.proofs.lemmas.List.{length-map}
 use Rattle.std.proofs.lemmas.List.Elements.{All-nil, All-cons}
 use Rattle.std.proofs.Math.Seq.{drop-append_seam, take-length, take-append_seam}
 use Rattle.rational.specs.Rational.{whole}
@@ -18,7 +19,7 @@ use Rattle.stl_syntax.proofs.WellFormedLemmas.{root_some}
 use Rattle.stl_syntax.proofs.VerdictsLaw.{alike_length, alike_sym}
 use Rattle.online_nodes.specs.Network.{Event, row, take as taken, node_is_atom, initial, after_event}
 use Rattle.online_nodes.specs.Network.{state_from, state, State, Front, shown, same_front, answered, Emitted}
-use Rattle.online_nodes.specs.Driven.{rows_of, steps_of, takes, pass_of, IsEmptied, IsDriven, by_rows}
+use Rattle.online_nodes.specs.Driven.{rows_of, steps_of, takes, pass_of, most_rows, IsEmptied, IsDriven, by_rows}
 use Rattle.online_nodes.specs.Needed.{IsTaken}
 use Rattle.online_nodes.specs.Laws.{answered_to}
 use Rattle.online_nodes.proofs.EmittedLaw.{emitted_last}
@@ -293,6 +294,7 @@ owes_first v after c made r k no_atom stands by =
       more = [];
       last = r;
       rows = ap (λ l. l ++ r ∷ []) (sym (append-nil c.trace.rows));
+      few = omega arith;
       events = w.events ++ row r ∷ [];
       fed = record { base = w.events; driven = w.driven; is = ap (λ l. l ++ row r ∷ []) (sym (append-nil w.events)) };
       stands = stands;
@@ -305,9 +307,9 @@ owes_first v after c made r k no_atom stands by =
     }
 
 -- and one more
-pub owes_more : (v after : Verdicts) (c : Case) (made : List ℕ) (r : Row) → (o : IsOwing v c made)
+pub owes_more : (v after : Verdicts) (c : Case) (made : List ℕ) (r : Row) → (o : IsOwing v c made) → length v.times.items < most_rows
     → Stands c.formula.nodes c.trace.header after.network.net (o.events ++ row r ∷ []) → KeepsTime v after r → IsOwing after (with_row r c) made
-owes_more v after c made r o stands by = record {
+owes_more v after c made r o room stands by = record {
   fits = (o.fits.0, record { formula = o.fits.1.formula; bound = o.fits.1.bound });
   formula = by.formula ∙ o.formula;
   horizon = by.horizon ∙ o.horizon;
@@ -316,6 +318,7 @@ owes_more v after c made r o stands by = record {
   more = o.more ++ o.last ∷ [];
   last = r;
   rows = ap (λ l. l ++ r ∷ []) (o.rows ∙ append_assoc o.before o.more (o.last ∷ []));
+  few = omega (arith, room, ap length o.times, length-map (o.more ++ o.last ∷ []) (λ (q : Row). q.time));
   events = o.events ++ row r ∷ [];
   fed = record {
     base = o.fed.base;
@@ -410,7 +413,7 @@ module _ (v : Verdicts) (c : Case) (made : List ℕ) (o : IsOwing v c made) wher
       → IsFollowedOn (λ case text. IsWatched false after case) verdicts c old new made
   owing_followed {given} {after} left_off x pending rest old new grown h lines longer =
       let p = given_out c.formula.nodes c.trace.header fed_by (row o.last) fed.emptied.emitted x given v.pending pending h in
-      let driven = by_rows o.more o.last p.made o.fed.driven p.emptied in
+      let driven = by_rows o.more o.last p.made o.few o.fed.driven p.emptied in
       let put : pending ≡ p.put = p.pending ∙ ap (λ l. l ++ p.put) o.none_pending in
       let rows : c.trace.rows ≡ o.before ++ (o.more ++ o.last ∷ []) = o.rows ∙ append_assoc o.before o.more (o.last ∷ []) in
       let left = left_of_pass c.formula.nodes c.trace.header order some_node o.more p.made p.put x o.no_atom o.fed.driven

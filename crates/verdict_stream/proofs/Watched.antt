@@ -121,7 +121,7 @@ module _ (nodes : List Node) (header : Header) where
   pub driven_at : {rows : List Row} {ended : Bool} {events : List Event} → IsDriven nodes header rows ended events
       → IsAfter rows ended (state_from nodes initial events)
   driven_at nothing = record { rows_are = refl; closed_is = refl }
-  driven_at (by_rows {rows = rows} {events = events} more r n before emptied) =
+  driven_at (by_rows {rows = rows} {events = events} more r n few before emptied) =
       let on = state_after nodes header initial events (rows_of more) in
       let at = subst (λ (z : State). IsAfter (rows ++ more) false z) (sym on) (rows_at (state_from nodes initial events) rows more (driven_at before)) in
       let s = state_from nodes initial (events ++ rows_of more) in
@@ -139,13 +139,13 @@ module _ (nodes : List Node) (header : Header) where
   -- and all that the root gave out in it was taken
   pub driven_emptied : {rows : List Row} {ended : Bool} {events : List Event} → IsDriven nodes header rows ended events → IsEmptied nodes header events
   driven_emptied nothing = record { taken = 0; is_taken = none_taken; emitted = []; is_emitted = refl; all = refl }
-  driven_emptied (by_rows more r n before emptied) = emptied
+  driven_emptied (by_rows more r n few before emptied) = emptied
   driven_emptied (by_end n before some emptied) = emptied
 
   -- without rows no event was driven
   pub none_driven : {rows : List Row} {ended : Bool} {events : List Event} → IsDriven nodes header rows ended events → rows ≡ [] → events ≡ []
   none_driven nothing e = refl
-  none_driven (by_rows {rows = rows} more r n before emptied) e = absurd (no_row (rows ++ more) r e)
+  none_driven (by_rows {rows = rows} more r n few before emptied) e = absurd (no_row (rows ++ more) r e)
   none_driven (by_end n before some emptied) e = absurd (some e)
 
   -- one row more, which a pass follows at once
@@ -154,7 +154,7 @@ module _ (nodes : List Node) (header : Header) where
   by_row {rows} {events} r n d x =
       subst (λ l. IsDriven nodes header (l ++ r ∷ []) false (events ++ pass_of (row r) nodes n)) (append-nil rows)
       (subst (λ l. IsDriven nodes header ((rows ++ []) ++ r ∷ []) false (l ++ pass_of (row r) nodes n)) (append-nil events)
-      (by_rows [] r n d (subst (λ l. IsEmptied nodes header (l ++ pass_of (row r) nodes n)) (sym (append-nil events)) x)))
+      (by_rows [] r n (omega arith) d (subst (λ l. IsEmptied nodes header (l ++ pass_of (row r) nodes n)) (sym (append-nil events)) x)))
 
   -- ---- a pass
 

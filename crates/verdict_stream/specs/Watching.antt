@@ -1,5 +1,5 @@
 -- When the network of a formula stands for the rows of a case, and what was taken of what its root gave out.
-use Rattle.std.specs.Prelude.{◌≡◌, ℕ, ◌+◌, ◌-◌, ◌≤◌, Bool, true, false, List, [], ◌∷◌, ◌++◌, length, map, take, drop, Option, Some, None}
+use Rattle.std.specs.Prelude.{◌≡◌, ℕ, ◌+◌, ◌-◌, ◌<◌, ◌≤◌, Bool, true, false, List, [], ◌∷◌, ◌++◌, length, map, take, drop, Option, Some, None}
 use Rattle.stl_syntax.specs.Formula.{Formula, horizon, root}
 use Rattle.stl_syntax.specs.Trace.{Header, Row}
 use Rattle.stl_syntax.specs.Verdicts.{AreAlike}
@@ -8,7 +8,7 @@ use Rattle.stl_syntax.specs.declared.items.Verdict.{Verdict}
 use Rattle.stl_syntax.specs.declared.node.Node.{Node}
 use Rattle.online_nodes.specs.Network.{Event, row, node_is_atom, Emitted}
 use Rattle.online_nodes.specs.Needed.{IsTaken}
-use Rattle.online_nodes.specs.Driven.{rows_of, takes, IsDriven}
+use Rattle.online_nodes.specs.Driven.{rows_of, takes, most_rows, IsDriven}
 use Rattle.online_net.specs.Nets.{Stands}
 use Rattle.report.specs.Appended.{Grew}
 use Rattle.trace_stream.specs.Cases.{IsCase}
@@ -42,8 +42,8 @@ pub record IsFed (nodes : List Node) (header : Header) (before more : List Row) 
   pub driven : IsDriven nodes header before false base
   pub is : events ≡ (base ++ rows_of more) ++ row last ∷ []
 
--- the network took all the case's rows; after the first of them the text was made, and no node stepped since; of the others the times are
--- kept. The root is no atom, so that it gave out nothing for them
+-- the network took all the case's rows; after the first of them the text was made, and no node stepped since; of the others, which are few,
+-- the times are kept. The root is no atom, so that it gave out nothing for them
 pub record IsOwing (v : Verdicts) (c : Case) (made : List ℕ) : Type 0 where
   pub fits : (f : Formula) × IsCase f c
   pub formula : v.network.formula ≡ c.formula
@@ -53,6 +53,7 @@ pub record IsOwing (v : Verdicts) (c : Case) (made : List ℕ) : Type 0 where
   pub more : List Row
   pub last : Row
   pub rows : c.trace.rows ≡ (before ++ more) ++ last ∷ []
+  pub few : length more < most_rows
   pub events : List Event
   pub fed : IsFed c.formula.nodes c.trace.header before more last events
   pub stands : Stands c.formula.nodes c.trace.header v.network.net events

@@ -1,9 +1,9 @@
 //! The verdicts of a formula as the rows of a trace come: a network of operators follows them.
-ghost use Rattle.std.specs.Prelude.{◌≡◌, ◌-◌, ◌++◌, ℕ, List, length, true, false, IfOk};
+ghost use Rattle.std.specs.Prelude.{◌≡◌, ◌-◌, ◌++◌, ◌<◌, ℕ, List, length, true, false, IfOk, OnOk};
 ghost use Rattle.stl_syntax.specs.Trace.{Header, IsTrace};
 ghost use Rattle.stl_syntax.specs.Texts.{IsVerdictLine};
 ghost use Rattle.online_nodes.specs.Network.{Event, node_is_atom};
-ghost use Rattle.online_nodes.specs.Driven.{steps_of};
+ghost use Rattle.online_nodes.specs.Driven.{most_rows, steps_of};
 ghost use Rattle.online_net.specs.Nets.{Stands};
 ghost use Rattle.report.specs.Appended.{Grew};
 ghost use Rattle.verdict_stream.specs.Pendings.{IsTextOfRow, IsTextOfRows};
@@ -22,6 +22,9 @@ use stl_syntax::{Formula, Node, Text, Verdict};
 use trace_reader::Row;
 use trace_stream::{Case, Follow, FollowFault};
 
+/// How many rows come at most before every node steps, so that what the edges hold does not grow with a piece.
+const MOST_ROWS: usize = 64;
+
 /// The network of a formula in the ticks of a trace, and the truth at the start once the first verdict was taken.
 #[derive(Drop)]
 pub struct Network {
@@ -32,8 +35,8 @@ pub struct Network {
 
 /// A network, the times of the rows that it took and that are not answered yet, and what of its verdicts is not written yet.
 ///
-/// A step of a node costs much the same for one row and for many. So the nodes step once for the rows of a piece, and what the root then
-/// gives out is cut where the answer of each row ends. A root that is an atom gives out its verdicts at each row without a step.
+/// A step of a node costs much the same for one row and for many. So the nodes step once for the rows of a piece, or for 64 of them, and what
+/// the root then gives out is cut where the answer of each row ends. A root that is an atom gives out its verdicts at each row without a step.
 #[derive(Drop)]
 pub struct Verdicts {
     network: Network,
@@ -152,12 +155,30 @@ impl Network {
 }
 
 impl Verdicts {
+    /// Makes the text that is owed, where no row more can come before the nodes step.
+    ///
+    /// # Errors
+    /// Want of memory.
+    #[inline(always)]
+    fn make_room(&mut self, text: &mut Text) -> Result<(), Memory>
+        requires { (c : Of) × (made : List ℕ) × IsOpen (WatchesRows self.old) (IsOwing self.old) verdicts c made }
+        ensures open { (c : Of) (made : List ℕ) → IsOpen (WatchesRows self.old) (IsOwing self.old) verdicts c made
+            → IfOk result (λ _. IsOpenOn (WatchesRows self.new) (IsOwing self.new) verdicts c text.old text.new made) }
+        ensures room { OnOk result (length self.new.times.items < most_rows) }
+    {
+        if self.times.len() < MOST_ROWS {
+            return Ok(());
+        }
+        self.flush(text)
+    }
+
     /// Takes the next row. A root that is an atom answers it at once; else its answer is owed.
     ///
     /// # Errors
     /// Want of memory.
     fn take_row(&mut self, row: &Row, text: &mut Text) -> Result<(), Memory>
-        requires { HasOpen (WatchesRows self.old) (IsOwing self.old) verdicts row.now }
+        requires room { length self.old.times.items < most_rows }
+        requires open { HasOpen (WatchesRows self.old) (IsOwing self.old) verdicts row.now }
         ensures { (c : Of) (made : List ℕ) → IsOpen (WatchesRows self.old) (IsOwing self.old) verdicts c made → Takes row.now c.trace
             → IfOk result (λ _. IsOpenOn (WatchesRows self.new) (IsOwing self.new) verdicts (with_row row.now c) text.old text.new made) }
     {
@@ -264,6 +285,9 @@ impl Follow for Verdicts {
     }
 
     fn row(&mut self, row: &Row, text: &mut Text) -> Result<(), FollowFault> {
+        let Ok(()) = self.make_room(text) else {
+            return Err(FollowFault::Memory);
+        };
         match self.take_row(row, text) {
             Ok(()) => Ok(()),
             Err(_) => Err(FollowFault::Memory),

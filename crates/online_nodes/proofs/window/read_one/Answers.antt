@@ -14,7 +14,7 @@ use Rattle.online_nodes.specs.Held.{fresh_at}
 use Rattle.online_nodes.specs.Sweeps.{IsSwept}
 use Rattle.online_nodes.proofs.Sweeping.{first_is, none_left, not_sought, too_late, found_part, spared_part, counts_now}
 use Rattle.online_nodes.proofs.Sweeping.{sought_not, sought_is, begin_alike, begins_beyond, end_alike, fits_alike}
-use Rattle.rational.proofs.PlaceLemmas.{sides, not_both, at_most_of_not_before}
+use Rattle.rational.proofs.PlaceLemmas.{sides, not_both, at_most_of_not_before, after_same}
 use Rattle.rational.proofs.Lists.{on_err_anyway, empty_of_none}
 use Rattle.online_nodes.proofs.GotLemmas.{got-length, got-other}
 use Rattle.online_nodes.proofs.WorkLemmas.{worked_pass}
@@ -90,6 +90,23 @@ returns-then-precedes-clause-read c =
           too_late n p tr c.args.window begin written read stop c.args.sweep c.in-Some.v f.0 from of from_is later
           (subst (λ l. IsSwept n p tr c.args.window begin written c.args.sweep read stop l) f.1 m);
     }
+
+pub read_along-requires-clause-fits : goal.read_along-requires-clause-fits
+read_along-requires-clause-fits c = c.requires.fits c.in-Some.v (sym c.next.ensures ∙ c.in-Some.is)
+
+pub read_along-requires-clause-along : goal.read_along-requires-clause-along
+read_along-requires-clause-along c t after =
+    let from : Place = place c.shift_begin-begin.result in
+    let from_is : Same from (moved_begin c.args.window.begin_by c.args.window.begin_in (begins (interval c.in-Some.v.on))) =
+    begin_alike (place c.shift_begin-begin.result) _ c.args.window.begin_by c.args.window.begin_in _ (begins (interval c.in-Some.v.on))
+    (search (rules, to_z-of_z)) c.begin.ensures c.shift_begin-begin.ensures in
+    after_same from (moved_begin c.args.window.begin_by c.args.window.begin_in (begins (interval c.in-Some.v.on))) t from_is
+    (elim (sides from t) [
+      | inl h ↦ absurd (not_both (place c.args.sweep.reach) t
+          (at_most_of_not_before from (place c.args.sweep.reach)
+          (λ b. let r = c.precedes-2.ensures.1 b in let e = c.if-not-precedes.true in cc) t h) after)
+      | inr h ↦ h
+    ])
 
 pub upto-requires-2-clause-edge : goal.upto-requires-2-clause-edge
 upto-requires-2-clause-edge c =

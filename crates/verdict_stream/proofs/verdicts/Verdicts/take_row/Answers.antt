@@ -11,19 +11,19 @@ use Rattle.verdict_stream.proofs.Opening.{open_width, open_time, open_places, at
 use Rattle.verdict_stream.proofs.verdicts.Verdicts.take_row.Goals as goal
 
 pub feed-requires-clause-width : goal.feed-requires-clause-width
-feed-requires-clause-width c = let (case, made, opened, t) = c.requires in open_width c.args.self.now case made opened c.args.row.now t
+feed-requires-clause-width c = let (case, made, opened, t) = c.requires.open in open_width c.args.self.now case made opened c.args.row.now t
 
 pub feed-requires-clause-later : goal.feed-requires-clause-later
-feed-requires-clause-later c = let (case, made, opened, t) = c.requires in open_time c.args.self.now case made opened c.args.row.now t
+feed-requires-clause-later c = let (case, made, opened, t) = c.requires.open in open_time c.args.self.now case made opened c.args.row.now t
 
 pub step_all-requires : goal.step_all-requires
 step_all-requires c =
-    let (case, made, opened, t) = c.requires in
+    let (case, made, opened, t) = c.requires.open in
     c.in-Ok.ensures.nodes ∙ open_places c.args.self.now case made opened
 
 pub take_all-requires : goal.take_all-requires
 take_all-requires c =
-    let (case, made, opened, t) = c.requires in
+    let (case, made, opened, t) = c.requires.open in
     let v = c.args.self.now in
     let k = atom_owes_none v case made opened (sym c.is_atom.ensures ∙ c.if-is_atom.true) in
     let w = k.stands in
@@ -67,7 +67,7 @@ returns-in-Ok-push c = λ case made opened t.
       [],
       sym (append-nil c.args.text.now),
       inr (subst (λ m. IsOwing after (with_row c.args.row.now case) m) (sym (append-nil made))
-          (owes_on v case made opened (sym c.is_atom.ensures ∙ c.if-is_atom.false) after c.args.row.now
+          (owes_on v case made opened c.requires.room (sym c.is_atom.ensures ∙ c.if-is_atom.false) after c.args.row.now
           (λ nodes header events st. c.in-Ok.ensures.stands nodes header events st) (record {
             formula = refl;
             start = refl;
