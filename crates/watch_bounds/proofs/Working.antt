@@ -62,7 +62,7 @@ driven_steps : (nodes : List Node) (header : Header) {rows : List Row} {ended : 
     → steps_in events ≤ length nodes * (length rows + once_more ended)
 unfolding once_more
 driven_steps nodes header nothing = omega arith
-driven_steps nodes header (by_rows {rows = rows} {events = events} more r n before emptied) =
+driven_steps nodes header (by_rows {rows = rows} {events = events} more r n few before emptied) =
     let h = driven_steps nodes header before in
     let a = steps_append (events ++ rows_of more) (row r ∷ (steps_of 0 nodes ++ takes n)) in
     let b = steps_append events (rows_of more) in
