@@ -268,7 +268,7 @@ module _ (tr : Trace) where
       → Beside (start tr) (stop tr) lo hi i j false e.near y u
   going_back on p t lo hi e i j x y nx ny o u w = moved_back lo hi i j e.near e.stays_in x y (pushed hi e.near nx) (pushed hi e.near ny) o u w
 
-  -- a window begins to hold where its input does at its far end, and ends where its input does at its near end
+  -- a window only begins where its input does so at its near end, and only ends where its input does so at its far end
   pub begins_eventually : (a b : ℕ) (i j : Bool) (p : Subformula) (t : Rational) → Edge true p tr (by t (ahead a)) → Keeps true (eventually a b i j p) tr t
   begins_eventually a b i j p t e = record {
     near = pulled (ahead a) e.near;
@@ -347,7 +347,7 @@ module _ (tr : Trace) where
             back_beside false p e m m.within.inside (k m.time (behind_out s (stop tr) t a b j i x m.time m.within));
       }
 
-  -- until begins where both inputs do at the near end
+  -- until only begins where both inputs together do so at the near end
   pub begins_until : (a b : ℕ) (p q : Subformula) (t : Rational) → Edge true (conjunction p q) tr (by t (ahead a)) → Keeps true (until a b p q) tr t
   begins_until a b p q t e = record {
     near = pulled (ahead a) e.near;
@@ -365,7 +365,7 @@ module _ (tr : Trace) where
         );
   }
 
-  -- and ends where the left one does, or the right one does at the far end
+  -- and only ends where the left one does so, and the right one at the far end
   pub ends_until : (a b : ℕ) (p q : Subformula) (t : Rational) → Keeps false p tr t → Edge false q tr (by t (ahead b)) → Keeps false (until a b p q) tr t
   ends_until a b p q t here e =
       let n = within_both (pulled (ahead b) e.near) here.near in record {
@@ -384,7 +384,7 @@ module _ (tr : Trace) where
             );
       }
 
-  -- since begins where the left one does, or the right one does at the far end
+  -- since only begins where the left one does so, and the right one at the far end
   pub begins_since : (a : ℕ) (b : Option ℕ) (p q : Subformula) (t : Rational) → Keeps true p tr t → Edge true q tr (by t (low_of t b))
       → Keeps true (since a b p q) tr t
   begins_since a b p q t here e =
@@ -406,7 +406,7 @@ module _ (tr : Trace) where
             );
       }
 
-  -- and ends where both do at the near end
+  -- and only ends where both together do so at the near end
   pub ends_since : (a : ℕ) (b : Option ℕ) (p q : Subformula) (t : Rational) → Edge false (conjunction p q) tr (by t (behind a))
       → Keeps false (since a b p q) tr t
   ends_since a b p q t e =
