@@ -13,3 +13,4 @@ pub mod RestsFew
 pub mod GivenFew
 pub mod LetGo
 pub mod BooksRight
+pub mod PartsFew

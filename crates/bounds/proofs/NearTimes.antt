@@ -119,6 +119,10 @@ within_both {t} n m =
 pub lt_by : {t u : Rational} (k : Move) → t <ʳ u → by t k <ʳ by u k
 lt_by {t} {u} k h = record { lt = omega (arith, h.lt) }
 
+-- and so it does where the two may be one
+pub le_by : {t u : Rational} (k : Move) → t ≤ʳ u → by t k ≤ʳ by u k
+le_by {t} {u} k h = record { le = omega (arith, h.le) }
+
 -- what is earlier than a moved time is, moved back, earlier than it
 pub back_below : {t a : Rational} (k : Move) → a <ʳ by t k → by a (back k) <ʳ t
 back_below {t} {a} k h = record { lt = omega (arith, h.lt) }

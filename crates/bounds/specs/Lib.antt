@@ -2,3 +2,4 @@ pub mod Turns
 pub mod Held
 pub mod Rests
 pub mod Books
+pub mod Parts

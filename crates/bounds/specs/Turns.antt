@@ -70,8 +70,24 @@ looks_back (since a b p q) = far a b + max (looks_back p) (looks_back q)
 looks_back (once a b a_in b_in p) = far a b + looks_back p
 looks_back (historically a b a_in b_in p) = far a b + looks_back p
 
--- how often the truth can turn for a row: an atom at the row and between it and the next; a window at the turns of its input moved by its two
--- bounds, and where a bound comes to the start or the end of the trace; until and since at the turns of the left input itself, too
+-- how often the truth can begin for a row, and how often it can end: of an atom at the row and between it and the next; of a window where its input
+-- does, moved by the bound that goes by, and where that bound comes to the start or the end of the trace; of until and since where an input does
+abbrev pub begins_for_a_row : Subformula → ℕ
+begins_for_a_row (constant b) = 0
+begins_for_a_row (atom i a) = 2
+begins_for_a_row (negation p) = begins_for_a_row p
+begins_for_a_row (conjunction p q) = begins_for_a_row p + begins_for_a_row q
+begins_for_a_row (disjunction p q) = begins_for_a_row p + begins_for_a_row q
+begins_for_a_row (implication p q) = begins_for_a_row p + begins_for_a_row q
+begins_for_a_row (until a b p q) = begins_for_a_row p + begins_for_a_row q + 2
+begins_for_a_row (eventually a b a_in b_in p) = begins_for_a_row p + 2
+begins_for_a_row (always a b a_in b_in p) = begins_for_a_row p + 2
+begins_for_a_row (since a b p q) = begins_for_a_row p + begins_for_a_row q + 2
+begins_for_a_row (once a b a_in b_in p) = begins_for_a_row p + 2
+begins_for_a_row (historically a b a_in b_in p) = begins_for_a_row p + 2
+
+-- how often the truth can turn for a row: an atom at the row and between it and the next, a connective where an input does, and any other formula
+-- where it begins or ends
 abbrev pub turns_for_a_row : Subformula → ℕ
 turns_for_a_row (constant b) = 0
 turns_for_a_row (atom i a) = 2
@@ -79,12 +95,12 @@ turns_for_a_row (negation p) = turns_for_a_row p
 turns_for_a_row (conjunction p q) = turns_for_a_row p + turns_for_a_row q
 turns_for_a_row (disjunction p q) = turns_for_a_row p + turns_for_a_row q
 turns_for_a_row (implication p q) = turns_for_a_row p + turns_for_a_row q
-turns_for_a_row (until a b p q) = 3 * turns_for_a_row p + 2 * turns_for_a_row q + 4
-turns_for_a_row (eventually a b a_in b_in p) = 2 * turns_for_a_row p + 4
-turns_for_a_row (always a b a_in b_in p) = 2 * turns_for_a_row p + 4
-turns_for_a_row (since a b p q) = 3 * turns_for_a_row p + 2 * turns_for_a_row q + 4
-turns_for_a_row (once a b a_in b_in p) = 2 * turns_for_a_row p + 4
-turns_for_a_row (historically a b a_in b_in p) = 2 * turns_for_a_row p + 4
+turns_for_a_row (until a b p q) = 2 * begins_for_a_row (until a b p q)
+turns_for_a_row (eventually a b a_in b_in p) = 2 * begins_for_a_row (eventually a b a_in b_in p)
+turns_for_a_row (always a b a_in b_in p) = 2 * begins_for_a_row (always a b a_in b_in p)
+turns_for_a_row (since a b p q) = 2 * begins_for_a_row (since a b p q)
+turns_for_a_row (once a b a_in b_in p) = 2 * begins_for_a_row (once a b a_in b_in p)
+turns_for_a_row (historically a b a_in b_in p) = 2 * begins_for_a_row (historically a b a_in b_in p)
 
 -- how many rows lie from lo to hi, and in the reach of the formula before and after
 abbrev pub rows_about : Subformula → Trace → Rational → Rational → ℕ

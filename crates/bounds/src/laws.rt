@@ -1,6 +1,7 @@
 //! Laws of the definitions. Each is the contract of a call that does nothing, so that the gate proves it.
 ghost use Rattle.bounds.specs.Books.{BooksAreRight, EdgesLetGo};
 ghost use Rattle.bounds.specs.Held.{EdgesAreBounded};
+ghost use Rattle.bounds.specs.Parts.{PlacesHaveFewParts, RowsCostFew};
 ghost use Rattle.bounds.specs.Rests.{EdgesAreFew, GivenAreFew, MovesAreFew};
 ghost use Rattle.bounds.specs.Turns.{TurnsAreFew, VerdictsAreFew};
 
@@ -46,4 +47,15 @@ pub fn edges_let_go()
 /// The books of an edge over a run are right: each verdict that was put is held or was let go of, once; and few are put, by the rows.
 pub fn books_are_right()
     ensures { BooksAreRight }
+{}
+
+/// For a row the truth of a formula turns at most four times for each of its operators, atoms and constants, and its edge holds or gets at most nine
+/// verdicts for each: neither how they nest nor how wide their windows are matters.
+pub fn rows_cost_few()
+    ensures { RowsCostFew }
+{}
+
+/// The formula at a place has no more operators, atoms and constants than there are nodes up to it.
+pub fn places_have_few_parts()
+    ensures { PlacesHaveFewParts }
 {}

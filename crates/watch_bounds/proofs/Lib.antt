@@ -4,3 +4,4 @@ pub mod LastRows
 pub mod Edges
 pub mod Holding
 pub mod Working
+pub mod Cheap

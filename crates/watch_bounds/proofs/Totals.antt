@@ -17,3 +17,11 @@ total_twice f g m (suc n) h =
     let a = total_twice f g m n (λ i l. h i (omega (arith, l))) in
     let b = h n (omega arith) in
     omega (arith, a, b)
+
+-- what is at most m at each node is at most n times m in all
+pub total_at_most : (f : ℕ → ℕ) (m n : ℕ) → ((i : ℕ) → i < n → f i ≤ m) → total f n ≤ n * m
+total_at_most f m zero h = omega arith
+total_at_most f m (suc n) h =
+    let a = total_at_most f m n (λ i l. h i (omega (arith, l))) in
+    let b = h n (omega arith) in
+    omega (arith, a, b)

@@ -3,6 +3,7 @@ use Rattle.std.specs.Prelude.{ℕ, zero, suc, ◌+◌, ◌*◌, ◌≤◌, Bool,
 use Rattle.rational.specs.Time.{whole}
 use Rattle.stl_syntax.specs.Trace.{Row, last_time}
 use Rattle.stl_syntax.specs.Formula.{Subformula, subformula, root}
+use Rattle.stl_syntax.specs.PostOrder.{IsPostOrder}
 use Rattle.stl_syntax.specs.declared.node.Node.{Node}
 use Rattle.online_nodes.specs.Held.{Held, held_at}
 use Rattle.trace_stream.specs.declared.case.Case.{Case}
@@ -19,6 +20,10 @@ total f (suc i) = total f i + f i
 -- how many verdicts at most, for a row, stand on all edges: so many of each node, and one
 abbrev pub all_for_a_row : List Node → ℕ
 all_for_a_row nodes = total (λ i. verdicts_for_a_row (subformula nodes i) + 1) (length nodes)
+
+-- that is at most ten for each two of the nodes
+abbrev pub RowsHoldFew : Type 0
+RowsHoldFew = (nodes : List Node) → IsPostOrder nodes → all_for_a_row nodes ≤ 10 * (length nodes * length nodes)
 
 -- how far a formula looks, ahead and back
 abbrev pub looks_over : Subformula → ℕ

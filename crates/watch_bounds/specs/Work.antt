@@ -26,9 +26,17 @@ pub record AreBooks (nodes : List Node) (header : Header) (events : List Event) 
   pub root_put : put (length nodes - 1) ≡ length given
   pub root_gone : IsTaken nodes header events (gone (length nodes - 1))
 
+-- how much work for a row at most: a step of each node, and each of the verdicts that its edge can get put, and let go of
+abbrev pub work_for_a_row : List Node → ℕ
+work_for_a_row nodes = length nodes + 2 * all_for_a_row nodes
+
+-- that is at most 21 for each two of the nodes
+abbrev pub RowsAreLittleWork : Type 0
+RowsAreLittleWork = (nodes : List Node) → IsPostOrder nodes → work_for_a_row nodes ≤ 21 * (length nodes * length nodes)
+
 -- in the run that a stream drives the steps, the verdicts put and those let go of are together at most so many for each row, and for one row more
 abbrev pub WorkIsLinear : Type 0
 WorkIsLinear =
     (nodes : List Node) (header : Header) → IsPostOrder nodes → (rows : List Row) (ended : Bool) (events : List Event) → IsRun nodes header events
     → IsDriven nodes header rows ended events → (put gone : ℕ → ℕ) → AreBooks nodes header events put gone
-    → steps_in events + total (λ i. put i + gone i) (length nodes) ≤ (length nodes + 2 * all_for_a_row nodes) * suc (length rows)
+    → steps_in events + total (λ i. put i + gone i) (length nodes) ≤ work_for_a_row nodes * suc (length rows)

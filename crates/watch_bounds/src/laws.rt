@@ -1,6 +1,6 @@
 //! Laws of the run that a stream of rows drives. Each is the contract of a call that does nothing, so that the gate proves it.
-ghost use Rattle.watch_bounds.specs.Holdings.{WatchHoldsFew, WatchOwesFew};
-ghost use Rattle.watch_bounds.specs.Work.{WorkIsLinear};
+ghost use Rattle.watch_bounds.specs.Holdings.{RowsHoldFew, WatchHoldsFew, WatchOwesFew};
+ghost use Rattle.watch_bounds.specs.Work.{RowsAreLittleWork, WorkIsLinear};
 
 /// After each step of its network, and after the end, a watch holds on all edges together at most so many verdicts for each row of the last ticks,
 /// as many ticks as the formula looks ahead and back, and for one row more, however long the trace.
@@ -17,4 +17,11 @@ pub fn watch_owes_few()
 /// each row, and for one row more: as many as the formula alone says.
 pub fn work_is_linear()
     ensures { WorkIsLinear }
+{}
+
+/// How many verdicts for a row all edges hold, and how much work a row is: at most 10 and 21 for each two of the formula's operators, atoms and
+/// constants.
+pub fn rows_are_cheap()
+    ensures held { RowsHoldFew }
+    ensures work { RowsAreLittleWork }
 {}
