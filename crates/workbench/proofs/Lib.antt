@@ -35,3 +35,5 @@ pub mod Fitting
 pub mod Completing
 pub mod EarlyFollows
 mod KeepingPace
+mod Checking
+mod Judged

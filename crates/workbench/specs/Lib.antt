@@ -32,3 +32,4 @@ pub mod Complete
 pub mod EarlyLines
 pub mod Deciding
 pub mod Many
+pub mod Checking
