@@ -35,7 +35,6 @@ use Rattle.report.specs.SignalVerdicts.{sign_of}
 use Rattle.report.proofs.SignalLaw.{truth_at, signal_describes}
 use Rattle.trace_stream.specs.declared.case.Case.{Case}
 use Rattle.trace_stream.specs.Cases.{IsCase}
-use Rattle.workbench.specs.Answers.{IsCheckAnswer}
 use Rattle.workbench.specs.Answering.{setting_of, IsRootOf}
 
 -- a row for places behind the last one

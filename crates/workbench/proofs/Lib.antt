@@ -35,5 +35,3 @@ pub mod Fitting
 pub mod Completing
 pub mod EarlyFollows
 mod KeepingPace
-mod Checking
-mod Judged

@@ -32,4 +32,3 @@ pub mod Complete
 pub mod EarlyLines
 pub mod Deciding
 pub mod Many
-pub mod Checking

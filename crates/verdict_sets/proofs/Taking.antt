@@ -17,20 +17,20 @@ use Rattle.truth_sets.proofs.LongerRows.{stand_longer}
 use Rattle.trace_stream.specs.Cases.{IsCase, Takes}
 use Rattle.trace_stream.specs.Kept.{with_rows}
 use Rattle.trace_stream.specs.declared.case.Case.{Case}
-use Rattle.workbench.specs.Checking.{HasTail, SetsUpto, SetsOver, HasSets, SetsBefore, CanTakeIn}
-use Rattle.workbench.specs.declared.check.Checking.{Checking}
+use Rattle.verdict_sets.specs.Keeping.{HasTail, SetsUpto, SetsOver, HasSets, SetsBefore, CanTakeIn}
+use Rattle.verdict_sets.specs.declared.sets.VerdictSets.{VerdictSets}
 
 no_row : Row
 no_row = record { time = 0; values = [] }
 
 -- the same with other sets, and with another trace held
-abbrev pub with_sets : Checking → TruthSets → Checking
+abbrev pub with_sets : VerdictSets → TruthSets → VerdictSets
 with_sets x sets = record x { sets = sets }
 
-abbrev pub with_trace : Checking → Trace → Checking
+abbrev pub with_trace : VerdictSets → Trace → VerdictSets
 with_trace x t = record x { case = record x.case { trace = t } }
 
-module _ (x : Checking) (c : Case) (tail : HasTail x c) where
+module _ (x : VerdictSets) (c : Case) (tail : HasTail x c) where
   -- the formula is bound to the columns
   pub own_bound : IsBound x.case.bound x.case.formula x.case.trace.header
   own_bound =
@@ -110,7 +110,7 @@ module _ (x : Checking) (c : Case) (tail : HasTail x c) where
       last_of (r ∷ s ∷ rows) zero e = absurd (omega (arith, e))
       last_of (r ∷ rows) (suc n) e = last_of rows n (omega (arith, e))
 
-module _ (x : Checking) (c : Case) (h : HasSets x c) where
+module _ (x : VerdictSets) (c : Case) (h : HasSets x c) where
   -- rows more can be taken in
   pub can_take : (more : List Row) (t : Trace) (first : Bool) → t ≡ record x.case.trace { rows = x.case.trace.rows ++ more }
       → first ≡ (length x.case.trace.rows == 0) → CanTakeIn (with_trace x t) first (with_rows more c)
@@ -179,7 +179,7 @@ module _ (x : Checking) (c : Case) (h : HasSets x c) where
       by_rows (r ∷ s ∷ rows) same sets = absurd sets
 
 -- before the first row
-pub at_first : (x : Checking) (case : Case) (f : Formula) → IsCase f case → x.case ≡ case → case.trace.rows ≡ [] → AreNone x.sets case.formula.nodes
+pub at_first : (x : VerdictSets) (case : Case) (f : Formula) → IsCase f case → x.case ≡ case → case.trace.rows ≡ [] → AreNone x.sets case.formula.nodes
     → HasSets x case
 at_first x case f fits e none sets = subst (λ (c : Case). HasSets x c) e (record {
   tail = record {

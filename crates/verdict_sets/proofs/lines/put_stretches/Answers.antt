@@ -9,8 +9,8 @@ use Rattle.time_sets.specs.Turns.{place}
 use Rattle.time_sets.specs.declared.turn.Turn.{Turn}
 use Rattle.stl_syntax.specs.declared.items.Verdict.{Verdict}
 use Rattle.report.proofs.Lines.{lines_join}
-use Rattle.workbench.specs.Checking.{IsVerdictAt, AreFirstVerdicts}
-use Rattle.workbench.proofs.check.put_stretches.Goals as goal
+use Rattle.verdict_sets.specs.Telling.{IsVerdictAt, AreFirstVerdicts}
+use Rattle.verdict_sets.proofs.lines.put_stretches.Goals as goal
 
 pub loop-stretch-init : goal.loop-stretch-init
 loop-stretch-init c = record {

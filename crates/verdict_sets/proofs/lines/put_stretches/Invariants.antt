@@ -6,8 +6,8 @@ use Rattle.time_sets.specs.Spans.{border}
 use Rattle.stl_syntax.specs.Texts.{AreVerdictLines}
 use Rattle.stl_syntax.specs.declared.items.Verdict.{Verdict}
 use Rattle.report.specs.Appended.{Grew}
-use Rattle.workbench.specs.Checking.{AreFirstVerdicts}
-use Rattle.workbench.proofs.check.put_stretches.Given as goal
+use Rattle.verdict_sets.specs.Telling.{AreFirstVerdicts}
+use Rattle.verdict_sets.proofs.lines.put_stretches.Given as goal
 
 abbrev pub invariant-loop-stretch : goal.invariant-loop-stretch
 invariant-loop-stretch l = record {

@@ -26,8 +26,7 @@ use Rattle.truth_sets.specs.Standing.{TellsRoot}
 use Rattle.truth_sets.specs.declared.growing.Judged.{Judged}
 use Rattle.trace_stream.specs.Cases.{IsCase}
 use Rattle.trace_stream.specs.declared.case.Case.{Case}
-use Rattle.workbench.specs.Answers.{IsCheckAnswer}
-use Rattle.workbench.specs.Checking.{IsVerdictOf, IsStretch, IsVerdictAt, AreFirstVerdicts, IsJudgedText}
+use Rattle.verdict_sets.specs.Telling.{IsStretch, IsVerdictAt, AreFirstVerdicts, IsJudgedText, IsCheckAnswer}
 
 -- a truth by its test
 by_test : (b : Bool) {P : Type 0} → IsTrue b ↔ P → MatchBool b P (¬ P)

@@ -1,5 +1,5 @@
 use Rattle.std.proofs.Common.{refl, arith}
-use Rattle.workbench.proofs.check.first_truth.Goals as goal
+use Rattle.verdict_sets.proofs.lines.first_truth.Goals as goal
 
 pub returns-in-Some : goal.returns-in-Some
 returns-in-Some c =

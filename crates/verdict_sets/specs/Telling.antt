@@ -1,55 +1,18 @@
--- `check` from sets of times: what stands for a case, and the text that the set of the root gives.
-use Rattle.std.specs.Prelude.{◌≡◌, ◌<◌, ◌+◌, ℕ, Bool, true, false, List, [], ◌∷◌, ◌++◌, length, Some, slice_get}
+-- What the longest stretches of one truth tell: their verdicts, their lines, and the answer of `check` that they make up.
+use Rattle.std.specs.Prelude.{◌≡◌, ◌+◌, ℕ, Bool, List, ◌++◌, length, slice_get, MatchBool}
 use Rattle.rational.specs.Places.{Same, begins, ends}
 use Rattle.frac128.specs.Spans.{interval}
 use Rattle.time_sets.specs.Turns.{place}
 use Rattle.time_sets.specs.Spans.{border, IsLongest}
 use Rattle.time_sets.specs.declared.spans.Span.{Span as Stretch}
 use Rattle.stl_syntax.specs.Formula.{Formula}
-use Rattle.stl_syntax.specs.Trace.{Row}
+use Rattle.stl_syntax.specs.Trace.{Trace}
 use Rattle.stl_syntax.specs.Texts.{AreVerdictLines, start_line}
 use Rattle.stl_syntax.specs.declared.items.Verdict.{Verdict}
 use Rattle.stl_syntax.specs.declared.scale.Scale.{Scale}
-use Rattle.atom_lines.specs.Rows.{row_of}
-use Rattle.truth_sets.specs.Standing.{AreNone, StandFor}
+use Rattle.report.specs.Report.{Out, check}
 use Rattle.truth_sets.specs.declared.growing.Judged.{Judged}
-use Rattle.trace_stream.specs.Cases.{IsCase}
-use Rattle.trace_stream.specs.declared.case.Case.{Case}
-use Rattle.workbench.specs.declared.check.Checking.{Checking}
-
--- it has the formula and the columns of the case, and the last of its rows
-pub record HasTail (x : Checking) (c : Case) : Type 0 where
-  pub formula : x.case.formula ≡ c.formula
-  pub bound : x.case.bound ≡ c.bound
-  pub header : x.case.trace.header ≡ c.trace.header
-  pub fits : (f : Formula) × IsCase f c
-  pub earlier : List Row
-  pub parts : c.trace.rows ≡ earlier ++ x.case.trace.rows
-
--- the sets stand for the rows of the case, up to this one
-abbrev pub SetsUpto : Checking → Case → Row → Type 0
-SetsUpto x c r = StandFor x.sets c.bound c.formula.nodes c.trace.header c.trace.rows r
-
--- no row has come, and so there is no set; or the last row alone is held, and the sets stand for all rows
-abbrev pub SetsOver : Checking → Case → List Row → Type 0
-SetsOver x c [] = AreNone x.sets c.formula.nodes × (c.trace.rows ≡ [])
-SetsOver x c (r ∷ []) = SetsUpto x c r
-SetsOver x c (r ∷ s ∷ rows) = ⊥
-
--- it stands for the case
-pub record HasSets (x : Checking) (c : Case) : Type 0 where
-  pub tail : HasTail x c
-  pub sets : SetsOver x c x.case.trace.rows
-
--- no row was taken in yet; or the sets stand for the rows up to the first that is held
-abbrev pub SetsBefore : Checking → Bool → Case → Type 0
-SetsBefore x true c = AreNone x.sets c.formula.nodes × (c.trace.rows ≡ x.case.trace.rows)
-SetsBefore x false c = (0 < length x.case.trace.rows) × SetsUpto x c (row_of x.case.trace 0)
-
--- the rows that are held can be taken in
-pub record CanTakeIn (x : Checking) (first : Bool) (c : Case) : Type 0 where
-  pub tail : HasTail x c
-  pub sets : SetsBefore x first c
+use Rattle.trace_stream.specs.Streams.{HoldsAtStart}
 
 -- the verdict has the times and the truth of the stretch
 pub record IsVerdictOf (d : Stretch) (v : Verdict) : Type 0 where
@@ -92,3 +55,8 @@ pub record IsJudgedText (j : Judged) (scale : Scale) (holds : Bool) (text : List
   pub lines : AreJudgedLines j scale body
   pub parts : text ≡ body ++ start_line holds
   pub first : IsFirstTruth j holds
+
+-- the truth at the start, and the whole text of `check`
+pub record IsCheckAnswer (f : Formula) (tr : Trace) (holds : Bool) (text : List ℕ) : Type 0 where
+  pub truth : MatchBool holds (HoldsAtStart f tr) (¬ HoldsAtStart f tr)
+  pub written : Out check f tr text
