@@ -20,7 +20,7 @@ use Rattle.trace_stream.specs.declared.case.Case.{Case}
 use Rattle.verdict_sets.specs.Keeping.{HasTail, SetsUpto, SetsOver, HasSets, SetsBefore, CanTakeIn}
 use Rattle.verdict_sets.specs.declared.sets.VerdictSets.{VerdictSets}
 
-no_row : Row
+abbrev pub no_row : Row
 no_row = record { time = 0; values = [] }
 
 -- the same with other sets, and with another trace held

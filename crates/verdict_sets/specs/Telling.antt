@@ -1,5 +1,5 @@
 -- What the longest stretches of one truth tell: their verdicts, their lines, and the answer of `check` that they make up.
-use Rattle.std.specs.Prelude.{◌≡◌, ◌+◌, ℕ, Bool, List, ◌++◌, length, slice_get, MatchBool}
+use Rattle.std.specs.Prelude.{◌≡◌, ◌+◌, ℕ, Bool, List, ◌++◌, length, Some, slice_get, MatchBool}
 use Rattle.rational.specs.Places.{Same, begins, ends}
 use Rattle.frac128.specs.Spans.{interval}
 use Rattle.time_sets.specs.Turns.{place}

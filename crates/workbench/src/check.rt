@@ -5,13 +5,14 @@ ghost use Rattle.io_edge.specs.Calls.{drained, filled};
 ghost use Rattle.report.specs.Report.{check};
 ghost use Rattle.workbench.specs.Wholes.{IsWholeEnd};
 
+use crate::answer::Answer;
 use crate::fault::Stop;
 use crate::from_source::read_trace;
 use crate::top::{LIMITS, write_answer};
 use io_edge::{Sink, Source};
 use std::alloc::Global;
 use stl_syntax::Formula;
-use verdict_sets::VerdictSets;
+use verdict_sets::{Told, VerdictSets};
 
 /// Reads the whole trace, judges it by the formula, and writes the verdicts.
 pub(crate) fn judge<S: Source, K: Sink>(
@@ -36,7 +37,7 @@ pub(crate) fn judge<S: Source, K: Sink>(
         Err(stop) => return Err(stop),
     };
     match sets.finish(alloc) {
-        Ok(told) => write_answer(out, told.holds, told.text.bytes()),
+        Ok(Told { holds, text }) => write_answer(out, &Answer { holds, text }),
         Err(_) => Err(Stop::NoMemory),
     }
 }

@@ -66,14 +66,14 @@ const USAGE: &[u8] =
 const WRITE_FAULT: &[u8] = b"write fault\n";
 
 /// Writes the answer.
-pub(crate) fn write_answer<K: Sink>(out: &mut K, holds: bool, text: &[u8]) -> Result<bool, Stop>
-    ensures written { IsWrittenWith holds text.now (K.written out.old) (K.written out.new) result }
+pub(crate) fn write_answer<K: Sink>(out: &mut K, answer: &Answer) -> Result<bool, Stop>
+    ensures written { IsWrittenWith answer.now.holds answer.now.text (K.written out.old) (K.written out.new) result }
     ensures cause { result ≡ Err Stop.Unwritten → Rose (K.faults out.old) (K.faults out.new) }
     ensures still { result ≢ Err Stop.Unwritten → K.faults out.new ≡ K.faults out.old }
     ensures later { K.faults out.old ≤ K.faults out.new }
 {
-    match write_all(out, text) {
-        Ok(()) => Ok(holds),
+    match write_all(out, answer.text.bytes()) {
+        Ok(()) => Ok(answer.holds),
         Err(_) => Err(Stop::Unwritten),
     }
 }
@@ -123,7 +123,7 @@ fn whole<S: Source, K: Sink>(
         Err(stop) => return Err(stop),
     };
     match answer(alloc, command, formula, &case) {
-        Ok(answer) => write_answer(out, answer.holds, answer.text.bytes()),
+        Ok(answer) => write_answer(out, &answer),
         Err(stop) => Err(stop),
     }
 }

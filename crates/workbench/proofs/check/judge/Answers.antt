@@ -4,8 +4,8 @@ use Rattle.workbench.specs.declared.fault.Stop.TheVariants.{NoMemory}
 use Rattle.workbench.proofs.RunEnds.{check_answer, not_unread, only_unwritten}
 use Rattle.workbench.proofs.check.judge.Goals as goal
 
-pub answer_check-requires : goal.answer_check-requires
-answer_check-requires g c =
+pub finish-requires : goal.finish-requires
+finish-requires g c =
     let r = c.in-Ok.ensures.read in
     let t = r.read.whole.trace in
     (r.case, r.for_case, record { rows = t.text.rising.rows })
@@ -13,21 +13,21 @@ answer_check-requires g c =
 pub returns-in-Err-clause-ending : goal.returns-in-Err-clause-ending
 returns-in-Err-clause-ending g c = stopped c.in-Err.stop c.in-Err.ensures.read refl
 
-pub returns-in-Ok-answer_check-clause-ending : goal.returns-in-Ok-answer_check-clause-ending
-returns-in-Ok-answer_check-clause-ending g c =
+pub returns-in-Ok-finish-clause-ending : goal.returns-in-Ok-finish-clause-ending
+returns-in-Ok-finish-clause-ending g c =
     let r = c.in-Ok.ensures.read in
     let t = r.read.whole.trace in
-    let a = c.in-Ok-answer_check.answer in
+    let a = c.in-Ok-finish.answer in
     answered r.case a.holds a.text r.read
     (check_answer c.args.formula.now r.case.trace a.holds a.text
-    (c.in-Ok-answer_check.ensures c.args.formula.now r.case r.read.case r.for_case (record { rows = t.text.rising.rows })))
+    (c.in-Ok-finish.ensures c.args.formula.now r.case r.read.case r.for_case (record { rows = t.text.rising.rows })))
     c.write_answer.ensures.written
 
-pub returns-in-Ok-answer_check-clause-read : goal.returns-in-Ok-answer_check-clause-read
-returns-in-Ok-answer_check-clause-read g c = λ e. absurd (not_unread c.write_answer.ensures.written e)
+pub returns-in-Ok-finish-clause-read : goal.returns-in-Ok-finish-clause-read
+returns-in-Ok-finish-clause-read g c = λ e. absurd (not_unread c.write_answer.ensures.written e)
 
-pub returns-in-Ok-answer_check-clause-nothing : goal.returns-in-Ok-answer_check-clause-nothing
-returns-in-Ok-answer_check-clause-nothing g c = λ err other. absurd (only_unwritten c.write_answer.ensures.written err other)
+pub returns-in-Ok-finish-clause-nothing : goal.returns-in-Ok-finish-clause-nothing
+returns-in-Ok-finish-clause-nothing g c = λ err other. absurd (only_unwritten c.write_answer.ensures.written err other)
 
 pub returns-clause-ending : goal.returns-clause-ending
 returns-clause-ending g c =
