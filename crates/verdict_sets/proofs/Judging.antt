@@ -95,7 +95,8 @@ module _ (nodes : List Node) (j : Judged) (tr : Trace) (told : TellsRoot nodes t
   -- the last ends with it
   ends_alike : (n : ℕ) (v : Verdict) → n ≡ length j.times.turns.items → IsVerdictAt j n v → EndAlike (interval v.on) whole
   ends_alike n v last a =
-      let to : a.stretch.to ≡ j.on.to = a.at.to ∙ (ap (border j.on j.times) (omega (arith, last)) ∙ past) in
+      let end : n + 1 ≡ suc (length j.times.turns.items) = omega (arith, last) in
+      let to : a.stretch.to ≡ j.on.to = a.at.to ∙ (ap (border j.on j.times) end ∙ past) in
       let s = same_trans_places a.is.to (subst (λ (x : Turn). Same (place x) (record { at = stop tr; after = true })) (sym to) told.over.ends) in
       record { time = s.0; inside = s.1 }
     where

@@ -1,8 +1,8 @@
 use Rattle.std.proofs.Common.{refl, arith}
 use Rattle.verdict_sets.proofs.lines.first_truth.Goals as goal
 
-pub returns-in-Some : goal.returns-in-Some
-returns-in-Some c =
+pub returns : goal.returns
+returns c =
     let s = c.in-Some.ensures in
     record { stretch = c.in-Some.stretch; at = record { from = s.from; to = s.to; longest = s.longest }; same = refl }
 

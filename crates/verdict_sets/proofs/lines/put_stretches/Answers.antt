@@ -19,11 +19,11 @@ loop-stretch-init c = record {
   lines = ([], refl, λ n v e. absurd (none-some v e), ([], refl, sym (append-nil c.args.text.now)));
 }
 
-pub verdict_of-requires-clause-order : goal.verdict_of-requires-clause-order
-verdict_of-requires-clause-order c = c.in-Some.ensures.longest.order
+pub verdict_of-verdict-requires-clause-order : goal.verdict_of-verdict-requires-clause-order
+verdict_of-verdict-requires-clause-order c = c.in-Some.ensures.longest.order
 
-pub verdict_of-requires-clause-from : goal.verdict_of-requires-clause-from
-verdict_of-requires-clause-from c =
+pub verdict_of-verdict-requires-clause-from : goal.verdict_of-verdict-requires-clause-from
+verdict_of-verdict-requires-clause-from c =
     subst (λ (t : Turn). value c.loop-stretch.from ≈ (place t).at) (sym c.in-Some.ensures.from) c.loop-stretch.invariant.from
 
 pub loop-stretch-preserved : goal.loop-stretch-preserved
