@@ -2,6 +2,7 @@
 ghost use Rattle.std.specs.Prelude.{◌<◌};
 
 use crate::twice::twice_of;
+use frac128::Frac;
 use std::cmp::Ordering;
 
 /// The place just before a time, or just after it: twice the floor of the time, with "just after" in the lowest bit, and above the
@@ -17,8 +18,9 @@ pub struct Turn {
 
 impl Turn {
     ghost use Rattle.std.specs.Prelude.{◌≡◌, ◌↔◌, ◌≤◌, ◌^◌, pos, ◌+ℤ◌, ◌*ℤ◌, IsTrue, unsigned_abs};
-    ghost use Rattle.rational.specs.Rational.{add, fraction, whole};
+    ghost use Rattle.rational.specs.Rational.{add, fraction, whole, ◌≈◌};
     ghost use Rattle.rational.specs.Places.{Before, Same, moved_begin, moved_end};
+    ghost use Rattle.frac128.specs.Value.{value};
     ghost use Rattle.time_sets.specs.Twice.{floor_of, is_after};
     ghost use Rattle.time_sets.specs.Turns.{IsPlaceOrder, place};
     ghost use Rattle.time_sets.specs.Windows.{IsNear};
@@ -45,6 +47,14 @@ impl Turn {
         ensures { result ≡ self.now.den }
     {
         self.den
+    }
+
+    /// The time, in lowest terms.
+    #[inline(always)]
+    pub fn time(&self) -> Frac
+        ensures { value result ≈ (place self.now).at }
+    {
+        Frac::mixed(self.floor(), u64::from(self.rest), u64::from(self.den))
     }
 
     /// Whether both times have one floor.

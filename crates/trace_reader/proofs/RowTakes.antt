@@ -20,6 +20,7 @@ use Rattle.trace_reader.specs.declared.event.Event.TheVariants.{Row as IsARow}
 use Rattle.trace_reader.specs.declared.line_reader.LineReader.{LineReader}
 use Rattle.trace_reader.proofs.FeedLemmas.{through-at}
 use Rattle.trace_reader.proofs.ReaderSteps.{next_row}
+use Rattle.trace_reader.proofs.TraceLemmas.{last_behind}
 use Rattle.trace_reader.proofs.ReaderTakes.{finish_stands, read_come, going_on}
 
 -- the line is what stands before the first LF
@@ -42,6 +43,12 @@ can_take None least header rows r e n = absurd n
 can_take (Some h) least header rows r e n =
     let same : header_of least h ≡ header = let j = e in cc in
     (n.0 ∙ ap (λ (x : Header). length x.columns) same, n.1)
+
+-- what comes after rows comes after the last of them
+later_than_last : (earlier rows : List Row) (r : Row) → (0 < length (earlier ++ rows) → last_time 0 (earlier ++ rows) < r.time)
+    → 0 < length rows → last_time 0 rows < r.time
+later_than_last earlier rows r later some =
+    subst (λ n. n < r.time) (last_behind earlier rows 0 0 some) (later (omega (arith, some, length-append earlier rows)))
 
 -- a row that the piece begins with
 module _ (limits : Limits) (old new : LineReader) (piece : List ℕ) (n : ℕ) (w : IsWithin limits old)
@@ -88,19 +95,22 @@ module _ (limits : Limits) (old new : LineReader) (piece : List ℕ) (n : ℕ) (
       some zero e = absurd (let a = ap length e in omega (arith, a, length-append r.line (10 ∷ [])))
       some (suc k) e = omega arith
 
-  -- the trace of the rows before it can take it
+  -- the trace of the rows before it, or of the last of them, can take it
   pub row_fits : (first : LineReader) (t u : Trace) (front : List ℕ) → HasTraceSoFar (state limits first) t
       → AreRowsTaken (state limits first) (state limits old) t u front → old.content.heading ≡ first.content.heading
       → old.content.least ≡ first.content.least
       → (length new.content.row.values ≡ length u.header.columns) × (0 < length u.rows → last_time 0 u.rows < new.content.row.time)
   row_fits first t u front so m is ticks =
-      let s = row_stands (so.bytes ++ front) (t.rows ++ m.more) (m.stands so.bytes t.rows so.stands) in
-      let next = next_row IsARow new.content.heading (t.rows ++ m.more) new.content.row s.taken.rising (λ _. row_some) in
+      let all = so.earlier ++ t.rows in
+      let s = row_stands (so.bytes ++ front) (all ++ m.more) (m.stands so.bytes all so.stands) in
+      let next = next_row IsARow new.content.heading (all ++ m.more) new.content.row s.taken.rising (λ _. row_some) in
       let e : option_map (header_of new.content.least) new.content.heading ≡ Some t.header =
       subst (λ l. option_map (header_of l) new.content.heading ≡ Some t.header) (sym (row_least ∙ ticks))
       (subst (λ h. option_map (header_of first.content.least) h ≡ Some t.header) (sym (row_heading ∙ is)) so.header) in
+      let fits = can_take new.content.heading new.content.least t.header (all ++ m.more) new.content.row e next in
+      let later = subst (λ (rs : List Row). 0 < length rs → last_time 0 rs < new.content.row.time) (append_assoc so.earlier t.rows m.more) fits.1 in
       subst (λ (x : Trace). (length new.content.row.values ≡ length x.header.columns) × (0 < length x.rows → last_time 0 x.rows < new.content.row.time))
-      (sym m.added) (can_take new.content.heading new.content.least t.header (t.rows ++ m.more) new.content.row e next)
+      (sym m.added) (fits.0, later_than_last so.earlier (t.rows ++ m.more) new.content.row later)
 
 -- nothing was taken
 pub rows_none : (r : Reader) (t : Trace) → AreRowsTaken r r t t []

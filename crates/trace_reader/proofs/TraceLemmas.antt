@@ -1,6 +1,6 @@
 -- Rows of a trace, one after another.
 use Rattle.std.proofs.Common.{◌≡◌, ℕ, zero, suc, ◌+◌, ◌*◌, ◌<◌, ◌≤◌, List, [], ◌∷◌, ◌++◌, length, take}
-use Rattle.std.proofs.Common.{drop, get_or, refl, ap, ◌∙◌, arith, ℤ, nat_abs}
+use Rattle.std.proofs.Common.{◌-◌, drop, get_or, refl, sym, ap, ◌∙◌, arith, ℤ, nat_abs}
 use Rattle.std.specs.Prelude.{All, pos}
 use Rattle.std.proofs.lemmas.List.{take-append-le, drop-append-le, length-append, length-drop, drop-drop, get_or-take, get_or-drop, take_all, nil_from_length}
 use Rattle.std.proofs.lemmas.List.Elements.{All-append}
@@ -77,6 +77,43 @@ module _ (width : ℕ) (times times' : List ℕ) (values values' : List ℤ) (r 
   -- and all values small
   pub push-small : All (λ v. nat_abs v ≤ 16777216) values → All (λ v. nat_abs v ≤ 16777216) r.values → All (λ v. nat_abs v ≤ 16777216) values'
   push-small h k = rw in_values (All-append (λ v. nat_abs v ≤ 16777216) values r.values h k)
+
+-- rows without the first ones
+pub rows_of-drop : (width k : ℕ) (times : List ℕ) (values : List ℤ)
+    → rows_of width (drop k times) (drop (k * width) values) ≡ drop k (rows_of width times values)
+rows_of-drop width zero times values = let z : 0 * width ≡ 0 = omega arith in rw z refl
+rows_of-drop width (suc k) [] values = refl
+rows_of-drop width (suc k) (t ∷ times) values =
+    let e : width + k * width ≡ suc k * width = omega arith in
+    ap (rows_of width (drop k times)) (sym (drop-drop (k * width) width values ∙ ap (λ n. drop n values) e))
+    ∙ rows_of-drop width k times (drop width values)
+
+-- rise too
+pub sofar-drop : (width k : ℕ) (rows : List Row) → AreRowsSoFar width rows → AreRowsSoFar width (drop k rows)
+sofar-drop width zero rows h = h
+sofar-drop width (suc k) [] h = tt
+sofar-drop width (suc k) (r ∷ []) h = sofar-drop width k [] tt
+sofar-drop width (suc k) (r ∷ s ∷ rows) h = sofar-drop width k (s ∷ rows) (h.1.1, h.1.2)
+
+-- and have a value for each column
+pub drop-full : (width k : ℕ) (times : List ℕ) (values : List ℤ) → length values ≡ length times * width
+    → length (drop (k * width) values) ≡ length (drop k times) * width
+drop-full width zero times values full = let z : 0 * width ≡ 0 = omega arith in rw z full
+drop-full width (suc k) [] values full =
+    let none : length values ≡ 0 = omega (arith, full) in
+    let z : 0 * width ≡ 0 = omega arith in
+    omega (arith, none, z, length-drop (suc k * width) values)
+drop-full width (suc k) (t ∷ times) values full =
+    let e : width + k * width ≡ suc k * width = omega arith in
+    let all : length values ≡ width + length times * width = omega (arith, full) in
+    let rest : length (drop width values) ≡ length times * width = length-drop width values ∙ omega (arith, all) in
+    ap length (sym (drop-drop (k * width) width values ∙ ap (λ n. drop n values) e)) ∙ drop-full width k times (drop width values) rest
+
+-- the last time of rows is that of the last of them
+pub last_behind : (earlier rows : List Row) (m n : ℕ) → 0 < length rows → last_time m (earlier ++ rows) ≡ last_time n rows
+last_behind earlier [] m n some = absurd (omega arith)
+last_behind [] (r ∷ rows) m n some = refl
+last_behind (e ∷ earlier) (r ∷ rows) m n some = last_behind earlier (r ∷ rows) e.time n some
 
 -- where a value stands
 pub place_within : (width k c n rows : ℕ) → k < rows → c < width → n ≡ rows * width → k * width + c < n

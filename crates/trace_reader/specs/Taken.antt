@@ -3,10 +3,11 @@ use Rattle.std.specs.Prelude.{◌≡◌, ℕ, ◌≤◌, List, [], ◌∷◌, �
 use Rattle.stl_syntax.specs.Trace.{Row, Trace}
 use Rattle.trace_reader.specs.Reader.{Reader, StandsFor, header_read}
 
--- the trace has the header that was read, and the rows of the bytes so far
+-- the trace has the header that was read, and the last of the rows of the bytes so far: all of them, or those behind some earlier ones
 pub record HasTraceSoFar (r : Reader) (t : Trace) : Type 0 where
   pub bytes : List ℕ
-  pub stands : StandsFor r bytes t.rows
+  pub earlier : List Row
+  pub stands : StandsFor r bytes (earlier ++ t.rows)
   pub header : header_read r ≡ Some t.header
 
 -- some bytes more were taken, which are rows, and the trace has them behind its own

@@ -101,8 +101,9 @@ impl Rows {
         }
     }
 
-    /// Takes rows that the piece begins with, as `push` would one after another, adds them to the trace of the rows so far, and answers how many
-    /// bytes they are. It may take none, and leaves each row for `push` that is not one of a few plain digits, each other line, and each fault.
+    /// Takes rows that the piece begins with, as `push` would one after another, adds them to the trace of the rows so far, or of the last of
+    /// them, and answers how many bytes they are. It may take none, and leaves each row for `push` that is not one of a few plain digits, each
+    /// other line, and each fault.
     ///
     /// # Errors
     /// `Memory` where memory is wanting; then the last row that was read is not in the trace.

@@ -24,7 +24,7 @@ impl Model for Trace {
     ghost invariant = { IsKept };
 }
 
-ghost use Rattle.std.specs.Prelude.{◌≡◌, ◌≤◌, ◌+◌, ◌++◌, length, vec_len, vec_capacity};
+ghost use Rattle.std.specs.Prelude.{◌≡◌, ◌≤◌, ◌+◌, ◌++◌, length, drop, vec_len, vec_capacity};
 
 /// Adds values for which there is room, one by one: rows are short.
 #[inline(always)]
@@ -40,8 +40,19 @@ fn add_all(values: &mut Vec<i32>, more: &[i32])
     }
 }
 
+/// Lets go of the elements before a place.
+#[inline(always)]
+fn let_go_before<T: Copy + Drop>(items: &mut Vec<T>, at: usize)
+    requires { at ≤ vec_len items.old }
+    ensures { items.new.items ≡ drop at items.old.items }
+{
+    let len = items.len();
+    items.copy_within(at..len, 0);
+    items.truncate(len - at);
+}
+
 impl Trace {
-    ghost use Rattle.std.specs.Prelude.{◌≡◌, ◌<◌, ◌≤◌, ◌++◌, ◌∷◌, [], length, nat_abs, slice_index_or, OnOk, OnErr};
+    ghost use Rattle.std.specs.Prelude.{◌≡◌, ◌<◌, ◌≤◌, ◌-◌, ◌++◌, ◌∷◌, [], length, drop, nat_abs, slice_index_or, OnOk, OnErr};
     ghost use Rattle.stl_syntax.specs.Trace.{Row as Values, value, last_time, IsTrace};
 
     /// A trace without rows.
@@ -99,6 +110,19 @@ impl Trace {
     {
         let at = r * self.header.columns() + c;
         self.values[at]
+    }
+
+    /// Lets go of all rows but the last.
+    pub fn keep_last(&mut self)
+        ensures { self.new ≡ record self.old { rows = drop (length self.old.rows - 1) self.old.rows } }
+    {
+        let rows = self.times.len();
+        if rows < 2 {
+            return;
+        }
+        let before = rows - 1;
+        let_go_before(&mut self.values, before * self.header.columns());
+        let_go_before(&mut self.times, before);
     }
 
     /// The columns of the trace.

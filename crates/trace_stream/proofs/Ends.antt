@@ -200,11 +200,3 @@ module _ (f : Formula) (old new : Reader) (case : Option Case) (bytes : List ℕ
     pub refused_end : (stop : StreamStop) → IsLastFault f new case x stop → IsRefused old.limits f true bytes stop
     refused_end stop (of_header h none end some no_begin) = from_header stop h none end some no_begin
     refused_end stop (own fits) = (of_trace x, refl, no_lack_now (lacks_nothing fits))
-
--- what came of keeping a last row
-pub kept_last : (f : Formula) (limits : Limits) (bytes : List ℕ) (case later : Option Case) (row : Row)
-    (r : Result (Unit {0}) StreamStop) → OnOk r (later ≡ option_map (with_row row) case) → IfErr r (λ e. e ≡ NoMemory)
-    → MatchOption (option_map (with_row row) case) ⊥ (IsEnded limits f bytes)
-    → MatchResult r (λ _. MatchOption later ⊥ (IsEnded limits f bytes)) (IsRefused limits f true bytes)
-kept_last f limits bytes case later row (Ok x) same none ended = subst (λ o. MatchOption o ⊥ (IsEnded limits f bytes)) (sym same) ended
-kept_last f limits bytes case later row (Err e) same none ended = subst (λ s. IsRefused limits f true bytes s) (sym none) tt

@@ -1,5 +1,6 @@
 pub mod Streams
 pub mod Cases
 pub mod CaseReader
+pub mod Kept
 pub mod Wides
 pub mod Following

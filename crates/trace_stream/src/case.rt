@@ -1,16 +1,16 @@
 //! A formula over the header of a trace, and the rows that came.
-ghost use Rattle.std.specs.Prelude.{◌≡◌, ◌⊎◌, OnOk, IfErr, MatchResult, option_map};
+ghost use Rattle.std.specs.Prelude.{◌≡◌, ◌⊎◌, MatchResult};
 ghost use Rattle.stl_syntax.specs.WellFormed.{IsScale};
 ghost use Rattle.stl_syntax.specs.Binding.{IsUnitFault};
 ghost use Rattle.trace_reader.specs.TraceText.{Heading, scale_of};
 ghost use Rattle.trace_reader.specs.Reader.{header_of};
-ghost use Rattle.trace_stream.specs.Cases.{IsBegun, IsNoBegin, stop_of, stop_of_unit, CanKeep, with_row};
+ghost use Rattle.trace_stream.specs.Cases.{IsBegun, IsNoBegin, stop_of, stop_of_unit};
 
 use crate::fault::{StreamStop, TraceFault};
 use atom_lines::{BindFault, Bound, bind};
 use std::alloc::Global;
 use stl_syntax::{Formula, UnitFault};
-use trace_reader::{Header, Row, Trace};
+use trace_reader::{Header, Trace};
 
 /// A formula in the ticks of a trace, bound to the columns of its header, and the trace.
 #[derive(Drop)]
@@ -91,21 +91,5 @@ pub(crate) fn begin(
             trace: Trace::new(alloc, header),
         }),
         Err(_) => Err(StreamStop::NoMemory),
-    }
-}
-
-/// Adds a row to a case that was begun.
-#[inline(always)]
-pub(crate) fn keep(case: &mut Option<Case>, row: &Row) -> Result<(), StreamStop>
-    requires { CanKeep case.old row.now }
-    ensures ok { OnOk result (case.new ≡ option_map (with_row row.now) case.old) }
-    ensures err { IfErr result (λ e. e ≡ StreamStop.NoMemory) }
-{
-    match case {
-        Some(case) => match case.trace.push(row) {
-            Ok(()) => Ok(()),
-            Err(_) => Err(StreamStop::NoMemory),
-        },
-        None => unreachable!(),
     }
 }

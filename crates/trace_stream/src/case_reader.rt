@@ -1,17 +1,25 @@
 //! Reading the trace of a formula from the pieces of its bytes.
-ghost use Rattle.std.specs.Prelude.{◌≡◌, ◌^◌, ◌<◌, ◌≤◌, List, ℕ, [], ◌++◌, length, take, true, false, MatchResult, MatchOption, IfOk, IfErr};
+ghost use Rattle.std.specs.Prelude.{◌≡◌, ◌^◌, ◌<◌, ◌≤◌, List, ℕ, [], ◌++◌, length, take, true, false};
+ghost use Rattle.std.specs.Prelude.{Option, Some, option_map, MatchResult, MatchOption, IfOk, IfErr, OnOk};
 ghost use Rattle.stl_syntax.specs.Formula.{Formula as Parsed};
+ghost use Rattle.stl_syntax.specs.WellFormed.{IsScale};
+ghost use Rattle.trace_reader.specs.TraceText.{Heading, scale_of};
+ghost use Rattle.trace_reader.specs.Reader.{header_of};
 ghost use Rattle.trace_reader.specs.Feeds.{through_feed};
 ghost use Rattle.trace_reader.specs.declared.refusal.TraceKind.TheVariants.{NoRows};
-ghost use Rattle.trace_stream.specs.CaseReader.{IsEnded, IsRefused, IsKept, HasKept, HasHeader, IsLastFault};
+ghost use Rattle.trace_stream.specs.Cases.{IsBegun, IsCase, IsNoBegin, CanKeep, with_row};
+ghost use Rattle.trace_stream.specs.CaseReader.{IsRefused, HasHeader, IsLastFault};
+ghost use Rattle.trace_stream.specs.Kept.{StandsForCase, IsKeptAs, HasKeptAs, IsEndedAs};
+ghost use Rattle.trace_stream.specs.declared.case.Case.{Case as Of};
 
-use crate::case::{Case, begin, keep};
+use crate::case::{Case, begin};
 use crate::fault::{StreamStop, TraceFault};
+use crate::keep::Keep;
 use frac128::Memory;
 use memchr::memchr;
 use std::alloc::Global;
 use stl_syntax::Formula;
-use trace_reader::{Event, Limits, Rows, TraceKind, TraceRefusal};
+use trace_reader::{Event, Header, Limits, Row, Rows, TraceKind, TraceRefusal};
 
 /// The bytes of a piece up to and with its first LF, or all where there is none.
 fn first_line(piece: &[u8]) -> &[u8]
@@ -62,16 +70,70 @@ pub(crate) fn last_fault<T>(
     own
 }
 
+/// What is kept of a case without rows.
+fn keep<K: Keep>(alloc: Global, case: Case) -> Result<K, StreamStop>
+    requires case { (f : Parsed) × IsCase f case }
+    requires none { case.trace.rows ≡ [] }
+    ensures ok { IfOk result (λ x. K.stands x case) }
+    ensures err { IfErr result (λ e. e ≡ StreamStop.NoMemory) }
+{
+    match K::begin(alloc, case) {
+        Ok(kept) => Ok(kept),
+        Err(_) => Err(StreamStop::NoMemory),
+    }
+}
+
+/// Keeps what comes of a trace from its header, in line `line`, on.
+#[inline(never)]
+fn keep_on<K: Keep>(
+    kept: &mut Option<K>,
+    alloc: Global,
+    formula: &Formula,
+    header: &Header,
+    line: u64,
+) -> Result<(), StreamStop>
+    requires { (h : Heading) × (header.now ≡ header_of formula.now.scale h) × IsScale (scale_of formula.now.scale h) }
+    ensures { (h : Heading) → header.now ≡ header_of formula.now.scale h
+        → MatchResult result (λ _. (case : Of) × IsBegun formula.now line h case × StandsForCase K.stands kept.new (Some case))
+        (IsNoBegin formula.now line h) }
+{
+    let case = begin(alloc, formula, header, line)?;
+    *kept = Some(keep(alloc, case)?);
+    Ok(())
+}
+
+/// Keeps a row, once the header was read.
+#[inline(always)]
+fn keep_row<K: Keep>(kept: &mut Option<K>, row: &Row) -> Result<(), StreamStop>
+    requires { (case : Option Of) × StandsForCase K.stands kept.old case × CanKeep case row.now }
+    ensures ok { OnOk result ((case : Option Of) → StandsForCase K.stands kept.old case → CanKeep case row.now
+        → StandsForCase K.stands kept.new (option_map (with_row row.now) case)) }
+    ensures err { IfErr result (λ e. e ≡ StreamStop.NoMemory) }
+{
+    match kept {
+        Some(kept) => match kept.row(row) {
+            Ok(()) => Ok(()),
+            Err(_) => Err(StreamStop::NoMemory),
+        },
+        None => unreachable!(),
+    }
+}
+
 /// Takes rows that the piece begins with, once the header was read, and answers how many bytes they are.
-fn take_rows(rows: &mut Rows, case: &mut Option<Case>, piece: &[u8]) -> Result<usize, StreamStop>
-    requires { (f : Parsed) × HasKept f rows.old case.old }
-    ensures taken { IfOk result (λ n. (f : Parsed) (bytes : List ℕ) → IsKept f rows.old case.old bytes → IsKept f rows.new case.new (bytes ++ take n piece.now)) }
+fn take_rows<K: Keep>(
+    rows: &mut Rows,
+    kept: &mut Option<K>,
+    piece: &[u8],
+) -> Result<usize, StreamStop>
+    requires { (f : Parsed) × HasKeptAs K.stands f rows.old kept.old }
+    ensures taken { IfOk result (λ n. (f : Parsed) (bytes : List ℕ) → IsKeptAs K.stands f rows.old kept.old bytes
+        → IsKeptAs K.stands f rows.new kept.new (bytes ++ take n piece.now)) }
     ensures within { IfOk result (λ n. n ≤ length piece.now) }
     ensures memory { IfErr result (λ e. e ≡ StreamStop.NoMemory) }
     ensures limits { rows.new.limits ≡ rows.old.limits }
 {
-    match case {
-        Some(case) => match rows.take_rows(piece, &mut case.trace) {
+    match kept {
+        Some(kept) => match kept.take_rows(rows, piece) {
             Ok(bytes) => Ok(bytes),
             Err(_) => Err(StreamStop::NoMemory),
         },
@@ -81,48 +143,52 @@ fn take_rows(rows: &mut Rows, case: &mut Option<Case>, piece: &[u8]) -> Result<u
 
 /// A reader, and what is kept of the trace that it has read.
 ///
-/// `IsKept` says when it stands for the bytes that it took. After a refusal no more is asked of it.
+/// `IsKeptAs` says when it stands for the bytes that it took. After a refusal no more is asked of it.
 #[derive(Drop)]
-pub struct CaseReader {
+pub struct CaseReader<K> {
     rows: Rows,
-    case: Option<Case>,
+    kept: Option<K>,
 }
 
-impl CaseReader {
+impl<K: Keep> CaseReader<K> {
     /// Takes no bytes yet.
     ///
     /// # Errors
     /// Want of memory.
-    pub fn new(alloc: Global, formula: &Formula, limits: Limits) -> Result<CaseReader, Memory>
+    pub fn new(alloc: Global, formula: &Formula, limits: Limits) -> Result<CaseReader<K>, Memory>
         requires rows { limits.rows ≤ 2 ^ 32 }
         requires lines { limits.lines ≤ 2 ^ 33 }
-        ensures kept { IfOk result (λ x. IsKept formula.now x.rows x.case []) }
+        ensures kept { IfOk result (λ x. IsKeptAs K.stands formula.now x.rows x.kept []) }
         ensures limits { IfOk result (λ x. x.rows.limits ≡ limits) }
     {
         let rows = Rows::new(alloc, limits, formula.scale())?;
-        Ok(CaseReader { rows, case: None })
+        Ok(CaseReader { rows, kept: None })
     }
 
     /// Takes some bytes of a piece, up to the header's line or a row's at most, and answers how many.
     fn step(&mut self, alloc: Global, piece: &[u8], formula: &Formula) -> Result<usize, StreamStop>
-        requires { HasKept formula.now self.old.rows self.old.case }
-        ensures taken { (bytes : List ℕ) → IsKept formula.now self.old.rows self.old.case bytes → MatchResult result
-            (λ n. IsKept formula.now self.new.rows self.new.case (bytes ++ take n piece.now))
+        requires { HasKeptAs K.stands formula.now self.old.rows self.old.kept }
+        ensures taken { (bytes : List ℕ) → IsKeptAs K.stands formula.now self.old.rows self.old.kept bytes → MatchResult result
+            (λ n. IsKeptAs K.stands formula.now self.new.rows self.new.kept (bytes ++ take n piece.now))
             (λ e. IsRefused self.old.rows.limits formula.now false (bytes ++ piece.now) e) }
         ensures within { MatchResult result (λ n. n ≤ length piece.now) (λ _. Unit {0}) }
         ensures progress { MatchResult result (λ n. 0 < length piece.now → 0 < n) (λ _. Unit {0}) }
         ensures limits { self.new.rows.limits ≡ self.old.rows.limits }
     {
-        let took = match self.rows.push(next_bytes(&self.case, piece)) {
+        let took = match self.rows.push(next_bytes(&self.kept, piece)) {
             Ok(took) => took,
             Err(refusal) => return Err(StreamStop::Fault(TraceFault::Trace(refusal))),
         };
         match took.event {
             Event::Nothing => {}
-            Event::Header => {
-                self.case = Some(begin(alloc, formula, self.rows.header(), self.rows.line())?)
-            }
-            Event::Row => keep(&mut self.case, self.rows.row())?,
+            Event::Header => keep_on(
+                &mut self.kept,
+                alloc,
+                formula,
+                self.rows.header(),
+                self.rows.line(),
+            )?,
+            Event::Row => keep_row(&mut self.kept, self.rows.row())?,
         }
         Ok(took.bytes)
     }
@@ -134,15 +200,15 @@ impl CaseReader {
         piece: &[u8],
         formula: &Formula,
     ) -> Result<usize, StreamStop>
-        requires { HasKept formula.now self.old.rows self.old.case }
-        ensures taken { (bytes : List ℕ) → IsKept formula.now self.old.rows self.old.case bytes → MatchResult result
-            (λ n. IsKept formula.now self.new.rows self.new.case (bytes ++ take n piece.now))
+        requires { HasKeptAs K.stands formula.now self.old.rows self.old.kept }
+        ensures taken { (bytes : List ℕ) → IsKeptAs K.stands formula.now self.old.rows self.old.kept bytes → MatchResult result
+            (λ n. IsKeptAs K.stands formula.now self.new.rows self.new.kept (bytes ++ take n piece.now))
             (λ e. IsRefused self.old.rows.limits formula.now false (bytes ++ piece.now) e) }
         ensures within { MatchResult result (λ n. n ≤ length piece.now) (λ _. Unit {0}) }
         ensures progress { MatchResult result (λ n. 0 < length piece.now → 0 < n) (λ _. Unit {0}) }
         ensures limits { self.new.rows.limits ≡ self.old.rows.limits }
     {
-        let rows = take_rows(&mut self.rows, &mut self.case, piece)?;
+        let rows = take_rows(&mut self.rows, &mut self.kept, piece)?;
         let more = self.step(alloc, &piece[rows..], formula)?;
         Ok(rows + more)
     }
@@ -152,9 +218,9 @@ impl CaseReader {
     /// # Errors
     /// The bytes have a fault for the formula; want of memory.
     pub fn feed(&mut self, alloc: Global, piece: &[u8], formula: &Formula) -> Result<(), StreamStop>
-        requires { HasKept formula.now self.old.rows self.old.case }
-        ensures taken { (bytes : List ℕ) → IsKept formula.now self.old.rows self.old.case bytes → MatchResult result
-            (λ _. IsKept formula.now self.new.rows self.new.case (bytes ++ piece.now))
+        requires { HasKeptAs K.stands formula.now self.old.rows self.old.kept }
+        ensures taken { (bytes : List ℕ) → IsKeptAs K.stands formula.now self.old.rows self.old.kept bytes → MatchResult result
+            (λ _. IsKeptAs K.stands formula.now self.new.rows self.new.kept (bytes ++ piece.now))
             (λ e. IsRefused self.old.rows.limits formula.now false (bytes ++ piece.now) e) }
         ensures limits { self.new.rows.limits ≡ self.old.rows.limits }
     {
@@ -170,24 +236,24 @@ impl CaseReader {
     /// # Errors
     /// As `feed`.
     pub fn finish(&mut self, alloc: Global, formula: &Formula) -> Result<(), StreamStop>
-        requires { HasKept formula.now self.old.rows self.old.case }
-        ensures { (bytes : List ℕ) → IsKept formula.now self.old.rows self.old.case bytes → MatchResult result
-            (λ _. MatchOption self.new.case ⊥ (IsEnded self.old.rows.limits formula.now bytes))
+        requires { HasKeptAs K.stands formula.now self.old.rows self.old.kept }
+        ensures { (bytes : List ℕ) → IsKeptAs K.stands formula.now self.old.rows self.old.kept bytes → MatchResult result
+            (λ _. MatchOption self.new.kept ⊥ (IsEndedAs K.stands self.old.rows.limits formula.now bytes))
             (λ e. IsRefused self.old.rows.limits formula.now true bytes e) }
     {
         match self.rows.end() {
-            Ok(Event::Row) => keep(&mut self.case, self.rows.row()),
+            Ok(Event::Row) => keep_row(&mut self.kept, self.rows.row()),
             Ok(Event::Nothing) => Ok(()),
             Ok(Event::Header) => unreachable!(),
-            Err(refusal) => Err(last_fault(alloc, &self.rows, &self.case, refusal, formula)),
+            Err(refusal) => Err(last_fault(alloc, &self.rows, &self.kept, refusal, formula)),
         }
     }
 
-    /// The case of the trace, once the header was read.
-    pub fn into_case(self) -> Option<Case>
-        ensures { result ≡ self.case }
+    /// What was kept of the trace, once the header was read.
+    pub fn into_kept(self) -> Option<K>
+        ensures { result ≡ self.kept }
     {
-        let CaseReader { rows: _rows, case } = self;
-        case
+        let CaseReader { rows: _rows, kept } = self;
+        kept
     }
 }

@@ -4,3 +4,4 @@ mod SeeingLemmas
 mod TellingLemmas
 mod ReadyLemmas
 mod StandingLemmas
+pub mod LongerRows

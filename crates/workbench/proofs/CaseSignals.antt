@@ -35,8 +35,7 @@ use Rattle.report.specs.SignalVerdicts.{sign_of}
 use Rattle.report.proofs.SignalLaw.{truth_at, signal_describes}
 use Rattle.trace_stream.specs.declared.case.Case.{Case}
 use Rattle.trace_stream.specs.Cases.{IsCase}
-use Rattle.workbench.specs.Answers.{IsCheckAnswer}
-use Rattle.workbench.specs.Answering.{setting_of, IsRootOf, IsSignalText}
+use Rattle.workbench.specs.Answering.{setting_of, IsRootOf}
 
 -- a row for places behind the last one
 pub no_row : Row
@@ -101,36 +100,3 @@ at_start [] k h t e = absurd cc
 at_start (l ∷ ks) k h t e =
     let same : l ≡ k = cc in
     subst (λ m. knots.IsWorth truth_shape (l ∷ ks) t (sign_of m.point.holds)) same (inl (record { when = e; worth = sign_passes l.point.holds t }))
-
-module _ (c : Case) (f : Formula) (case : IsCase f c) (values : HasValues (root c.formula.nodes) (truth_setting c.trace))
-    (x : List (Knot Truth)) (tells : Tells truth_shape (SupInf (root c.formula.nodes) (truth_setting c.trace)) (start c.trace) (stop c.trace) x)
-    (holds : Bool) (text : List ℕ) (is : IsSignalText truth_shape c.formula.scale x holds text) where
-  now : MatchBool holds (Holds (root c.formula.nodes) c.trace (start c.trace)) (¬ Holds (root c.formula.nodes) c.trace (start c.trace))
-  now = truth_at truth_shape (root c.formula.nodes) c.trace x values tells holds (start c.trace) (is.first (start c.trace) (same_sym tells.begins))
-
-  -- the truth and the text over given nodes, with times in units of a scale
-  Over : Formula → Type 0
-  Over g =
-      MatchBool holds (Holds (root g.nodes) c.trace (start c.trace)) (¬ Holds (root g.nodes) c.trace (start c.trace))
-      × ((verdicts : List Verdict) × (body line : List ℕ) × Describes verdicts (root g.nodes) c.trace (closed (start c.trace) (stop c.trace))
-      × AreVerdictLines g.scale verdicts body × IsStartLine (root g.nodes) c.trace line × (text ≡ body ++ line))
-
-  own : Over c.formula
-  unfolding Over
-  own = (
-    now,
-    (
-      is.lines.verdicts,
-      is.body,
-      start_line holds,
-      signal_describes truth_shape (root c.formula.nodes) c.trace x values tells is.lines.verdicts is.lines.described,
-      is.lines.lines,
-      (holds, now, refl),
-      is.parts,
-    ),
-  )
-
-  -- the lines of the root's truth are the answer of `check`
-  pub is_check_answer : IsCheckAnswer f c.trace holds text
-  unfolding Over
-  is_check_answer = let over = subst Over case.formula own in record { truth = over.0; written = over.1 }

@@ -11,8 +11,9 @@ use Rattle.stl_syntax.specs.Formula.{Formula}
 use Rattle.trace_reader.specs.Reader.{Reader}
 use Rattle.trace_reader.specs.declared.refusal.Limits.{Limits}
 use Rattle.workbench.specs.InputFaults.{IsInputFault}
-use Rattle.trace_stream.specs.CaseReader.{IsSound, IsRefused, IsKept, HasKept, IsEnded, IsWhole}
-use Rattle.workbench.specs.FromSource.{IsRead, IsReadPromptly, IsReadWhole, IsReadInPart, IsStop}
+use Rattle.trace_stream.specs.CaseReader.{IsSound, IsRefused, IsWhole}
+use Rattle.trace_stream.specs.Kept.{IsKeptAs, HasKeptAs, IsEndedAs}
+use Rattle.workbench.specs.FromSource.{IsRead, IsReadPromptly, IsReadWhole, IsReadAs, IsReadInPart, IsStop}
 use Rattle.trace_stream.specs.declared.case.Case.{Case}
 use Rattle.trace_stream.specs.declared.fault.StreamStop.{StreamStop}
 use Rattle.trace_stream.specs.declared.fault.StreamStop.TheVariants.{Fault as Faulty, NoMemory, Wide}
@@ -22,28 +23,29 @@ use Rattle.trace_stream.proofs.KeptRows.{sound_so_far}
 use Rattle.trace_stream.proofs.Sizes.{few_bytes}
 
 -- some bytes were read and kept, in so many reads
-pub record Progress (limits : Limits) (f : Formula) (before now : Option (List ℕ)) (reader : Reader) (case : Option Case) (reads : ℕ) : Type 0 where
+pub record Progress {K : Type 0} (Stands : K → Case → Type 0) (limits : Limits) (f : Formula) (before now : Option (List ℕ)) (reader : Reader)
+    (kept : Option K) (reads : ℕ) : Type 0 where
   -- the bytes that were read
   pub bytes : List ℕ
   -- they were taken from the front of the source
   pub moved : Consumes before now bytes
-  -- the reader holds the trace of these bytes
-  pub is : IsKept f reader case bytes
+  -- the reader holds these bytes, and this was kept of them
+  pub is : IsKeptAs Stands f reader kept bytes
   -- its limits are those of the command
   pub same_limits : reader.limits ≡ limits
   -- each read gave a byte at least
   pub enough : reads ≤ length bytes
 
-module _ {limits : Limits} {f : Formula} {before now : Option (List ℕ)} {reader : Reader} {case : Option Case} {reads : ℕ}
-    (p : Progress limits f before now reader case reads) where
+module _ {K : Type 0} {Stands : K → Case → Type 0} {limits : Limits} {f : Formula} {before now : Option (List ℕ)} {reader : Reader} {kept : Option K} {reads : ℕ}
+    (p : Progress Stands limits f before now reader kept reads) where
   -- lines are short and not many, so the reads are few
   pub few_reads : limits.lines ≤ 8589934592 → 18446744073709551615 ≤ reads → ⊥
   few_reads n r =
       let few : reader.limits.lines ≤ 8589934592 = rw (p.same_limits) n in
-      omega (arith, r, p.enough, few_bytes reader.limits reader.least reader.heading p.bytes p.is.rows p.is.stands.read p.is.stands.sound)
+      omega (arith, r, p.enough, few_bytes reader.limits reader.least reader.heading p.bytes p.is.is.rows p.is.is.stands.read p.is.is.stands.sound)
 
   -- the reader has what it keeps of some bytes
-  pub has_kept : HasKept f reader case
+  pub has_kept : HasKeptAs Stands f reader kept
   has_kept = record { bytes = p.bytes; is = p.is }
 
   -- a source that failed was read in part
@@ -52,7 +54,7 @@ module _ {limits : Limits} {f : Formula} {before now : Option (List ℕ)} {reade
     bytes = p.bytes;
     read = record { moved = Consumes-kept before now after p.bytes p.moved k; all = λ t. absurd (false≢true (sym e ∙ t)) };
     goes_on = e;
-    sound = subst (λ (x : Limits). IsSound x f p.bytes false) p.same_limits (sound_so_far f reader case p.bytes p.is);
+    sound = subst (λ (x : Limits). IsSound x f p.bytes false) p.same_limits (sound_so_far f reader p.is.case p.bytes p.is.is);
   }
 
   -- a source that says its end was read to it
@@ -79,7 +81,7 @@ module _ {limits : Limits} {f : Formula} {before now : Option (List ℕ)} {reade
     parts = refl;
     short = short;
     at_end = λ t. absurd (false≢true (sym e ∙ t));
-    sound = subst (λ (x : Limits). IsSound x f p.bytes false) p.same_limits (sound_so_far f reader case p.bytes p.is);
+    sound = subst (λ (x : Limits). IsSound x f p.bytes false) p.same_limits (sound_so_far f reader p.is.case p.bytes p.is.is);
   }
 
   -- nothing of the bytes so far ended the run before
@@ -90,13 +92,13 @@ module _ {limits : Limits} {f : Formula} {before now : Option (List ℕ)} {reade
     parts = sym (append-nil p.bytes);
     short = omega arith;
     at_end = λ _. refl;
-    sound = subst (λ (x : Limits). IsSound x f p.bytes false) p.same_limits (sound_so_far f reader case p.bytes p.is);
+    sound = subst (λ (x : Limits). IsSound x f p.bytes false) p.same_limits (sound_so_far f reader p.is.case p.bytes p.is.is);
   }
 
   -- with one more piece the reading goes on
-  pub go_on : (after : Option (List ℕ)) (piece : List ℕ) (later : Reader) (kept : Option Case) → Consumes now after piece → 0 < length piece
-      → IsKept f later kept (p.bytes ++ piece) → later.limits ≡ reader.limits → Progress limits f before after later kept (reads + 1)
-  go_on after piece later kept c n k l = record {
+  pub go_on : (after : Option (List ℕ)) (piece : List ℕ) (later : Reader) (more : Option K) → Consumes now after piece → 0 < length piece
+      → IsKeptAs Stands f later more (p.bytes ++ piece) → later.limits ≡ reader.limits → Progress Stands limits f before after later more (reads + 1)
+  go_on after piece later more c n k l = record {
     bytes = p.bytes ++ piece;
     moved = Consumes-trans before now after p.bytes piece p.moved c;
     is = k;
@@ -122,20 +124,29 @@ stop_from {bytes = bytes} before after ended known NoMemory s k r read prompt = 
 stop_from before after ended known (Wide i den) s k r read prompt = absurd r
 
 -- the end of the bytes, told to the reader, is the end of the reading
-pub end_from : {l limits : Limits} {f : Formula} {bytes : List ℕ} (before after : Option (List ℕ)) (ended : Bool)
-    (r : Result (Unit {0}) StreamStop) (case : Option Case)
+pub end_from : {K : Type 0} {Stands : K → Case → Type 0} {l limits : Limits} {f : Formula} {bytes : List ℕ} (before after : Option (List ℕ)) (ended : Bool)
+    (r : Result (Unit {0}) StreamStop) (kept : Option K)
     → l ≡ limits → ended ≡ true → IsRead before after ended bytes → IsReadPromptly limits f bytes ended
-    → MatchResult r (λ _. MatchOption case ⊥ (IsEnded l f bytes)) (IsRefused l f true bytes)
-    → MatchResult (outcome_of r) (λ _. MatchOption case ⊥ (IsReadWhole limits f before after ended)) (IsStop limits f before after ended)
+    → MatchResult r (λ _. MatchOption kept ⊥ (IsEndedAs Stands l f bytes)) (IsRefused l f true bytes)
+    → MatchResult (outcome_of r) (λ _. MatchOption kept ⊥ (IsReadAs Stands limits f before after ended)) (IsStop limits f before after ended)
 end_from before after ended (Ok x) None s k read prompt m = absurd m
-end_from {f = f} {bytes = bytes} before after ended (Ok x) (Some c) s k read prompt m = record {
-  bytes = bytes;
-  read = read;
-  came_to_end = k;
-  whole = subst (λ (y : Limits). IsWhole y f bytes c.trace) s m.whole;
+end_from {f = f} {bytes = bytes} before after ended (Ok x) (Some y) s k read prompt m = record {
   case = m.case;
+  for_case = m.for_case;
+  read = record {
+    bytes = bytes;
+    read = read;
+    came_to_end = k;
+    whole = subst (λ (l : Limits). IsWhole l f bytes m.case.trace) s m.ended.whole;
+    case = m.ended.case;
+  };
 }
-end_from before after ended (Err e) case s k read prompt m = stop_from before after ended true e s k m read prompt
+end_from before after ended (Err e) kept s k read prompt m = stop_from before after ended true e s k m read prompt
+
+-- a case that was kept whole was read whole
+pub read_itself : {limits : Limits} {f : Formula} {before after : Option (List ℕ)} {ended : Bool} (x : Case)
+    → IsReadAs (λ (y c : Case). y ≡ c) limits f before after ended x → IsReadWhole limits f before after ended x
+read_itself {limits} {f} {before} {after} {ended} x r = subst (λ c. IsReadWhole limits f before after ended c) (sym r.for_case) r.read
 
 -- a refusal is no fault of the source
 pub not_unread : (e : StreamStop) → stop_of e ≡ Unread → ⊥

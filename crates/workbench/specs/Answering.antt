@@ -1,4 +1,4 @@
--- What judging a trace makes on the way: the signals of a formula's nodes, that of the formula, and the text that a signal of truth gives.
+-- What judging a trace makes on the way: the signals of a formula's nodes, and that of the formula.
 use Rattle.std.specs.Prelude.{◌≡◌, ℕ, Bool, List, ◌++◌}
 use Rattle.rational.specs.Time.{Rational, ◌≈◌}
 use Rattle.value_laws.specs.Members.{ShapeOf}
@@ -42,14 +42,6 @@ module _ {P : Type 0} (shape : ShapeOf P) (reading : Trace → Reading) where
   -- why there is none: want of memory, or a pair that is in play at a node and needs its denominator
   abbrev pub IsFaultIn : Case → EvalFault P → Type 0
   IsFaultIn c e = IsFault shape c.formula.nodes (setting_of c.trace) e
-
-module _ (shape : ShapeOf Truth) where
-  -- the lines of what a signal tells, and the line of the truth at its start
-  pub record IsSignalText (scale : Scale) (knots : List (Knot Truth)) (holds : Bool) (text : List ℕ) : Type 0 where
-    pub body : List ℕ
-    pub lines : AreSignalLines shape scale knots body
-    pub parts : text ≡ body ++ start_line holds
-    pub first : (t : Rational) → t ≈ start knots → IsWorth shape knots t (sign_of holds)
 
 -- the denominator that a pair needs
 abbrev pub denominator_of : {P : Type 0} → WidePair P → ℕ

@@ -23,6 +23,13 @@ pub record IsReadWhole (limits : Limits) (f : Formula) (before after : Option (L
   pub whole : IsWhole limits f bytes c.trace
   pub case : IsCase f c
 
+-- the source came to its end, and its bytes are those of the trace for which this stands
+pub record IsReadAs {K : Type 0} (Stands : K → Case → Type 0) (limits : Limits) (f : Formula) (before after : Option (List ℕ)) (ended : Bool) (x : K)
+    : Type 0 where
+  pub case : Case
+  pub for_case : Stands x case
+  pub read : IsReadWhole limits f before after ended case
+
 -- no fault was there before the last piece, of at most 4,096 bytes
 pub record IsReadPromptly (limits : Limits) (f : Formula) (bytes : List ℕ) (ended : Bool) : Type 0 where
   pub before : List ℕ

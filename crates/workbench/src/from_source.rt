@@ -1,27 +1,28 @@
 //! Reading the trace of a formula from a source.
 ghost use Rattle.std.specs.Prelude.{◌≡◌, ◌≢◌, ◌^◌, ◌≤◌, [], MatchResult, MatchOption, Err};
 ghost use Rattle.io_edge.specs.Causes.{Rose, after_end};
-ghost use Rattle.trace_stream.specs.CaseReader.{IsKept};
-ghost use Rattle.workbench.specs.FromSource.{IsReadWhole, IsStop};
+ghost use Rattle.trace_stream.specs.Kept.{IsKeptAs};
+ghost use Rattle.workbench.specs.FromSource.{IsReadAs, IsStop};
 
 use crate::fault::{Stop, outcome_from, stop_from};
 use io_edge::Source;
 use std::alloc::Global;
 use stl_syntax::Formula;
 use trace_reader::Limits;
-use trace_stream::{Case, CaseReader};
+use trace_stream::{CaseReader, Keep};
 
 /// Reads the source to its end.
-fn read_all<S: Source>(
-    reading: &mut CaseReader,
+fn read_all<S: Source, K: Keep>(
+    reading: &mut CaseReader<K>,
     input: &mut S,
     alloc: Global,
     formula: &Formula,
 ) -> Result<(), Stop>
     requires lines { reading.old.rows.limits.lines ≤ 2 ^ 33 }
-    requires empty { IsKept formula.now reading.old.rows reading.old.case [] }
+    requires empty { IsKeptAs K.stands formula.now reading.old.rows reading.old.kept [] }
     ensures read { MatchResult result
-        (λ _. MatchOption reading.new.case ⊥ (IsReadWhole reading.old.rows.limits formula.now (S.left input.old) (S.left input.new) (S.ended input.new)))
+        (λ _. MatchOption reading.new.kept ⊥
+        (IsReadAs K.stands reading.old.rows.limits formula.now (S.left input.old) (S.left input.new) (S.ended input.new)))
         (λ stop. IsStop reading.old.rows.limits formula.now (S.left input.old) (S.left input.new) (S.ended input.new) stop) }
     ensures later { S.faults input.old ≤ S.faults input.new }
     ensures unread { result ≡ Err Stop.Unread → Rose (S.faults input.old) (S.faults input.new) }
@@ -43,20 +44,20 @@ fn read_all<S: Source>(
     unreachable!()
 }
 
-/// Reads the trace of a formula, in pieces of at most 4,096 bytes.
+/// Reads the trace of a formula, in pieces of at most 4,096 bytes, and answers what was kept of it.
 ///
 /// # Errors
 /// The bytes have a fault for the formula, the source failed, or memory was wanting.
-pub(crate) fn read_trace<S: Source>(
+pub(crate) fn read_trace<S: Source, K: Keep>(
     input: &mut S,
     formula: &Formula,
     limits: Limits,
     alloc: Global,
-) -> Result<Case, Stop>
+) -> Result<K, Stop>
     requires rows { limits.rows ≤ 2 ^ 32 }
     requires lines { limits.lines ≤ 2 ^ 33 }
     ensures read { MatchResult result
-        (λ case. IsReadWhole limits formula.now (S.left input.old) (S.left input.new) (S.ended input.new) case)
+        (λ kept. IsReadAs K.stands limits formula.now (S.left input.old) (S.left input.new) (S.ended input.new) kept)
         (λ stop. IsStop limits formula.now (S.left input.old) (S.left input.new) (S.ended input.new) stop) }
     ensures later { S.faults input.old ≤ S.faults input.new }
     ensures unread { result ≡ Err Stop.Unread → Rose (S.faults input.old) (S.faults input.new) }
@@ -67,8 +68,8 @@ pub(crate) fn read_trace<S: Source>(
         return Err(Stop::NoMemory);
     };
     read_all(&mut reading, input, alloc, formula)?;
-    match reading.into_case() {
-        Some(case) => Ok(case),
+    match reading.into_kept() {
+        Some(kept) => Ok(kept),
         None => unreachable!(),
     }
 }

@@ -3,6 +3,7 @@
 
 mod answer;
 mod bench_laws;
+mod check;
 mod decided;
 mod early;
 mod entry;

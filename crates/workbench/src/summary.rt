@@ -32,7 +32,7 @@ fn generated_case(alloc: Global, formula: &Formula, number: u64, rows: u32) -> R
         return Err(Memory);
     };
     let mut source = CleanSource::new(bytes);
-    match read_trace(&mut source, formula, LIMITS, alloc) {
+    match read_trace::<CleanSource, Case>(&mut source, formula, LIMITS, alloc) {
         Ok(case) => Ok(case),
         Err(stop) => match stop {
             Stop::NoMemory => Err(Memory),

@@ -15,7 +15,8 @@ ghost use Rattle.workbench.specs.Keeping.{HasRun};
 ghost use Rattle.workbench.specs.Wholes.{command_of, IsAnswerOf, IsUnanswered, IsWrittenWith, IsWholeEnd, IsBadEnd, IsEndLine};
 ghost use Rattle.workbench.specs.Wholes.{IsStopLine, HasFaultFor, EndsSoundly, status_of, status_of_stop, status_of_fault};
 
-use crate::answer::{Answer, answer_check};
+use crate::answer::Answer;
+use crate::check::judge;
 use crate::decided::early_of;
 use crate::early::Deciding;
 use crate::explain::give_reasons;
@@ -65,7 +66,7 @@ const USAGE: &[u8] =
 const WRITE_FAULT: &[u8] = b"write fault\n";
 
 /// Writes the answer.
-fn write_answer<K: Sink>(out: &mut K, answer: &Answer) -> Result<bool, Stop>
+pub(crate) fn write_answer<K: Sink>(out: &mut K, answer: &Answer) -> Result<bool, Stop>
     ensures written { IsWrittenWith answer.now.holds answer.now.text (K.written out.old) (K.written out.new) result }
     ensures cause { result ≡ Err Stop.Unwritten → Rose (K.faults out.old) (K.faults out.new) }
     ensures still { result ≢ Err Stop.Unwritten → K.faults out.new ≡ K.faults out.old }
@@ -77,8 +78,9 @@ fn write_answer<K: Sink>(out: &mut K, answer: &Answer) -> Result<bool, Stop>
     }
 }
 
-/// The answer of a command for a trace that has a row, or why there is none.
+/// The answer of a command that holds the trace, which has a row, or why there is none.
 fn answer(alloc: Global, command: Command, formula: &Formula, case: &Case) -> Result<Answer, Stop>
+    requires holds { command ≢ Command.Check }
     requires case { IsCase formula.now case.now }
     requires some { 0 < length case.now.trace.rows }
     ensures { MatchResult result
@@ -86,10 +88,7 @@ fn answer(alloc: Global, command: Command, formula: &Formula, case: &Case) -> Re
         (IsUnanswered (command_of command) formula.now case.now.trace) }
 {
     match command {
-        Command::Check => match answer_check(alloc, case) {
-            Ok(answer) => Ok(answer),
-            Err(_) => Err(Stop::NoMemory),
-        },
+        Command::Check => unreachable!(),
         Command::Robust => measure(alloc, case),
         Command::Explain => give_reasons(alloc, formula, case),
         Command::Json => give_report(alloc, formula, case),
@@ -116,7 +115,10 @@ fn whole<S: Source, K: Sink>(
     ensures ends { result ≢ Err Stop.NoMemory → S.ends input.new ≡ after_end (S.ended input.new) (S.ends input.old) }
     ensures nothing { IsErr result → result ≢ Err Stop.Unwritten → out.new ≡ out.old }
 {
-    let case = match read_trace(input, formula, LIMITS, alloc) {
+    if let Command::Check = command {
+        return judge(alloc, formula, input, out);
+    }
+    let case = match read_trace::<S, Case>(input, formula, LIMITS, alloc) {
         Ok(case) => case,
         Err(stop) => return Err(stop),
     };

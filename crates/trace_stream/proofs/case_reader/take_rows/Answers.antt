@@ -1,19 +1,27 @@
--- Rows more of the case.
-use Rattle.std.proofs.Common.{◌++◌, take, sym, subst, append-nil}
+-- Rows more of what is kept.
+use Rattle.std.proofs.Common.{◌++◌, Some, take, sym, subst, append-nil}
 use Rattle.trace_stream.specs.CaseReader.{IsKept}
-use Rattle.trace_stream.proofs.RowsKept.{so_far, kept_rows}
+use Rattle.trace_stream.specs.Kept.{StandsForCase, IsKeptAs, with_rows}
+use Rattle.trace_stream.proofs.RowsKept.{so_far, kept_rows, case_of}
 use Rattle.trace_stream.proofs.case_reader.take_rows.Goals as goal
 
 pub take_rows-requires : goal.take_rows-requires
-take_rows-requires c =
-    let k = c.requires.1 in
-    so_far c.requires.0 c.args.rows.now c.args.case.now c.in-Some.case k.bytes c.in-Some.is k.is
+take_rows-requires g c =
+    let f = c.requires.0 in
+    let k = c.requires.1.is in
+    let (case, is, stands) = case_of g.K.Keep.stands c.args.kept.now k.case c.in-Some.kept c.in-Some.is k.for_case in
+    (case, stands, so_far f c.args.rows.now k.case case c.requires.1.bytes is k.is)
 
 pub returns-in-None-clause-taken : goal.returns-in-None-clause-taken
-returns-in-None-clause-taken c = λ f bytes k. subst (IsKept f c.args.rows.now c.args.case.now) (sym (append-nil bytes)) k
+returns-in-None-clause-taken g c = λ f bytes k. subst (IsKeptAs g.K.Keep.stands f c.args.rows.now c.args.kept.now) (sym (append-nil bytes)) k
 
 pub returns-in-Ok-clause-taken : goal.returns-in-Ok-clause-taken
-returns-in-Ok-clause-taken c = λ f bytes k.
+returns-in-Ok-clause-taken g c = λ f bytes k.
     let e = c.in-Ok.ensures in
-    kept_rows f c.args.rows.now c.take_rows.new.self c.args.case.now c.in-Some.case c.take_rows.new.trace bytes (take c.in-Ok.bytes c.args.piece.now)
-    c.in-Some.is k e.rows e.kept.1 e.kept.2
+    let (case, is, stands) = case_of g.K.Keep.stands c.args.kept.now k.case c.in-Some.kept c.in-Some.is k.for_case in
+    let m = e.taken case stands (so_far f c.args.rows.now k.case case bytes is k.is) in
+    record {
+      case = Some (with_rows m.more case);
+      for_case = m.kept;
+      is = kept_rows f c.args.rows.now c.take_rows.new.rows k.case case bytes (take c.in-Ok.bytes c.args.piece.now) m.more is k.is m.stands e.kept.1 e.kept.2;
+    }

@@ -2,7 +2,7 @@ use Rattle.std.proofs.Common.{◌<◌, false, length, take, refl, sym, ap, ◌�
 use Rattle.std.specs.Prelude.{Result, MatchOption, MatchResult}
 use Rattle.std.proofs.KnownBytes.{Consumes-nil}
 use Rattle.io_edge.specs.Causes.{after_end}
-use Rattle.workbench.specs.FromSource.{IsReadWhole, IsStop}
+use Rattle.workbench.specs.FromSource.{IsReadAs, IsStop}
 use Rattle.workbench.specs.declared.fault.Stop.{Stop}
 use Rattle.workbench.proofs.Progress.{few_reads, has_kept, read_in_part, read_all, read_more, go_on}
 use Rattle.workbench.proofs.Progress.{stop_from, end_from, not_unread, end_not_unread, none_taken}
@@ -46,14 +46,14 @@ returns-then-count-eq0-clause-read g c =
     let p = c.loop-reads.invariant.progress in
     let size : 0 < length c.read.new.buf = let a = c.loop-reads.invariant.size in let b = c.read.auto.buf in omega arith in
     let ended = c.in-Ok.ensures.end.1 (c.if-count-eq0.true, size) in
-    subst (λ (r : Result (Unit {0}) Stop). MatchResult r (λ _. MatchOption c.finish.new.self.case ⊥
-    (IsReadWhole c.args.reading.now.rows.limits c.args.formula.now (g.S.Source.left c.args.input.now)
+    subst (λ (r : Result (Unit {0}) Stop). MatchResult r (λ _. MatchOption c.finish.new.self.kept ⊥
+    (IsReadAs g.K.Keep.stands c.args.reading.now.rows.limits c.args.formula.now (g.S.Source.left c.args.input.now)
     (g.S.Source.left c.read.new.self) (g.S.Source.ended c.read.new.self)))
     (IsStop c.args.reading.now.rows.limits c.args.formula.now (g.S.Source.left c.args.input.now) (g.S.Source.left c.read.new.self)
     (g.S.Source.ended c.read.new.self)))
     (sym c.outcome_from.ensures)
     (end_from (g.S.Source.left c.args.input.now) (g.S.Source.left c.read.new.self) (g.S.Source.ended c.read.new.self)
-    c.finish.result c.finish.new.self.case p.same_limits ended
+    c.finish.result c.finish.new.self.kept p.same_limits ended
     (read_all p _ _ (take c.in-Ok.count c.read.new.buf) (none_taken c.in-Ok.count c.read.new.buf c.if-count-eq0.true) c.in-Ok.ensures.bytes.0
     (c.in-Ok.ensures.bytes.1 c.if-count-eq0.true size))
     (prompt_end p (g.S.Source.ended c.read.new.self))
@@ -96,7 +96,7 @@ pub loop-reads-preserved : goal.loop-reads-preserved
 loop-reads-preserved g c =
     let p = c.loop-reads.invariant.progress in
     record {
-      progress = go_on p (g.S.Source.left c.read.new.self) (take c.in-Ok.count c.read.new.buf) c.feed.new.self.rows c.feed.new.self.case c.in-Ok.ensures.bytes.0
+      progress = go_on p (g.S.Source.left c.read.new.self) (take c.in-Ok.count c.read.new.buf) c.feed.new.self.rows c.feed.new.self.kept c.in-Ok.ensures.bytes.0
           (some_taken c.in-Ok.count c.read.new.buf c.if-count-eq0.false c.in-Ok.ensures.bound.0)
           (c.in_default-feed.ensures.taken p.bytes p.is) c.in_default-feed.ensures.limits;
       unended = unended (g.S.Source.ended c.read.new.self) _ _ c.in-Ok.ensures.ends

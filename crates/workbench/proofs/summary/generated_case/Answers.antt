@@ -7,7 +7,11 @@ use Rattle.workbench.specs.FromSource.{IsReadWhole, IsStop}
 use Rattle.workbench.specs.declared.fault.Stop.TheVariants.{Unread}
 use Rattle.workbench.proofs.Fitting.{only_memory}
 use Rattle.workbench.proofs.Summaries.{read_generated}
+use Rattle.workbench.proofs.Progress.{read_itself}
 use Rattle.workbench.proofs.summary.generated_case.Goals as goal
+
+pub returns-in-Ok-read_trace-clause-case : goal.returns-in-Ok-read_trace-clause-case
+returns-in-Ok-read_trace-clause-case c = (read_itself c.in-Ok-read_trace.case c.in-Ok-read_trace.ensures.read).case
 
 pub returns-in-Ok-read_trace-clause-trace : goal.returns-in-Ok-read_trace-clause-trace
 returns-in-Ok-read_trace-clause-trace c =
@@ -17,7 +21,7 @@ returns-in-Ok-read_trace-clause-trace c =
     ap (λ (s : CleanBytes). s.left) c.new-source.ensures ∙ c.in-Ok.ensures.items ∙ c.bytes.ensures ∙ c.in_ok-text.ensures in
     read_generated c.args.number c.args.rows c.requires.some c.requires.few all left c.read_trace.new.input.ended c.in-Ok-read_trace.case same
     (subst (λ (f : Formula). IsReadWhole whole_limits f (Some all) (Some left) c.read_trace.new.input.ended c.in-Ok-read_trace.case) c.requires.formula
-    c.in-Ok-read_trace.ensures.read)
+    (read_itself c.in-Ok-read_trace.case c.in-Ok-read_trace.ensures.read))
 
 pub unreachable-requires : goal.unreachable-requires
 unreachable-requires c =

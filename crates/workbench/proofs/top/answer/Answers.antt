@@ -1,23 +1,16 @@
 use Rattle.std.proofs.Common.{subst, sym}
 use Rattle.std.specs.Prelude.{MatchResult}
 use Rattle.workbench.specs.Wholes.{command_of, IsAnswerOf, IsUnanswered}
-use Rattle.workbench.proofs.RunEnds.{check_answer}
 use Rattle.workbench.proofs.top.answer.Goals as goal
 
-pub answer_check-requires-clause-case : goal.answer_check-requires-clause-case
-answer_check-requires-clause-case c = (c.args.formula.now, c.requires.case)
+pub unreachable-requires : goal.unreachable-requires
+unreachable-requires c = c.requires.holds c.in-Check.is
 
 pub measure-requires-clause-case : goal.measure-requires-clause-case
 measure-requires-clause-case c = (c.args.formula.now, c.requires.case)
 
 pub tabulate-requires-clause-case : goal.tabulate-requires-clause-case
 tabulate-requires-clause-case c = (c.args.formula.now, c.requires.case)
-
-pub returns-in-Ok : goal.returns-in-Ok
-returns-in-Ok c =
-    let f = c.args.formula.now in
-    subst (λ w. IsAnswerOf (command_of w) f c.args.case.now.trace c.in-Ok.answer.holds c.in-Ok.answer.text) (sym c.in-Check.is)
-    (check_answer f c.args.case.now.trace c.in-Ok.answer.holds c.in-Ok.answer.text (c.in-Ok.ensures f c.requires.case))
 
 pub returns-in-Robust : goal.returns-in-Robust
 returns-in-Robust c =

@@ -1,5 +1,5 @@
 -- Rows that the reader takes, where none was refused.
-use Rattle.std.proofs.Common.{take}
+use Rattle.std.proofs.Common.{◌++◌, take}
 use Rattle.trace_reader.specs.Taken.{AreRowsTaken, IsRowShort}
 use Rattle.trace_reader.specs.LineReader.{state}
 use Rattle.trace_reader.proofs.ReaderTakes.{going_on}
@@ -14,7 +14,12 @@ take_rows-requires-clause-within c =
 pub take_rows-requires-clause-so_far : goal.take_rows-requires-clause-so_far
 take_rows-requires-clause-so_far c =
     let so = rw (← c.self.view_is) at c.requires in
-    record { bytes = so.bytes; stands = going_on _ so.bytes c.args.trace.now.rows so.stands; header = so.header }
+    record {
+      bytes = so.bytes;
+      earlier = so.earlier;
+      stands = going_on _ so.bytes (so.earlier ++ c.args.trace.now.rows) so.stands;
+      header = so.header;
+    }
 
 pub returns-clause-rows : goal.returns-clause-rows
 returns-clause-rows c =

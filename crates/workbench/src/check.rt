@@ -1,0 +1,43 @@
+//! `check`: the verdicts of a formula over a trace, of which no row is held but the last.
+ghost use Rattle.std.specs.Prelude.{◌≡◌, ◌≢◌, ◌≤◌, Err, IsErr};
+ghost use Rattle.io_edge.specs.Causes.{Rose, after_end};
+ghost use Rattle.io_edge.specs.Calls.{drained, filled};
+ghost use Rattle.report.specs.Report.{check};
+ghost use Rattle.workbench.specs.Wholes.{IsWholeEnd};
+
+use crate::answer::Answer;
+use crate::fault::Stop;
+use crate::from_source::read_trace;
+use crate::top::{LIMITS, write_answer};
+use io_edge::{Sink, Source};
+use std::alloc::Global;
+use stl_syntax::Formula;
+use verdict_sets::{Told, VerdictSets};
+
+/// Reads the whole trace, judges it by the formula, and writes the verdicts.
+pub(crate) fn judge<S: Source, K: Sink>(
+    alloc: Global,
+    formula: &Formula,
+    input: &mut S,
+    out: &mut K,
+) -> Result<bool, Stop>
+    ensures ending { IsWholeEnd check formula.now (drained S.left S.ended S.ends S.gave S.asked S.faults input.old input.new)
+        (filled K.written K.faults out.old out.new) result }
+    ensures read { result ≡ Err Stop.Unread → Rose (S.faults input.old) (S.faults input.new) }
+    ensures write { result ≡ Err Stop.Unwritten → Rose (K.faults out.old) (K.faults out.new) }
+    ensures read_due { result ≢ Err Stop.Unread → S.faults input.new ≡ S.faults input.old }
+    ensures write_due { result ≢ Err Stop.Unwritten → K.faults out.new ≡ K.faults out.old }
+    ensures input_later { S.faults input.old ≤ S.faults input.new }
+    ensures out_later { K.faults out.old ≤ K.faults out.new }
+    ensures ends { result ≢ Err Stop.NoMemory → S.ends input.new ≡ after_end (S.ended input.new) (S.ends input.old) }
+    ensures nothing { IsErr result → result ≢ Err Stop.Unwritten → out.new ≡ out.old }
+{
+    let sets = match read_trace::<S, VerdictSets>(input, formula, LIMITS, alloc) {
+        Ok(sets) => sets,
+        Err(stop) => return Err(stop),
+    };
+    match sets.finish(alloc) {
+        Ok(Told { holds, text }) => write_answer(out, &Answer { holds, text }),
+        Err(_) => Err(Stop::NoMemory),
+    }
+}
