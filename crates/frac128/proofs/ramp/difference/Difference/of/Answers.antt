@@ -52,7 +52,7 @@ invariant_of-result c =
     record {
       small_base = as_small _ c.determinant.result (2 ^ 99) base (omega (arith, mul-le-mul a other_run, mul-le-mul b run, c.determinant.ensures.small));
       small_climb = as_small _ c.determinant-2.result (2 ^ 64) climb
-      (omega (arith, mul-le-mul rise other_run, mul-le-mul other_rise run, c.determinant-2.ensures.small));
+          (omega (arith, mul-le-mul rise other_run, mul-le-mul other_rise run, c.determinant-2.ensures.small));
     }
 
 pub returns : goal.returns
