@@ -202,10 +202,6 @@ two_lines scale at holds old mid new (line, (time, num, is), e) f = (
   f ∙ ap (λ l. l ++ start_line holds) e ∙ append_assoc old line (start_line holds),
 )
 
--- two deciders that are one hold the same sets
-pub same_follower : (a b : Deciding) → Some a ≡ Some b → a.early ≡ b.early
-same_follower a b e = let f : a ≡ b = cc in ap (λ (x : Deciding). x.early) f
-
 -- a row has the columns of the atoms
 pub wide_row : (x : Deciding) (case : Case) → IsDeciding false x case → (r : Row)
     → length r.values ≡ length case.trace.header.columns → length r.values ≡ x.early.bound.width
