@@ -1,5 +1,5 @@
 -- The text of an early run goes on with a row, and to the end.
-use Rattle.std.proofs.Common.{◌≡◌, ◌⊎◌, inl, inr, refl, sym, ap, subst, ◌∙◌, ℕ, ◌+◌, ◌<◌, Bool, true, false, Option}
+use Rattle.std.proofs.Common.{◌≡◌, ◌⊎◌, inl, inr, refl, sym, ap, subst, ◌∙◌, ℕ, ◌<◌, Bool, true, false, Option}
 use Rattle.std.proofs.Common.{Some, None, List, [], ◌∷◌, ◌++◌, length, pos, codes, arith, append_assoc, append-nil}
 use Rattle.std.specs.Prelude.{MatchBool, MatchOption, IfSome, IsSome}
 use Rattle.rational.specs.Time.{whole}

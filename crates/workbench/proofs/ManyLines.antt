@@ -1,5 +1,5 @@
 -- Several sessions in one input, as a stream: what a piece and the end come to.
-use Rattle.std.proofs.Common.{◌≡◌, ◌≢◌, inl, inr, ℕ, Bool, true, false, List, [], ◌++◌, refl, sym, ap}
+use Rattle.std.proofs.Common.{◌≡◌, ◌≢◌, inr, ℕ, Bool, true, false, List, [], ◌++◌, refl, sym, ap}
 use Rattle.std.proofs.Common.{◌∙◌, subst, append-nil, Option, Result, Ok, Err}
 use Rattle.std.specs.Prelude.{MatchResult, IfOk, OnOk}
 use Rattle.std.proofs.KnownBytes.{Appends-nil}

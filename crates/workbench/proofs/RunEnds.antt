@@ -174,7 +174,8 @@ made_run {words} number rows i o e _ _ form (cut_off is p failed) same said = re
   moved = kept_left i.before i.after same;
   grew = p.wrote;
   said = said;
-  ended = asked (generated number rows) form (λ _. refl) (λ _ x. absurd (false≢true x)) (λ x. absurd (false≢true x)) (unwritten p.back p.missing failed (record {
+  ended = asked (generated number rows) form (λ _. refl) (λ _ x. absurd (false≢true x)) (λ x. absurd (false≢true x))
+      (unwritten p.back p.missing failed (record {
     seen = [];
     later = [];
     parts = refl;
@@ -190,7 +191,8 @@ made_run {words} number rows i o e _ _ form (no_room_for_it same_out) same said 
   moved = kept_left i.before i.after same;
   grew = kept_all o.before o.after same_out;
   said = said;
-  ended = asked (generated number rows) form (λ _. refl) (λ _ x. absurd (false≢true x)) (λ x. absurd (false≢true x)) (no_memory (λ k. let h = k in cc) (inl refl));
+  ended = asked (generated number rows) form (λ _. refl) (λ _ x. absurd (false≢true x)) (λ x. absurd (false≢true x))
+      (no_memory (λ k. let h = k in cc) (inl refl));
 }
 
 -- a text that gives no formula
@@ -209,7 +211,8 @@ refused_run {words} {text} j i o e status line form end same_in same_out said = 
   where
     by_end : {status : ℕ} {line : List ℕ} → IsBadEnd text status line → HasEnded words i o [] [] status line
     by_end (refused {line = line} b) =
-        asked (bad_request line) (record { command = j; text = text; form = form; is = inl b }) (λ _. refl) (λ _ x. absurd (false≢true x)) (λ x. absurd (false≢true x)) (by_itself bad)
+        asked (bad_request line) (record { command = j; text = text; form = form; is = inl b }) (λ _. refl)
+        (λ _ x. absurd (false≢true x)) (λ x. absurd (false≢true x)) (by_itself bad)
     by_end no_room = unknown (λ h. h (on_formula j text) form) refl
 
 prompt_of : (c : Command) (f : Formula) (bytes : List ℕ) (ended : Bool) → IsReadPromptly whole_limits f bytes ended → IsPrompt (of_whole c f) bytes ended
@@ -349,7 +352,8 @@ module _ (words : List (List ℕ)) (c : Command) (f : Formula) (i : Drained) (o 
         moved = x.moved;
         grew = x.grew;
         said = said;
-        ended = asked (of_whole c f) ask (λ k. absurd (let h = k in cc)) (λ n _. record { none_left = x.at_end n; once = once (λ k. n (ap status_of k)) }) (λ b. absurd (false≢true b)) x.is;
+        ended = asked (of_whole c f) ask (λ k. absurd (let h = k in cc)) (λ n _. record { none_left = x.at_end n; once = once (λ k. n (ap status_of k)) })
+      (λ b. absurd (false≢true b)) x.is;
       })
 
 -- ---- statuses

@@ -16,8 +16,8 @@ use Rattle.workbench.specs.Requests.{verdicts}
 use Rattle.workbench.specs.Wholes.{status_of_truth}
 use Rattle.trace_stream.specs.Following.{IsTextOf, IsLive, IsOver, IsDone, IsLiveStop}
 use Rattle.workbench.specs.MadeWritten.{IsMadeWritten, no_room, made_whole, made_in_part}
-use Rattle.workbench.specs.Watches.{Watched, Past, with_piece, with_text, IsText, WatchesRows, WatchesEnd, StandsFor}
-use Rattle.workbench.specs.Watches.{StandsForAll, HasPushed, HasFinished, HasFault, IsWatchFault, IsCall, IsFaultOf}
+use Rattle.workbench.specs.Watches.{Past, with_piece, with_text, IsText, WatchesRows, WatchesEnd, StandsFor}
+use Rattle.workbench.specs.Watches.{HasPushed, HasFinished, HasFault, IsWatchFault, IsCall, IsFaultOf}
 use Rattle.trace_stream.specs.declared.fault.TraceFault.TheVariants.{Trace as InTrace, Unknown, Unit as InTicks}
 use Rattle.trace_stream.specs.declared.fault.StreamStop.{StreamStop}
 use Rattle.trace_stream.specs.declared.fault.StreamStop.TheVariants as stream_stop

@@ -1,4 +1,4 @@
-use Rattle.std.proofs.Common.{map, refl, sym, ◌∙◌, subst, inl, inr}
+use Rattle.std.proofs.Common.{false, map, refl, sym, ◌∙◌, subst, inl, inr}
 use Rattle.std.specs.Prelude.{string_bytes}
 use Rattle.report.specs.Lines.{line_text}
 use Rattle.workbench.specs.Commands.{on_formula}

@@ -24,9 +24,11 @@ finish-status-requires g c =
 pub returns-then-is_err-clause-ran : goal.returns-then-is_err-clause-ran
 returns-then-is_err-clause-ran g c = λ words q ask is same.
     let of = subst (λ (q : Request). IsStreamedFor q c.formula.result.now) c.stream-ending.ensures.same c.formula.ensures in
-    let own = subst (λ (q : Request). Asks words q) (sym (of_value (λ p. g.P.Push.request p ≡ q) c.args.begun c.in-Ok.pusher c.in-Ok.is same)) ask in
+    let is_own = of_value (λ p. g.P.Push.request p ≡ q) c.args.begun c.in-Ok.pusher c.in-Ok.is same in
+    let own = subst (λ (k : Request). Asks words k) (sym is_own) ask in
     let y = c.stream-ending.ensures.ending in
-    streamed_run (g.P.Push.request c.in-Ok.pusher) c.formula.result.now of words own y c.stream-ending.ensures.ends c.finish-status.ensures.said c.finish-status.ensures.status
+    streamed_run (g.P.Push.request c.in-Ok.pusher) c.formula.result.now of words own y c.stream-ending.ensures.ends
+    c.finish-status.ensures.said c.finish-status.ensures.status
     (stopped_left words (g.P.Push.request c.in-Ok.pusher) y.bytes c.stream-ending.result c.args.kept.now own (sym c.is_err.ensures.value ∙ c.if-is_err.true))
 
 pub into_kept-requires : goal.into_kept-requires
@@ -37,10 +39,12 @@ into_kept-requires g c =
 pub returns-clause-ran : goal.returns-clause-ran
 returns-clause-ran g c = λ words q ask is same.
     let of = subst (λ (q : Request). IsStreamedFor q c.formula.result.now) c.stream-ending.ensures.same c.formula.ensures in
-    let own = subst (λ (q : Request). Asks words q) (sym (of_value (λ p. g.P.Push.request p ≡ q) c.args.begun c.in-Ok.pusher c.in-Ok.is same)) ask in
+    let is_own = of_value (λ p. g.P.Push.request p ≡ q) c.args.begun c.in-Ok.pusher c.in-Ok.is same in
+    let own = subst (λ (k : Request). Asks words k) (sym is_own) ask in
     let y = c.stream-ending.ensures.ending in
     let ended = sym c.is_err.ensures.value ∙ c.if-is_err.false in
-    streamed_run (g.P.Push.request c.in-Ok.pusher) c.formula.result.now of words own y c.stream-ending.ensures.ends c.finish-status.ensures.said c.finish-status.ensures.status
+    streamed_run (g.P.Push.request c.in-Ok.pusher) c.formula.result.now of words own y c.stream-ending.ensures.ends
+    c.finish-status.ensures.said c.finish-status.ensures.status
     (kept_left words (g.P.Push.request c.in-Ok.pusher) c.formula.result.now y.bytes c.stream-ending.result c.args.kept.now c.into_kept.result own of ended
     (subst (λ (q : Request). Holds q y.bytes c.into_kept.result) c.stream-ending.ensures.same
     (c.into_kept.ensures y.bytes y.text (of_answer c.stream-ending.result ended y.left))))
