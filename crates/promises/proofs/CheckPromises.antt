@@ -16,13 +16,11 @@ use Rattle.stl_grammar.proofs.LawProofs.{one_formula}
 use Rattle.report.specs.Report.{Command, check, robust, explain, json, table, Out}
 use Rattle.promises.specs.Words.{AskCheck}
 use Rattle.workbench.specs.Commands.{Verb, on_formula, IsForm, of_formula}
-use Rattle.workbench.specs.declared.request.Command.TheVariants.{Check}
-use Rattle.workbench.specs.declared.request.Mode.TheVariants.{Whole}
 use Rattle.workbench.specs.Commands as word
 use Rattle.workbench.specs.Requests.{Request, no_form, refused, whole, stream, sessions, generated, verdicts, early, margins}
 use Rattle.workbench.specs.Requests.{Asks, IsAsked, word_of, IsRefusal, AreHeld, is_held, has_input}
 use Rattle.workbench.specs.Owed.{OwesAtEnd, not_yet, faulty as faulty_at_end, too_many, at_end}
-use Rattle.workbench.specs.Ended.{TellsTruth, none, bad, faulty, answered, wide, overfull}
+use Rattle.workbench.specs.Ended.{TellsTruth, bad, faulty, answered, wide, overfull}
 use Rattle.workbench.specs.Running.{IsBegun, IsEnd, by_itself, unread, unwritten, no_memory, HasEnded, IsReadOut, asked, unknown, IsRun}
 use Rattle.workbench.specs.Saying.{IsSaid, whole as all_said, part as part_said}
 use Rattle.workbench.specs.InputFaults.{Fault, fault_text, whole_limits, IsInputFault}
@@ -33,7 +31,7 @@ use Rattle.promises.specs.Promises.{AskForBad, AskFor, Drew, Got, IsChecked, IsC
 use Rattle.workbench.proofs.NumberWords.{two_words}
 use Rattle.trace_stream.proofs.FaultsStay.{unsound}
 use Rattle.promises.proofs.NoForm.{two_is_none}
-use Rattle.workbench.proofs.RunEnds.{word_form, asked_word}
+use Rattle.workbench.proofs.RunEnds.{word_form}
 use Rattle.promises.proofs.OneRequest.{one_verb}
 use Rattle.promises.proofs.Completing.{rest_of, truth_status}
 
@@ -77,7 +75,8 @@ check_asked : {words : List (List ℕ)} {text : List ℕ} → IsAsked words (on_
 check_asked a = word_form a.is
 
 asked_check : {words : List (List ℕ)} {text : List ℕ} → AskCheck words text → IsAsked words (on_formula word.check text)
-asked_check {words} {text} e = asked_word (Whole Check) text e
+asked_check {words} {text} e =
+    record { built = inl refl; is = subst (λ ws. IsForm ws (on_formula word.check text)) (sym e) (of_formula word.check) }
 
 module _ {words : List (List ℕ)} {own : List ℕ} (ask : AskCheck words own) where
   bad_of : (line : List ℕ) → Asks words (refused line) → AskForBad words line

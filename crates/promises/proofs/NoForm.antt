@@ -1,5 +1,5 @@
 -- Words of no form, and the status 2.
-use Rattle.std.proofs.Common.{◌≡◌, ◌≢◌, ℕ, List, arith, refl}
+use Rattle.std.proofs.Common.{◌≡◌, ℕ, List, arith, refl}
 use Rattle.std.proofs.lemmas.Bool.{false≢true}
 use Rattle.rational.proofs.Lists.{append_some}
 use Rattle.io_edge.specs.Calls.{Drained, Filled}
