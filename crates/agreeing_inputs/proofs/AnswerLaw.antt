@@ -22,11 +22,11 @@ use Rattle.workbench.specs.Answers.{HoldsAtStart}
 use Rattle.workbench.specs.Owed.{at_end as at_end_owed}
 use Rattle.workbench.specs.Requests.{Stream, verdicts, early, margins}
 use Rattle.workbench.specs.Ended.{TellsTruth, IsAnsweredWhole, IsAnsweredByRow}
-use Rattle.workbench.specs.SureLines.{IsCoverText}
-use Rattle.workbench.specs.SureMargins.{IsMarginCover}
-use Rattle.workbench.proofs.OwedLaws.{explain_owed_once, json_owed_once}
-use Rattle.workbench.proofs.SureLines.{watch_text}
-use Rattle.workbench.proofs.SureMargins.{margin_text}
+use Rattle.promises.specs.SureLines.{IsCoverText}
+use Rattle.promises.specs.SureMargins.{IsMarginCover}
+use Rattle.promises.proofs.OwedLaws.{explain_owed_once, json_owed_once}
+use Rattle.promises.proofs.SureLines.{watch_text}
+use Rattle.promises.proofs.SureMargins.{margin_text}
 use Rattle.agreeing_inputs.specs.Answers.{AnswersHaveOneContent, WatchJoinsToCheck, RwatchJoinsToRobust, JudgesStart, JudgesStartByRow}
 use Rattle.agreeing_inputs.specs.Answers.{IsOneStatus, AnswersHaveOneStatus}
 use Rattle.agreeing_inputs.proofs.PartsLaw.{parts_join}

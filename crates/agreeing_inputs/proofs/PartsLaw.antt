@@ -18,8 +18,8 @@ use Rattle.stl_syntax.specs.SupInf.{Robustness, margin_setting}
 use Rattle.stl_syntax.specs.Verdicts.{IsRobustInside, TellsClosed}
 use Rattle.stl_syntax.proofs.LawProofs.{values_are_of_times, one_value}
 use Rattle.online_nodes.specs.MarginEdges.{Part, point, gap}
-use Rattle.workbench.specs.SureMargins.{AreTrueParts, AreInTurn, CoverParts}
-use Rattle.workbench.proofs.MarginTruth.{one_inside}
+use Rattle.promises.specs.SureMargins.{AreTrueParts, AreInTurn, CoverParts}
+use Rattle.promises.proofs.MarginTruth.{one_inside}
 use Rattle.agreeing.proofs.KnotsFrom.{TellFrom, go_on, all_tell, up_to_end}
 use Rattle.agreeing_inputs.specs.JoinedParts.{AllLieInside, AreJoinedAfter, AreJoinedParts}
 

@@ -13,7 +13,7 @@ use Rattle.agreeing.specs.Joined.{AreJoined}
 use Rattle.workbench.specs.InputFaults.{whole_limits}
 use Rattle.workbench.specs.Requests.{Stream, verdicts, margins}
 use Rattle.workbench.specs.Ended.{TellsTruth, IsAnsweredWhole, IsAnsweredByRow}
-use Rattle.workbench.specs.SureMargins.{ArePartLines}
+use Rattle.promises.specs.SureMargins.{ArePartLines}
 use Rattle.agreeing_inputs.specs.JoinedParts.{AreJoinedParts}
 
 -- where `json` answers, each command that holds the whole trace answers with the text of one content

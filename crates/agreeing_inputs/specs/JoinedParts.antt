@@ -4,7 +4,7 @@ use Rattle.rational.specs.Time.{Rational, ◌≈◌}
 use Rattle.rational.specs.Extended.{Extended, ◌≈ᵉ◌}
 use Rattle.stl_syntax.specs.Knots.{Knot, Piece, Knots, IsInside}
 use Rattle.online_nodes.specs.MarginEdges.{Part, point, gap}
-use Rattle.workbench.specs.SureMargins.{AreInTurn, ReadsPart}
+use Rattle.promises.specs.SureMargins.{AreInTurn, ReadsPart}
 
 -- what is read from the part is read inside the piece after knot k
 abbrev pub LiesInside : Knot → Piece → Part → Type 0

@@ -21,9 +21,9 @@ use Rattle.session_mux.proofs.TextLemmas.{EndsInFeed, alone_ends, texts_joined}
 use Rattle.workbench.specs.Requests.{Request, has_input, Asks, stream, sessions, verdicts}
 use Rattle.workbench.specs.Ended.{IsAnswered, faulty, answered, wide, overfull}
 use Rattle.workbench.specs.Running.{IsBegun, IsEnd, by_itself, unread, unwritten, no_memory, IsReadOut, IsRun}
-use Rattle.workbench.proofs.BenchesHear.{hears_own_stream, hears_the_same, read_names}
-use Rattle.workbench.proofs.Completing.{rest_of}
-use Rattle.workbench.proofs.OneRequest.{one_request}
+use Rattle.promises.proofs.BenchesHear.{hears_own_stream, hears_the_same, read_names}
+use Rattle.promises.proofs.Completing.{rest_of}
+use Rattle.promises.proofs.OneRequest.{one_request}
 use Rattle.run_laws.specs.OneAnswer.{IsOwn, IsFront}
 use Rattle.run_laws.specs.Crowd.{heard_whole, HearsItsOwnRun, OthersChangeNothing, HearsAFront}
 use Rattle.run_laws.proofs.Crowd.{watch_alone, alone_goes_on}

@@ -12,7 +12,7 @@ use Rattle.workbench.specs.Requests.{Request, no_form, refused, whole, stream, s
 use Rattle.workbench.specs.Owed.{OwesAtEnd, not_yet, too_many, Owes}
 use Rattle.workbench.specs.Ended.{IsWide, IsOverfull, EndsWith}
 use Rattle.workbench.specs.Running.{IsBegun, IsDue, IsEnd, by_itself, unread, unwritten, no_memory}
-use Rattle.workbench.proofs.OwedLaws.{begun_of_all, begun_of_lines}
+use Rattle.promises.proofs.OwedLaws.{begun_of_all, begun_of_lines}
 use Rattle.run_laws.specs.OneAnswer.{IsFront}
 use Rattle.run_laws.proofs.Endings.{IsEnding, at_fault, answer, too_wide, too_full, ending_of_all}
 use Rattle.run_laws.proofs.OneEnding.{owed_once, answer_is_owed}

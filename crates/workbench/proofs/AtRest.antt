@@ -1,7 +1,7 @@
 -- A reader with what follows its rows, as a stream: what a piece and the end come to.
 use Rattle.std.proofs.Common.{◌≡◌, ◌≢◌, inl, inr, ℕ, ◌<◌, Bool, true, false, List, [], ◌++◌, length, refl}
 use Rattle.std.proofs.Common.{sym, ap, ◌∙◌, subst, arith, append-nil, Option, Result, Ok, Err}
-use Rattle.std.specs.Prelude.{MatchResult, OnOk, option_map}
+use Rattle.std.specs.Prelude.{MatchResult, IfOk, OnOk, option_map}
 use Rattle.std.proofs.KnownBytes.{Appends-nil}
 use Rattle.stl_syntax.specs.Formula.{Formula, root}
 use Rattle.trace_reader.specs.Reader.{header_of}
@@ -266,3 +266,17 @@ not_unwritten (Ok x) e = let k = e in cc
 not_unwritten (Err (Faulty fault)) e = let k = e in cc
 not_unwritten (Err NoMemory) e = let k = e in cc
 not_unwritten (Err (Wide i den)) e = let k = e in cc
+
+-- ---- the beginning
+
+-- a reader without bytes may be pushed
+pub live_begun : {F E : Type 0} (Stands : F → Case → List ℕ → Type 0) (kind : Stream) (r : Result (Live F) E) → IfOk r (λ x. IsLive Stands kind x [] [])
+    → IfOk r (λ x. x.rows.limits ≡ limits_of kind) → IfOk r (λ x. x.text ≡ []) → IfOk r (λ x. IsPushed (IsAtRest Stands kind x) (stream kind x.formula) [] [])
+live_begun Stands kind (Ok x) live limits empty = at_rest Stands kind x [] [] (record { live_for = live; limits = limits; empty = empty })
+live_begun Stands kind (Err e) live limits empty = tt
+
+-- by a request of its formula
+pub live_asked : {F E : Type 0} (kind : Stream) (f : Formula) (r : Result (Live F) E) → IfOk r (λ x. x.formula ≡ f)
+    → IfOk r (λ x. stream kind x.formula ≡ stream kind f)
+live_asked kind f (Ok x) e = ap (stream kind) e
+live_asked kind f (Err e) h = tt

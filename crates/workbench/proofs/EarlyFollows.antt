@@ -1,5 +1,5 @@
 -- The text of an early run goes on with a row, and to the end.
-use Rattle.std.proofs.Common.{◌≡◌, ◌⊎◌, inl, inr, refl, sym, ap, subst, ◌∙◌, ℕ, ◌+◌, ◌<◌, Bool, true, false, Option}
+use Rattle.std.proofs.Common.{◌≡◌, ◌⊎◌, inl, inr, refl, sym, ap, subst, ◌∙◌, ℕ, ◌<◌, Bool, true, false, Option}
 use Rattle.std.proofs.Common.{Some, None, List, [], ◌∷◌, ◌++◌, length, pos, codes, arith, append_assoc, append-nil}
 use Rattle.std.specs.Prelude.{MatchBool, MatchOption, IfSome, IsSome}
 use Rattle.rational.specs.Time.{whole}
@@ -201,10 +201,6 @@ two_lines scale at holds old mid new (line, (time, num, is), e) f = (
   (time, num, ap (λ l. l ++ start_line holds) is),
   f ∙ ap (λ l. l ++ start_line holds) e ∙ append_assoc old line (start_line holds),
 )
-
--- two deciders that are one hold the same sets
-pub same_follower : (a b : Deciding) → Some a ≡ Some b → a.early ≡ b.early
-same_follower a b e = let f : a ≡ b = cc in ap (λ (x : Deciding). x.early) f
 
 -- a row has the columns of the atoms
 pub wide_row : (x : Deciding) (case : Case) → IsDeciding false x case → (r : Row)

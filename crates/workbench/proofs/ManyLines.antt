@@ -1,11 +1,8 @@
--- Several sessions in one input, as a stream: what a piece and the end come to, and the run.
-use Rattle.std.proofs.Common.{◌≡◌, ◌≢◌, inl, inr, ℕ, Bool, true, false, List, [], ◌++◌, refl, sym, ap}
+-- Several sessions in one input, as a stream: what a piece and the end come to.
+use Rattle.std.proofs.Common.{◌≡◌, ◌≢◌, inr, ℕ, Bool, true, false, List, [], ◌++◌, refl, sym, ap}
 use Rattle.std.proofs.Common.{◌∙◌, subst, append-nil, Option, Result, Ok, Err}
-use Rattle.std.specs.Prelude.{MatchResult, OnOk}
-use Rattle.std.specs.Result.{is_err}
+use Rattle.std.specs.Prelude.{MatchResult, IfOk, OnOk}
 use Rattle.std.proofs.KnownBytes.{Appends-nil}
-use Rattle.std.proofs.lemmas.Bool.{false≢true}
-use Rattle.io_edge.specs.Calls.{Drained, Filled}
 use Rattle.stl_syntax.specs.Formula.{Formula}
 use Rattle.session_mux.specs.Inputs.{OwesLines}
 use Rattle.session_mux.specs.Muxes.{Muxed}
@@ -14,21 +11,14 @@ use Rattle.session_mux.specs.declared.input.Input.{Input}
 use Rattle.session_mux.specs.declared.stop.InputStop.{InputStop}
 use Rattle.session_mux.specs.declared.stop.InputStop.TheVariants.{Fault as InLine, NoMemory as NoRoom}
 use Rattle.session_mux.proofs.FrontLines.{no_fault_so_far, owed_so_far, few_bytes}
-use Rattle.workbench.specs.Commands as word
-use Rattle.workbench.specs.Requests.{sessions, AreFor}
+use Rattle.workbench.specs.Requests.{sessions}
 use Rattle.workbench.specs.Running.{IsBegun}
 use Rattle.workbench.specs.Many.{stop_of_input, outcome_of_input, IsInputWritten, no_room, made_whole, made_in_part, IsManyAtRest}
-use Rattle.workbench.specs.Pushing.{IsPushed, IsPushStop, IsPush, IsFinished, IsLineOf, IsStreamEnd}
-use Rattle.workbench.specs.Wholes.{status_of, IsEndLine, EndsSoundly}
-use Rattle.workbench.specs.Keeping.{Holds, IsLeft, asked, HasRun}
+use Rattle.workbench.specs.Pushing.{IsPushed, IsPushStop, IsPush, IsFinished}
 use Rattle.workbench.specs.declared.many.Many.{Many as Sessions}
 use Rattle.workbench.specs.declared.fault.Stop.{Stop}
-use Rattle.workbench.specs.declared.fault.Stop.TheVariants.{Fault as Faulty, Input as FaultyLine, Unread, Unwritten, NoMemory, Wide, TooMany}
-use Rattle.workbench.specs.declared.kept.Kept.{Kept}
-use Rattle.workbench.specs.declared.kept.Kept.TheVariants.{Mux}
+use Rattle.workbench.specs.declared.fault.Stop.TheVariants.{Unwritten, NoMemory}
 use Rattle.workbench.proofs.Beginnings.{begun_before, begun_now}
-use Rattle.workbench.proofs.StreamSteps.{HasStreamed, streamed_end, pushed_run}
-use Rattle.workbench.proofs.Leaving.{not_answer}
 
 -- ---- what is written
 
@@ -158,63 +148,14 @@ module _ (f : Formula) (mid new : Input) (held held_after : Option (List ℕ)) w
     ),
   )
 
--- ---- the run
+-- ---- the beginning and the end
 
-many_line : (f : Formula) (ending : Result Bool Stop) (line other : List ℕ) → IsLineOf (sessions f) ending line → IsEndLine f ending other → other ≡ line
-many_line f (Ok holds) line other a b = b ∙ sym a
-many_line f (Err (Faulty fault)) line other a b = absurd a
-many_line f (Err (FaultyLine fault)) line other a b = b ∙ sym a
-many_line f (Err Unread) line other a b = b ∙ sym a
-many_line f (Err Unwritten) line other a b = b ∙ sym a
-many_line f (Err NoMemory) line other a b = b ∙ sym a
-many_line f (Err (Wide i den)) line other a b = b ∙ sym a
-many_line f (Err (TooMany count)) line other a b = b ∙ sym a
+-- without bytes it may be pushed
+pub many_begun : {E : Type 0} (r : Result Sessions E) → IfOk r (λ m. IsManyAtRest m [] []) → IfOk r (λ m. IsPushed (IsManyAtRest m) (sessions m.formula) [] [])
+many_begun (Ok m) k = many_at_rest m [] [] k
+many_begun (Err e) k = tt
 
--- no fault of a trace ends it
-pub many_soundly : {Done : List ℕ → List ℕ → Type 0} (f g : Formula) (i : Drained) (o : Filled) (ending : Result Bool Stop)
-    → IsStreamEnd Done (sessions f) i o ending → EndsSoundly g ending
-many_soundly f g i o ending x = by_line ending x.is_line
-  where
-    by_line : (ending : Result Bool Stop) → IsLineOf (sessions f) ending x.line → EndsSoundly g ending
-    by_line (Ok holds) is_line = tt
-    by_line (Err (Faulty fault)) is_line = absurd is_line
-    by_line (Err (FaultyLine fault)) is_line = tt
-    by_line (Err Unread) is_line = tt
-    by_line (Err Unwritten) is_line = tt
-    by_line (Err NoMemory) is_line = tt
-    by_line (Err (Wide i den)) is_line = tt
-    by_line (Err (TooMany count)) is_line = tt
-
--- the sessions are left on an answer, and nothing else
-many_left : (words : List (List ℕ)) (f : Formula) (bytes text : List ℕ) (ending : Result Bool Stop) (m : Muxed) (old new : Kept) → AreFor words word.mux f
-    → OnOk ending (HasAll f m bytes text) → MatchResult ending (λ _. new ≡ Mux m) (λ _. new ≡ old) → IsLeft words bytes (status_of ending) old new
-many_left words f bytes text (Ok true) m old new ask k same =
-    asked (sessions f) ask (inl (refl, inl refl, subst (λ (x : Kept). Holds (sessions f) bytes x) (sym same) (k.seen, k.are, k.stands)))
-many_left words f bytes text (Ok false) m old new ask k same =
-    asked (sessions f) ask (inl (refl, inr refl, subst (λ (x : Kept). Holds (sessions f) bytes x) (sym same) (k.seen, k.are, k.stands)))
-many_left words f bytes text (Err stop) m old new ask k same = asked (sessions f) ask (inr (inr (not_answer stop), same))
-
--- requests of sessions that are one are of one formula
-pub formula_stays : (f g : Formula) → sessions f ≡ sessions g → f ≡ g
-formula_stays f g e = cc
-
--- the run of `mux`
-pub many_run : {f h : Formula} {i : Drained} {o e : Filled} {ending : Result Bool Stop} {status : ℕ} (words : List (List ℕ)) (m : Muxed) (old new : Kept)
-    → AreFor words word.mux f → h ≡ f → HasStreamed sessions f (λ _. HasAll h m) i o e ending status
-    → MatchResult ending (λ _. new ≡ Mux m) (λ _. new ≡ old) → HasRun words i o e old new status
-many_run {f} {ending = ending} words m old new ask same x kept =
-    let y = streamed_end x in
-    let done = subst (λ (k : Formula). OnOk ending (HasAll k m y.bytes y.text)) same y.left in
-    pushed_run x words old new ask refl (λ own. many_line f ending y.line x.line y.is_line own)
-    (many_left words f y.bytes y.text ending m old new ask done kept)
-
--- the answer is kept, or the fault leaves all as it was
-pub many_fault : (r : Result Bool Stop) (m : Muxed) (k : Kept) → is_err r ≡ true → MatchResult r (λ _. k ≡ Mux m) (λ _. k ≡ k)
-many_fault (Ok holds) m k e = absurd (false≢true e)
-many_fault (Err stop) m k e = refl
-
--- a run that is answered leaves its sessions
-pub many_answer : (r : Result Bool Stop) (m left : Muxed) (old : Kept) → left ≡ m → is_err r ≡ false
-    → MatchResult r (λ _. Mux left ≡ Mux m) (λ _. Mux left ≡ old)
-many_answer (Ok holds) m left old same e = ap Mux same
-many_answer (Err stop) m left old same e = absurd (false≢true (sym e))
+-- which is a request of its formula
+pub many_asked : {E : Type 0} (f : Formula) (r : Result Sessions E) → IfOk r (λ m. m.formula ≡ f) → IfOk r (λ m. sessions m.formula ≡ sessions f)
+many_asked f (Ok m) e = ap sessions e
+many_asked f (Err e) k = tt

@@ -87,12 +87,6 @@ serves table f i h = h
 
 -- ---- parts
 
--- what was to be written was written whole, or the output failed in it
-pub written_ok : {holds : Bool} {text : List ℕ} {held held_after : Option (List ℕ)} {e : Result Bool Stop} → IsWrittenWith holds text held held_after e
-    → ((e ≡ Ok holds) × Appends held held_after text) ⊎ ((e ≡ Err Unwritten) × IsPartWritten held held_after text)
-written_ok (all_of_it w) = inl (refl, w)
-written_ok (a_part w) = inr (refl, w)
-
 -- writing does not end as a failed read
 pub not_unread : {holds : Bool} {text : List ℕ} {held held_after : Option (List ℕ)} {e : Result Bool Stop}
     → IsWrittenWith holds text held held_after e → e ≢ Err Unread
@@ -180,7 +174,8 @@ made_run {words} number rows i o e _ _ form (cut_off is p failed) same said = re
   moved = kept_left i.before i.after same;
   grew = p.wrote;
   said = said;
-  ended = asked (generated number rows) form (λ _. refl) (λ _ x. absurd (false≢true x)) (λ x. absurd (false≢true x)) (unwritten p.back p.missing failed (record {
+  ended = asked (generated number rows) form (λ _. refl) (λ _ x. absurd (false≢true x)) (λ x. absurd (false≢true x))
+      (unwritten p.back p.missing failed (record {
     seen = [];
     later = [];
     parts = refl;
@@ -196,7 +191,8 @@ made_run {words} number rows i o e _ _ form (no_room_for_it same_out) same said 
   moved = kept_left i.before i.after same;
   grew = kept_all o.before o.after same_out;
   said = said;
-  ended = asked (generated number rows) form (λ _. refl) (λ _ x. absurd (false≢true x)) (λ x. absurd (false≢true x)) (no_memory (λ k. let h = k in cc) (inl refl));
+  ended = asked (generated number rows) form (λ _. refl) (λ _ x. absurd (false≢true x)) (λ x. absurd (false≢true x))
+      (no_memory (λ k. let h = k in cc) (inl refl));
 }
 
 -- a text that gives no formula
@@ -215,7 +211,8 @@ refused_run {words} {text} j i o e status line form end same_in same_out said = 
   where
     by_end : {status : ℕ} {line : List ℕ} → IsBadEnd text status line → HasEnded words i o [] [] status line
     by_end (refused {line = line} b) =
-        asked (bad_request line) (record { command = j; text = text; form = form; is = inl b }) (λ _. refl) (λ _ x. absurd (false≢true x)) (λ x. absurd (false≢true x)) (by_itself bad)
+        asked (bad_request line) (record { command = j; text = text; form = form; is = inl b }) (λ _. refl)
+        (λ _ x. absurd (false≢true x)) (λ x. absurd (false≢true x)) (by_itself bad)
     by_end no_room = unknown (λ h. h (on_formula j text) form) refl
 
 prompt_of : (c : Command) (f : Formula) (bytes : List ℕ) (ended : Bool) → IsReadPromptly whole_limits f bytes ended → IsPrompt (of_whole c f) bytes ended
@@ -355,34 +352,11 @@ module _ (words : List (List ℕ)) (c : Command) (f : Formula) (i : Drained) (o 
         moved = x.moved;
         grew = x.grew;
         said = said;
-        ended = asked (of_whole c f) ask (λ k. absurd (let h = k in cc)) (λ n _. record { none_left = x.at_end n; once = once (λ k. n (ap status_of k)) }) (λ b. absurd (false≢true b)) x.is;
+        ended = asked (of_whole c f) ask (λ k. absurd (let h = k in cc)) (λ n _. record { none_left = x.at_end n; once = once (λ k. n (ap status_of k)) })
+      (λ b. absurd (false≢true b)) x.is;
       })
 
 -- ---- statuses
-
--- the ending of a status
-pub five_is : (e : Result Bool Stop) → status_of e ≡ 5 → e ≡ Err Unread
-five_is (Ok true) s = absurd (omega (arith, s))
-five_is (Ok false) s = absurd (omega (arith, s))
-five_is (Err (Faulty fault)) s = absurd (omega (arith, s))
-five_is (Err (FaultyLine fault)) s = absurd (omega (arith, s))
-five_is (Err Unread) s = refl
-five_is (Err Unwritten) s = absurd (omega (arith, s))
-five_is (Err NoMemory) s = absurd (omega (arith, s))
-five_is (Err (Wide i den)) s = absurd (omega (arith, s))
-five_is (Err (TooMany count)) s = absurd (omega (arith, s))
-
--- status 6 is a failed output
-pub six_is : (e : Result Bool Stop) → status_of e ≡ 6 → e ≡ Err Unwritten
-six_is (Ok true) s = absurd (omega (arith, s))
-six_is (Ok false) s = absurd (omega (arith, s))
-six_is (Err (Faulty fault)) s = absurd (omega (arith, s))
-six_is (Err (FaultyLine fault)) s = absurd (omega (arith, s))
-six_is (Err Unread) s = absurd (omega (arith, s))
-six_is (Err Unwritten) s = refl
-six_is (Err NoMemory) s = absurd (omega (arith, s))
-six_is (Err (Wide i den)) s = absurd (omega (arith, s))
-six_is (Err (TooMany count)) s = absurd (omega (arith, s))
 
 -- a status of 2 or more is a failure
 pub large_is : (e : Result Bool Stop) → 2 ≤ status_of e → IsErr e
@@ -390,13 +364,15 @@ large_is (Ok true) s = absurd (omega (arith, s))
 large_is (Ok false) s = absurd (omega (arith, s))
 large_is (Err stop) s = refl
 
--- a status that is not 6 is no failed output
-pub not_six : (e : Result Bool Stop) → status_of e ≢ 6 → e ≢ Err Unwritten
-not_six e other same = other (ap status_of same)
-
--- a status that is not 5 is no failed read
-pub not_five : (e : Result Bool Stop) → status_of e ≢ 5 → e ≢ Err Unread
-not_five e other same = other (ap status_of same)
+-- that of a reason to stop is 4 or more
+pub stop_high : (stop : Stop) → 4 ≤ status_of_stop stop
+stop_high (Faulty fault) = omega arith
+stop_high (FaultyLine fault) = omega arith
+stop_high Unread = omega arith
+stop_high Unwritten = omega arith
+stop_high NoMemory = omega arith
+stop_high (Wide i den) = omega arith
+stop_high (TooMany count) = omega arith
 
 -- no ending has the status of words or of a formula
 pub not_words : (e : Result Bool Stop) → ¬ ((status_of e ≡ 2) ⊎ (status_of e ≡ 3))
@@ -404,22 +380,5 @@ not_words (Ok true) (inl s) = omega (arith, s)
 not_words (Ok true) (inr s) = omega (arith, s)
 not_words (Ok false) (inl s) = omega (arith, s)
 not_words (Ok false) (inr s) = omega (arith, s)
-not_words (Err (Faulty fault)) (inl s) = omega (arith, s)
-not_words (Err (Faulty fault)) (inr s) = omega (arith, s)
-not_words (Err (FaultyLine fault)) (inl s) = omega (arith, s)
-not_words (Err (FaultyLine fault)) (inr s) = omega (arith, s)
-not_words (Err Unread) (inl s) = omega (arith, s)
-not_words (Err Unread) (inr s) = omega (arith, s)
-not_words (Err Unwritten) (inl s) = omega (arith, s)
-not_words (Err Unwritten) (inr s) = omega (arith, s)
-not_words (Err NoMemory) (inl s) = omega (arith, s)
-not_words (Err NoMemory) (inr s) = omega (arith, s)
-not_words (Err (Wide i den)) (inl s) = omega (arith, s)
-not_words (Err (Wide i den)) (inr s) = omega (arith, s)
-not_words (Err (TooMany count)) (inl s) = omega (arith, s)
-not_words (Err (TooMany count)) (inr s) = omega (arith, s)
-
--- status 3 or 7 is no answer
-pub not_small : (status : ℕ) → (status ≡ 3) ⊎ (status ≡ 7) → ¬ (status ≤ 1)
-not_small status (inl a) e = omega (arith, a, e)
-not_small status (inr a) e = omega (arith, a, e)
+not_words (Err stop) (inl s) = omega (arith, s, stop_high stop)
+not_words (Err stop) (inr s) = omega (arith, s, stop_high stop)

@@ -10,16 +10,19 @@ use Rattle.std.proofs.lemmas.List.{take-append-le, take_all}
 use Rattle.io_edge.specs.Calls.{Drained, Filled, HasFailed, HasRefused, IsAskedOnce, HasAskedAtMost}
 use Rattle.stl_syntax.specs.Formula.{Formula}
 use Rattle.session_mux.specs.Taking.{fault_of}
-use Rattle.workbench.specs.Requests.{Request, no_form, has_input, Stream, stream, word_of_stream, AreFor, Asks}
+use Rattle.workbench.specs.Requests.{Request, no_form, refused, whole, stream, verdicts, early, margins, sessions, generated, has_input, Asks}
+use Rattle.workbench.specs.InputFaults.{Fault, fault_text}
+use Rattle.trace_stream.specs.Cases.{IsFault}
+use Rattle.trace_stream.specs.declared.fault.TraceFault.{TraceFault}
 use Rattle.workbench.specs.Owed.{Owes}
 use Rattle.workbench.specs.Ended.{HasFault, IsPrompt, IsAnswered, IsWide, faulty, answered, wide}
 use Rattle.workbench.specs.Running.{IsBegun, earlier, KeepsPace, IsEnd, by_itself, unread, unwritten, no_memory, asked}
 use Rattle.workbench.specs.Saying.{IsSaid}
 use Rattle.workbench.specs.Sessions.{input_fault_text}
 use Rattle.workbench.specs.Wholes.{status_of_truth, status_of, IsEndLine, EndsSoundly}
-use Rattle.workbench.specs.Keeping.{IsLeft, HasRun}
+use Rattle.workbench.specs.Keeping.{keeps, IsLeft, HasRun}
 use Rattle.workbench.specs.declared.kept.Kept.{Kept}
-use Rattle.workbench.specs.Pushing.{IsPushed, IsPushStop, IsPush, IsFinished, IsLineOf, IsStreamEnd}
+use Rattle.workbench.specs.Pushing.{IsPushed, IsPushStop, IsPush, IsFinished, IsFaultLineOf, IsLineOf, IsStreamedFor, IsStreamEnd}
 use Rattle.workbench.specs.declared.fault.Stop.{Stop}
 use Rattle.workbench.specs.declared.fault.Stop.TheVariants.{Fault as Faulty, Input as FaultyLine, Unread, Unwritten, NoMemory, Wide, TooMany}
 use Rattle.workbench.specs.ErrTexts.{read_fault, write_fault, out_of_memory, wide_text}
@@ -78,10 +81,6 @@ module _ {Stands : List ℕ → List ℕ → Type 0} {q : Request} {before now h
   -- the machine stands for some bytes and some text
   pub has_pushed : (bytes text : List ℕ) × IsPushed Stands q bytes text
   has_pushed = (p.bytes, p.text, p.is)
-
-  -- no source gives so many pieces
-  pub few_pushes : 18446744073709551615 ≤ reads → ⊥
-  few_pushes r = omega (arith, r, p.enough, p.is.few)
 
   -- with one more piece and its text the stream goes on
   pub go_on : (After : List ℕ → List ℕ → Type 0) (after held_after : Option (List ℕ)) (piece : List ℕ) → Consumes now after piece → 0 < length piece
@@ -237,86 +236,66 @@ module _ {Stands : List ℕ → List ℕ → Type 0} {q : Request} {before now h
 
 -- ---- the run
 
-line_is : (s : Stream) (f : Formula) (ending : Result Bool Stop) (line other : List ℕ) → IsLineOf (stream s f) ending line
-    → IsEndLine f ending other → other ≡ line
-line_is s f (Ok holds) line other a b = b ∙ sym a
-line_is s f (Err (Faulty fault)) line other (x, is, e) b = b x is ∙ sym e
-line_is s f (Err (FaultyLine fault)) line other a b = b ∙ sym a
-line_is s f (Err Unread) line other a b = b ∙ sym a
-line_is s f (Err Unwritten) line other a b = b ∙ sym a
-line_is s f (Err NoMemory) line other a b = b ∙ sym a
-line_is s f (Err (Wide i den)) line other a b = b ∙ sym a
-line_is s f (Err (TooMany count)) line other a b = b ∙ sym a
+-- what is answered as its bytes come has an input, and is left
+pub streams : (q : Request) (f : Formula) → IsStreamedFor q f → (has_input q ≡ true) × (keeps q ≡ true)
+streams no_form f of = absurd of
+streams (refused line) f of = absurd of
+streams (whole c g) f of = absurd of
+streams (stream verdicts g) f of = (refl, refl)
+streams (stream early g) f of = (refl, refl)
+streams (stream margins g) f of = (refl, refl)
+streams (sessions g) f of = (refl, refl)
+streams (generated number rows) f of = absurd of
 
--- a request of the formula f, with input, was pushed to its end, and its line was said
-pub record HasStreamed (request : Formula → Request) (f : Formula) (Done : Formula → List ℕ → List ℕ → Type 0) (i : Drained) (o e : Filled)
-    (ending : Result Bool Stop) (status : ℕ) : Type 0 where
-  -- the formula of what was pushed
-  pub pushed : Formula
-  -- which is f
-  pub pushed_is : pushed ≡ f
-  -- the formula of the line
-  pub line_formula : Formula
-  -- which is f
-  pub line_formula_is : line_formula ≡ f
-  -- how it came to its end
-  pub came : IsStreamEnd (Done pushed) (request pushed) i o ending
-  -- the source was asked for its end once
-  pub once : IsAskedOnce i
-  -- the line
-  pub line : List ℕ
-  -- it is that of the ending
-  pub is_line : IsEndLine line_formula ending line
-  -- and was said
-  pub said : IsSaid e.before e.after e.faults e.faults_after line
-  -- the status is that of the ending
-  pub is_status : status ≡ status_of ending
+-- a stored fault that its line tells is one for its formula
+fault_line : (q : Request) (f : Formula) (fault : TraceFault) (line : List ℕ) → IsStreamedFor q f → IsFaultLineOf q fault line
+    → (x : Fault) × IsFault f fault x × (line ≡ fault_text x)
+fault_line no_form f fault line of told = absurd of
+fault_line (refused l) f fault line of told = absurd of
+fault_line (whole c g) f fault line of told = absurd of
+fault_line (stream s g) f fault line of (x, is, e) = (x, subst (λ (k : Formula). IsFault k fault x) (sym of) is, e)
+fault_line (sessions g) f fault line of told = absurd told
+fault_line (generated number rows) f fault line of told = absurd of
 
-module _ {request : Formula → Request} {f : Formula} {Done : Formula → List ℕ → List ℕ → Type 0} {i : Drained} {o e : Filled}
-    {ending : Result Bool Stop} {status : ℕ} (x : HasStreamed request f Done i o e ending status) where
-  -- what was pushed is the request of f
-  pub streamed_end : IsStreamEnd (Done f) (request f) i o ending
-  streamed_end = subst (λ (k : Formula). IsStreamEnd (Done k) (request k) i o ending) x.pushed_is x.came
+module _ (q : Request) (f : Formula) (of : IsStreamedFor q f) where
+  -- the line that is said of an ending is the stream's
+  line_is : (ending : Result Bool Stop) (line said : List ℕ) → IsLineOf q ending line → IsEndLine f ending said → said ≡ line
+  line_is (Ok holds) line said a b = b ∙ sym a
+  line_is (Err (Faulty fault)) line said a b = let (x, is, e) = fault_line q f fault line of a in b x is ∙ sym e
+  line_is (Err (FaultyLine fault)) line said a b = b ∙ sym a
+  line_is (Err Unread) line said a b = b ∙ sym a
+  line_is (Err Unwritten) line said a b = b ∙ sym a
+  line_is (Err NoMemory) line said a b = b ∙ sym a
+  line_is (Err (Wide i den)) line said a b = b ∙ sym a
+  line_is (Err (TooMany count)) line said a b = b ∙ sym a
+
+  -- a fault that ends it is one
+  pub soundly : (ending : Result Bool Stop) (line : List ℕ) → IsLineOf q ending line → EndsSoundly f ending
+  soundly (Ok holds) line a = tt
+  soundly (Err (Faulty fault)) line a = let (x, is, e) = fault_line q f fault line of a in (x, is)
+  soundly (Err (FaultyLine fault)) line a = tt
+  soundly (Err Unread) line a = tt
+  soundly (Err Unwritten) line a = tt
+  soundly (Err NoMemory) line a = tt
+  soundly (Err (Wide i den)) line a = tt
+  soundly (Err (TooMany count)) line a = tt
 
   -- its end is that of the run, which leaves this
-  pub pushed_run : (words : List (List ℕ)) (old new : Kept) → Asks words (request f) → has_input (request f) ≡ true
-      → (IsEndLine f ending x.line → x.line ≡ streamed_end.line) → IsLeft words streamed_end.bytes (status_of ending) old new
-      → HasRun words i o e old new status
-  pushed_run words old new ask input line_is left =
-      let own : IsEndLine f ending x.line = subst (λ (k : Formula). IsEndLine k ending x.line) x.line_formula_is x.is_line in
-      subst (λ n. HasRun words i o e old new n) (sym x.is_status) (record {
+  pub streamed_run : {Done : List ℕ → List ℕ → Type 0} {i : Drained} {o e : Filled} {ending : Result Bool Stop} {status : ℕ} {old new : Kept}
+      (words : List (List ℕ)) → Asks words q → (x : IsStreamEnd Done q i o ending) → IsAskedOnce i
+      → (line : List ℕ) × IsEndLine f ending line × IsSaid e.before e.after e.faults e.faults_after line
+      → status ≡ status_of ending → IsLeft words x.bytes (status_of ending) old new → HasRun words i o e old new status
+  streamed_run {Done} {i} {o} {e} {ending} {status} {old} {new} words ask x once (line, is_line, said) is left =
+      subst (λ n. HasRun words i o e old new n) (sym is) (record {
         run = record {
-          bytes = streamed_end.bytes;
-          text = streamed_end.text;
-          line = streamed_end.line;
-          moved = streamed_end.moved;
-          grew = streamed_end.grew;
-          said = subst (λ l. IsSaid e.before e.after e.faults e.faults_after l) (line_is own) x.said;
-          ended = asked (request f) ask (λ k. absurd (false≢true (sym k ∙ input)))
-              (λ _ _. record { none_left = streamed_end.at_end; once = x.once }) (λ _. streamed_end.pace) streamed_end.is;
+          bytes = x.bytes;
+          text = x.text;
+          line = x.line;
+          moved = x.moved;
+          grew = x.grew;
+          said = subst (λ l. IsSaid e.before e.after e.faults e.faults_after l) (line_is ending x.line line x.is_line is_line) said;
+          ended = asked q ask (λ k. absurd (false≢true (sym k ∙ (streams q f of).0)))
+              (λ _ _. record { none_left = x.at_end; once = once }) (λ _. x.pace) x.is;
         };
         left = left;
       })
-
--- so of a stream
-pub streamed_run : {s : Stream} {f : Formula} {Done : Formula → List ℕ → List ℕ → Type 0} {i : Drained} {o e : Filled} {ending : Result Bool Stop}
-    {status : ℕ} (x : HasStreamed (stream s) f Done i o e ending status) (words : List (List ℕ)) (old new : Kept) → AreFor words (word_of_stream s) f
-    → IsLeft words (streamed_end x).bytes (status_of ending) old new → HasRun words i o e old new status
-streamed_run {s} {f} {ending = ending} x words old new ask left =
-    let y = streamed_end x in
-    pushed_run x words old new ask refl (λ own. line_is s f ending y.line x.line y.is_line own) left
-
--- a fault that ends it is one
-pub stream_soundly : {Done : List ℕ → List ℕ → Type 0} (s : Stream) (f : Formula) (i : Drained) (o : Filled)
-    (ending : Result Bool Stop) → IsStreamEnd Done (stream s f) i o ending → EndsSoundly f ending
-stream_soundly s f i o ending x = by_line ending x.is_line
-  where
-    by_line : (ending : Result Bool Stop) → IsLineOf (stream s f) ending x.line → EndsSoundly f ending
-    by_line (Ok holds) is_line = tt
-    by_line (Err (Faulty fault)) (y, is, e) = (y, is)
-    by_line (Err (FaultyLine fault)) is_line = tt
-    by_line (Err Unread) is_line = tt
-    by_line (Err Unwritten) is_line = tt
-    by_line (Err NoMemory) is_line = tt
-    by_line (Err (Wide i den)) is_line = tt
-    by_line (Err (TooMany count)) is_line = tt

@@ -1,25 +1,23 @@
 -- What a watch's calls come to.
 use Rattle.std.proofs.Common.{◌≡◌, ◌≢◌, inl, inr, ℕ, Bool, true, false, List, [], ◌++◌, refl, sym, ap, ◌∙◌, subst, append_assoc, Option, Result, Ok, Err}
-use Rattle.std.specs.Prelude.{MatchResult, MatchBool, OnOk}
+use Rattle.std.specs.Prelude.{MatchResult, MatchBool}
 use Rattle.std.specs.Io.KnownBytes.{Appends}
 use Rattle.stl_syntax.specs.Formula.{Formula, root}
 use Rattle.stl_syntax.specs.Trace.{Trace}
 use Rattle.stl_syntax.specs.Stream.{IsStreamText}
 use Rattle.stl_syntax.specs.declared.scale.UnitFault.TheVariants as unit_fault
 use Rattle.trace_reader.specs.declared.refusal.Limits.{Limits}
-use Rattle.io_edge.specs.Calls.{Drained, Filled}
 use Rattle.workbench.specs.Answers.{HoldsAtStart}
 use Rattle.workbench.specs.Ended.{TellsTruth}
 use Rattle.trace_stream.specs.Cases.{IsFault}
-use Rattle.workbench.specs.InputFaults.{Fault, of_trace, unknown, unit, stream_limits, IsInputFault}
-use Rattle.workbench.specs.Requests.{stream, verdicts}
+use Rattle.workbench.specs.InputFaults.{Fault, of_trace, unknown, unit, IsInputFault}
+use Rattle.workbench.specs.Keeping.{IsWatchOf}
+use Rattle.workbench.specs.Requests.{verdicts}
 use Rattle.workbench.specs.Wholes.{status_of_truth}
-use Rattle.workbench.specs.Pushing.{IsPushed, IsStreamEnd}
-use Rattle.trace_stream.specs.Following.{IsTextOf, IsLive, IsAtRest, IsOver, IsDone, IsLiveStop}
+use Rattle.trace_stream.specs.Following.{IsTextOf, IsLive, IsOver, IsDone, IsLiveStop}
 use Rattle.workbench.specs.MadeWritten.{IsMadeWritten, no_room, made_whole, made_in_part}
-use Rattle.workbench.specs.Watches.{Watched, Past, with_piece, with_text, IsText, WatchesRows, WatchesEnd, StandsFor}
-use Rattle.workbench.specs.Watches.{StandsForAll, HasPushed, HasFinished, HasFault, IsWatchFault, IsCall, IsFaultOf}
-use Rattle.workbench.specs.Watches.{phase_after}
+use Rattle.workbench.specs.Watches.{Past, with_piece, with_text, IsText, WatchesRows, WatchesEnd, StandsFor}
+use Rattle.workbench.specs.Watches.{HasPushed, HasFinished, HasFault, IsWatchFault, IsCall, IsFaultOf}
 use Rattle.trace_stream.specs.declared.fault.TraceFault.TheVariants.{Trace as InTrace, Unknown, Unit as InTicks}
 use Rattle.trace_stream.specs.declared.fault.StreamStop.{StreamStop}
 use Rattle.trace_stream.specs.declared.fault.StreamStop.TheVariants as stream_stop
@@ -33,7 +31,6 @@ use Rattle.workbench.specs.declared.watch.Phase.TheVariants.{Reading, Ended}
 use Rattle.workbench.specs.declared.watch.WatchFault.{WatchFault}
 use Rattle.workbench.specs.declared.watch.WatchFault.TheVariants as fault
 use Rattle.trace_stream.proofs.Told.{told_now, calm_now, live_after, told_over, over_after}
-use Rattle.workbench.proofs.AtRest.{at_rest}
 
 -- ---- faults
 
@@ -259,46 +256,7 @@ end_written held held_after old mid p phase s formula finished result written ov
 
 -- ---- a source
 
--- a watch without bytes may be drained
-pub fresh : (w : Watched) → StandsFor (record { formula = w.live.formula; limits = stream_limits; bytes = []; text = [] }) w
-    → IsPushed (IsAtRest WatchesRows verdicts w.live) (stream verdicts w.live.formula) [] []
-fresh w s = at_rest WatchesRows verdicts w.live [] [] (record { live_for = s.live; limits = s.limits; empty = s.empty })
-
-one_formula : (f g : Formula) → stream verdicts f ≡ stream verdicts g → f ≡ g
-one_formula f g e = cc
-
-all_done : (f : Formula) (live : Live Verdicts) (phase : Phase) (bytes text : List ℕ) → live.formula ≡ f → phase ≡ Ended
-    → IsDone WatchesEnd verdicts live bytes text
-    → (holds : Bool) × StandsForAll (record { formula = f; limits = stream_limits; bytes = bytes; text = text }) holds (record { live = live; phase = phase })
-all_done f live phase bytes text e over (holds, k) =
-    (holds, record { phase = over; formula = e; over = subst (λ (g : Formula). IsOver WatchesEnd verdicts stream_limits g live bytes text holds) e k })
-
--- after its end the watch stands for all bytes
-pub drained_all : (f : Formula) (live : Live Verdicts) (phase : Phase) (i : Drained) (o : Filled) (r : Result Bool Stop)
-    → live.formula ≡ f → phase ≡ phase_after r
-    → IsStreamEnd (IsDone WatchesEnd verdicts live) (stream verdicts f) i o r
-    → IsStreamEnd (λ bytes text. (holds : Bool) × StandsForAll (record { formula = f; limits = stream_limits; bytes = bytes; text = text })
-    holds (record { live = live; phase = phase })) (stream verdicts f) i o r
-drained_all f live phase i o r e over x = record {
-  bytes = x.bytes;
-  text = x.text;
-  line = x.line;
-  moved = x.moved;
-  grew = x.grew;
-  at_end = x.at_end;
-  pace = x.pace;
-  is = x.is;
-  is_line = x.is_line;
-  left = by_result r over x.left;
-}
-  where
-    by_result : (r : Result Bool Stop) → phase ≡ phase_after r → OnOk r (IsDone WatchesEnd verdicts live x.bytes x.text)
-        → OnOk r ((holds : Bool) × StandsForAll (record { formula = f; limits = stream_limits; bytes = x.bytes; text = x.text }) holds
-        (record { live = live; phase = phase }))
-    by_result (Ok holds) over k = all_done f live phase x.bytes x.text e over k
-    by_result (Err stop) over k = tt
-
--- and takes no more
-pub not_reading : (r : Result Bool Stop) → phase_after r ≢ Reading
-not_reading (Ok holds) e = let k = e in cc
-not_reading (Err stop) e = let k = e in cc
+-- a reader that has come to its end leaves a watch that stands for all bytes
+pub all_done : (live : Live Verdicts) (bytes text : List ℕ) → IsDone WatchesEnd verdicts live bytes text
+    → IsWatchOf live.formula bytes (record { live = live; phase = Ended })
+all_done live bytes text (holds, over) = (text, holds, record { phase = refl; formula = refl; over = over })

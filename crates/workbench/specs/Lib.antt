@@ -3,7 +3,6 @@ pub mod Generator
 pub mod Commands
 pub mod InputFaults
 pub mod Sessions
-pub mod Words
 pub mod Writing
 pub mod Answers
 pub mod FromSource
@@ -17,18 +16,11 @@ pub mod Running
 pub mod Keeping
 pub mod Wholes
 pub mod Pushing
-pub mod Promises
 pub mod Answering
-pub mod Measured
 pub mod Reasons
-pub mod Accounts
 pub mod Watches
-pub mod SureLines
-pub mod SureDecisions
-pub mod SureMargins
 pub mod Numerals
 pub mod Made
-pub mod Complete
 pub mod EarlyLines
 pub mod Deciding
 pub mod Many

@@ -2,7 +2,8 @@
 use Rattle.std.specs.Prelude.{◌≡◌, ◌≢◌, ◌⊎◌, ℕ, ◌<◌, Bool, true, false, List, [], ◌++◌, length, Option, Result, Ok, Err, OnOk}
 use Rattle.std.specs.Io.KnownBytes.{Appends, Consumes, IsAtEnd}
 use Rattle.io_edge.specs.Calls.{Drained, Filled}
-use Rattle.workbench.specs.Requests.{Request, stream, has_input}
+use Rattle.stl_syntax.specs.Formula.{Formula}
+use Rattle.workbench.specs.Requests.{Request, stream, sessions, has_input}
 use Rattle.workbench.specs.Owed.{Owes}
 use Rattle.workbench.specs.Ended.{HasFault, IsAnswered, IsWide}
 use Rattle.workbench.specs.Running.{IsBegun, KeepsPace, IsEnd}
@@ -23,6 +24,12 @@ pub record IsPushed (Stands : List ℕ → List ℕ → Type 0) (request : Reque
   pub owed : Owes request bytes false text
   pub sound : (line : List ℕ) → ¬ HasFault request bytes false line
   pub few : length bytes < 9223372036854775808
+
+-- the request is answered as its bytes come, by this formula
+abbrev pub IsStreamedFor : Request → Formula → Type 0
+IsStreamedFor (stream s f) g = g ≡ f
+IsStreamedFor (sessions f) g = g ≡ f
+IsStreamedFor request g = ⊥
 
 -- the stored fault of a trace for the request's formula is said by this line
 abbrev pub IsFaultLineOf : Request → TraceFault → List ℕ → Type 0

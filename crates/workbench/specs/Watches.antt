@@ -134,8 +134,3 @@ IsFaultOf stop.Unwritten x = x ≡ fault.Write
 IsFaultOf stop.NoMemory x = x ≡ fault.Memory
 IsFaultOf (stop.Wide i den) x = ⊥
 IsFaultOf (stop.TooMany count) x = ⊥
-
--- the phase after the end of a source
-abbrev pub phase_after : Result Bool Stop → Phase
-phase_after (Ok holds) = Ended
-phase_after (Err e) = Stopped

@@ -2,9 +2,7 @@
 #![tactic(auto)]
 
 mod answer;
-mod bench_laws;
 mod check;
-mod decided;
 mod early;
 mod entry;
 mod explain;
@@ -12,14 +10,11 @@ mod fault;
 mod from_source;
 mod json;
 mod kept;
-pub mod laws;
+mod leave;
 mod line;
-mod line_laws;
 mod live;
 mod many;
-mod margins;
 mod output;
-mod owing_laws;
 mod request;
 mod robust;
 mod signals;

@@ -6,9 +6,12 @@ ghost use Rattle.workbench.specs.Requests.{stream};
 ghost use Rattle.workbench.specs.MadeWritten.{IsMadeWritten};
 
 use crate::fault::{Stop, outcome_from};
+use crate::kept::Kept;
+use crate::leave::Leave;
 use crate::output::write_all;
 use crate::stream::Push;
 use io_edge::Sink;
+use stl_syntax::Formula;
 use trace_stream::{Follow, Live, StreamStop};
 
 /// Whether memory was wanting.
@@ -50,7 +53,7 @@ pub(crate) fn write_made<F: Follow, T: Copy, K: Sink>(
     }
 }
 
-impl<F: Follow> Push for Live<F> {
+impl<F: Leave> Push for Live<F> {
     ghost request = { λ s. stream F.kind s.formula };
 
     ghost stands = { λ s bytes text. IsAtRest F.stands F.kind s bytes text };
@@ -65,5 +68,13 @@ impl<F: Follow> Push for Live<F> {
     fn end<K: Sink>(&mut self, out: &mut K) -> Result<bool, Stop> {
         let finished = self.finish();
         write_made(self, finished, out)
+    }
+
+    fn formula(&self) -> &Formula {
+        Live::formula(self)
+    }
+
+    fn into_kept(self) -> Kept {
+        F::leave(self)
     }
 }

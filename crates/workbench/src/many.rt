@@ -6,11 +6,12 @@ ghost use Rattle.workbench.specs.Many.{outcome_of_input, IsInputWritten, IsManyA
 ghost use Rattle.workbench.specs.Requests.{sessions};
 
 use crate::fault::Stop;
+use crate::kept::Kept;
 use crate::output::write_all;
 use crate::stream::Push;
 use frac128::Memory;
 use io_edge::Sink;
-use session_mux::{Input, InputStop, Mux};
+use session_mux::{Input, InputStop};
 use std::alloc::Global;
 use stl_syntax::Formula;
 
@@ -37,24 +38,6 @@ impl Many {
             }),
             Err(_) => Err(Memory),
         }
-    }
-
-    /// The formula.
-    pub(crate) fn formula(&self) -> &Formula
-        ensures { result.now ≡ self.now.formula }
-    {
-        &self.formula
-    }
-
-    /// The sessions.
-    pub(crate) fn into_mux(self) -> Mux
-        ensures { result ≡ self.input.mux }
-    {
-        let Many {
-            formula: _formula,
-            input,
-        } = self;
-        input.into_mux()
     }
 }
 
@@ -125,5 +108,17 @@ impl Push for Many {
             Ok(()) => Ok(true),
             Err(stop) => Err(stop),
         }
+    }
+
+    fn formula(&self) -> &Formula {
+        &self.formula
+    }
+
+    fn into_kept(self) -> Kept {
+        let Many {
+            formula: _formula,
+            input,
+        } = self;
+        Kept::Mux(input.into_mux())
     }
 }

@@ -3,13 +3,16 @@ ghost use Rattle.std.specs.Prelude.{◌≡◌, ◌≢◌, ◌≤◌, ℕ, List, 
 ghost use Rattle.io_edge.specs.Causes.{Rose, after_end};
 ghost use Rattle.io_edge.specs.Calls.{drained, filled};
 ghost use Rattle.workbench.specs.Requests.{Request};
-ghost use Rattle.workbench.specs.Pushing.{IsPushed, IsPush, IsFinished, IsStreamEnd};
+ghost use Rattle.workbench.specs.Keeping.{Holds};
+ghost use Rattle.workbench.specs.Pushing.{IsPushed, IsPush, IsFinished, IsStreamEnd, IsStreamedFor};
 
 use crate::fault::Stop;
+use crate::kept::Kept;
 use io_edge::{Sink, Source};
+use stl_syntax::Formula;
 
-/// A command that answers row by row.
-pub(crate) trait Push {
+/// A command that answers its input as the bytes come.
+pub(crate) trait Push: Drop {
     /// What is asked for.
     ghost request: { Self → Request };
 
@@ -39,6 +42,15 @@ pub(crate) trait Push {
         ensures cause { result ≡ Err Stop.Unwritten → Rose (K.faults out.old) (K.faults out.new) }
         ensures still { result ≢ Err Stop.Unwritten → K.faults out.new ≡ K.faults out.old }
         ensures later { K.faults out.old ≤ K.faults out.new };
+
+    /// The formula by which it answers.
+    fn formula(&self) -> &Formula
+        ensures { IsStreamedFor (request self.now) result.now };
+
+    /// What it leaves to the caller of a run, after the end.
+    fn into_kept(self) -> Kept
+        requires { (bytes text : List ℕ) × done self bytes text }
+        ensures { (bytes text : List ℕ) → done self bytes text → Holds (request self) bytes result };
 }
 
 /// Reads the source to its end, and answers each piece, of at most 4,096 bytes, before the next is read.

@@ -1,5 +1,5 @@
 //! The one call: it does all that the program does.
-ghost use Rattle.std.specs.Prelude.{◌≡◌, ◌≢◌, ◌⊎◌, ◌≤◌, ℕ, List, map, string_bytes, MatchResult, length, ◌<◌, Err, IsErr};
+ghost use Rattle.std.specs.Prelude.{◌≡◌, ◌≢◌, ◌⊎◌, ◌≤◌, ℕ, List, [], map, string_bytes, MatchResult, length, ◌<◌, true, Err, IfOk, IsErr};
 ghost use Rattle.io_edge.specs.Causes.{Rose, after_end};
 ghost use Rattle.io_edge.specs.Calls.{drained, filled};
 ghost use Rattle.workbench.specs.Saying.{IsSaid};
@@ -7,17 +7,16 @@ ghost use Rattle.stl_grammar.specs.FormulaRefusals.{IsFormulaFault, IsFormulaOf}
 ghost use Rattle.trace_stream.specs.Cases.{IsCase};
 ghost use Rattle.report.specs.Lines.{line_text};
 ghost use Rattle.workbench.specs.Made.{IsMade};
-ghost use Rattle.trace_stream.specs.Streams.{HasStream, margins};
-ghost use Rattle.workbench.specs.Requests.{AreHeld, AreFor, AskToGenerate, IsAsked};
+ghost use Rattle.workbench.specs.Requests.{Request, AreHeld, AskToGenerate, Asks, IsAsked, is_streamed};
 ghost use Rattle.workbench.specs.Commands.{on_formula};
 ghost use Rattle.workbench.specs.Commands as word;
 ghost use Rattle.workbench.specs.Keeping.{HasRun};
+ghost use Rattle.workbench.specs.Pushing.{IsPushed};
 ghost use Rattle.workbench.specs.Wholes.{command_of, IsAnswerOf, IsUnanswered, IsWrittenWith, IsWholeEnd, IsBadEnd, IsEndLine};
 ghost use Rattle.workbench.specs.Wholes.{IsStopLine, HasFaultFor, EndsSoundly, status_of, status_of_stop, status_of_fault};
 
 use crate::answer::Answer;
 use crate::check::judge;
-use crate::decided::early_of;
 use crate::early::Deciding;
 use crate::explain::give_reasons;
 use crate::fault::Stop;
@@ -26,15 +25,14 @@ use crate::json::give_report;
 use crate::kept::Kept;
 use crate::line::write_line;
 use crate::many::Many;
-use crate::margins::net_of;
 use crate::output::write_all;
 use crate::request::{Command, Mode, Workload, asked, workload_of};
 use crate::robust::measure;
-use crate::stream::stream;
+use crate::stream::{Push, stream};
 use crate::summary::summary;
 use crate::table::tabulate;
 use crate::texts::{NO_MEMORY, formula_line, not_streamed_line, too_many_cells_line, wide_line};
-use crate::watch::Watch;
+use frac128::Memory;
 use io_edge::{Sink, Source};
 use margin_stream::Margins;
 use online_robust::first_unstreamed;
@@ -45,6 +43,7 @@ use stl_grammar::{FormulaFault, parse};
 use stl_syntax::Formula;
 use trace_reader::Limits;
 use trace_stream::{Case, Live, fault_line};
+use verdict_stream::Verdicts;
 
 /// The limits of a trace that is held whole.
 pub(crate) const LIMITS: Limits = Limits {
@@ -207,16 +206,17 @@ fn finish<E: Sink>(err: &mut E, formula: &Formula, ending: Result<bool, Stop>) -
     }
 }
 
-/// Answers row by row, and leaves the watch that did so.
-fn by_row<S: Source, K: Sink, E: Sink>(
-    alloc: Global,
-    formula: Formula,
+/// Reads a stream to its end, tells how that came, and leaves what answered it; or says that there was no room for it.
+fn streamed<P: Push, S: Source, K: Sink, E: Sink>(
+    begun: Result<P, Memory>,
     input: &mut S,
     out: &mut K,
     err: &mut E,
     kept: &mut Kept,
 ) -> u8
-    ensures ran { (words : List (List ℕ)) → AreFor words word.watch formula → HasRun words (drained S.left S.ended S.ends S.gave S.asked S.faults input.old input.new)
+    requires { IfOk begun (λ p. IsPushed (P.stands p) (P.request p) [] []) }
+    ensures ran { (words : List (List ℕ)) (request : Request) → Asks words request → is_streamed request ≡ true → IfOk begun (λ p. P.request p ≡ request)
+        → HasRun words (drained S.left S.ended S.ends S.gave S.asked S.faults input.old input.new)
         (filled K.written K.faults out.old out.new) (filled E.written E.faults err.old err.new) kept.old kept.new result }
     ensures known { ¬ ((result ≡ 2) ⊎ (result ≡ 3)) }
     ensures read_due { result ≢ 5 → S.faults input.new ≡ S.faults input.old }
@@ -227,19 +227,19 @@ fn by_row<S: Source, K: Sink, E: Sink>(
     ensures out_later { K.faults out.old ≤ K.faults out.new }
     ensures err_later { E.faults err.old ≤ E.faults err.new }
 {
-    let mut watch = match Watch::new(alloc, formula, STREAM_LIMITS) {
-        Ok(watch) => watch,
+    let mut pusher = match begun {
+        Ok(pusher) => pusher,
         Err(_) => {
             say(err, &Line::plain(NO_MEMORY));
             return 7;
         }
     };
-    let ending = watch.drain(input, out);
-    let status = finish(err, watch.formula(), ending);
+    let ending = stream(&mut pusher, input, out);
+    let status = finish(err, pusher.formula(), ending);
     if ending.is_err() {
         return status;
     }
-    *kept = Kept::Watch(watch);
+    *kept = pusher.into_kept();
     status
 }
 
@@ -266,115 +266,6 @@ fn generate<K: Sink, E: Sink>(alloc: Global, workload: Workload, out: &mut K, er
             6
         }
     }
-}
-
-/// Writes the verdict at the row that decides, reads on to the end, and leaves what decided.
-fn decide<S: Source, K: Sink, E: Sink>(
-    alloc: Global,
-    formula: Formula,
-    input: &mut S,
-    out: &mut K,
-    err: &mut E,
-    kept: &mut Kept,
-) -> u8
-    ensures ran { (words : List (List ℕ)) → AreFor words word.early formula → HasRun words (drained S.left S.ended S.ends S.gave S.asked S.faults input.old input.new)
-        (filled K.written K.faults out.old out.new) (filled E.written E.faults err.old err.new) kept.old kept.new result }
-    ensures known { ¬ ((result ≡ 2) ⊎ (result ≡ 3)) }
-    ensures read_due { result ≢ 5 → S.faults input.new ≡ S.faults input.old }
-    ensures write_due { result ≢ 6 → K.faults out.new ≡ K.faults out.old }
-    ensures quiet { result ≤ 1 → err.new ≡ err.old }
-    ensures unkept { 2 ≤ result → kept.new ≡ kept.old }
-    ensures input_later { S.faults input.old ≤ S.faults input.new }
-    ensures out_later { K.faults out.old ≤ K.faults out.new }
-    ensures err_later { E.faults err.old ≤ E.faults err.new }
-{
-    let mut live = match Live::new(alloc, formula, LIMITS) {
-        Ok(live) => live,
-        Err(_) => {
-            say(err, &Line::plain(NO_MEMORY));
-            return 7;
-        }
-    };
-    let ending = stream::<Live<Deciding>, S, K>(&mut live, input, out);
-    let status = finish(err, live.formula(), ending);
-    if ending.is_err() {
-        return status;
-    }
-    *kept = Kept::Early(early_of(live));
-    status
-}
-
-/// Answers the lines of several sessions, and leaves the sessions.
-fn by_line<S: Source, K: Sink, E: Sink>(
-    alloc: Global,
-    formula: Formula,
-    input: &mut S,
-    out: &mut K,
-    err: &mut E,
-    kept: &mut Kept,
-) -> u8
-    ensures ran { (words : List (List ℕ)) → AreFor words word.mux formula → HasRun words (drained S.left S.ended S.ends S.gave S.asked S.faults input.old input.new)
-        (filled K.written K.faults out.old out.new) (filled E.written E.faults err.old err.new) kept.old kept.new result }
-    ensures known { ¬ ((result ≡ 2) ⊎ (result ≡ 3)) }
-    ensures read_due { result ≢ 5 → S.faults input.new ≡ S.faults input.old }
-    ensures write_due { result ≢ 6 → K.faults out.new ≡ K.faults out.old }
-    ensures quiet { result ≤ 1 → err.new ≡ err.old }
-    ensures unkept { 2 ≤ result → kept.new ≡ kept.old }
-    ensures input_later { S.faults input.old ≤ S.faults input.new }
-    ensures out_later { K.faults out.old ≤ K.faults out.new }
-    ensures err_later { E.faults err.old ≤ E.faults err.new }
-{
-    let mut many = match Many::new(alloc, formula) {
-        Ok(many) => many,
-        Err(_) => {
-            say(err, &Line::plain(NO_MEMORY));
-            return 7;
-        }
-    };
-    let ending = stream(&mut many, input, out);
-    let status = finish(err, many.formula(), ending);
-    if ending.is_err() {
-        return status;
-    }
-    *kept = Kept::Mux(many.into_mux());
-    status
-}
-
-/// Writes the margins as the rows come, and leaves the network that did so.
-fn measure_by_row<S: Source, K: Sink, E: Sink>(
-    alloc: Global,
-    formula: Formula,
-    input: &mut S,
-    out: &mut K,
-    err: &mut E,
-    kept: &mut Kept,
-) -> u8
-    requires { HasStream margins formula }
-    ensures ran { (words : List (List ℕ)) → AreFor words word.rwatch formula → HasRun words (drained S.left S.ended S.ends S.gave S.asked S.faults input.old input.new)
-        (filled K.written K.faults out.old out.new) (filled E.written E.faults err.old err.new) kept.old kept.new result }
-    ensures known { ¬ ((result ≡ 2) ⊎ (result ≡ 3)) }
-    ensures read_due { result ≢ 5 → S.faults input.new ≡ S.faults input.old }
-    ensures write_due { result ≢ 6 → K.faults out.new ≡ K.faults out.old }
-    ensures quiet { result ≤ 1 → err.new ≡ err.old }
-    ensures unkept { 2 ≤ result → kept.new ≡ kept.old }
-    ensures input_later { S.faults input.old ≤ S.faults input.new }
-    ensures out_later { K.faults out.old ≤ K.faults out.new }
-    ensures err_later { E.faults err.old ≤ E.faults err.new }
-{
-    let mut live = match Live::new(alloc, formula, STREAM_LIMITS) {
-        Ok(live) => live,
-        Err(_) => {
-            say(err, &Line::plain(NO_MEMORY));
-            return 7;
-        }
-    };
-    let ending = stream::<Live<Margins>, S, K>(&mut live, input, out);
-    let status = finish(err, live.formula(), ending);
-    if ending.is_err() {
-        return status;
-    }
-    *kept = Kept::Margins(net_of(live));
-    status
 }
 
 /// Writes the margins as the rows come, where they are streamed.
@@ -404,7 +295,8 @@ fn margins_of_rows<S: Source, K: Sink, E: Sink>(
         say(err, &not_streamed_line(node));
         return 3;
     }
-    measure_by_row(alloc, formula, input, out, err, kept)
+    let live = Live::<Margins>::new(alloc, formula, STREAM_LIMITS);
+    streamed(live, input, out, err, kept)
 }
 
 /// Does all that the program does for its words, and answers the status with which it ends.
@@ -465,9 +357,15 @@ pub fn run<S: Source, K: Sink, E: Sink>(
                 let ending = whole(alloc, command, &formula, input, out);
                 finish(err, &formula, ending)
             }
-            Mode::Watch => by_row(alloc, formula, input, out, err, kept),
-            Mode::Early => decide(alloc, formula, input, out, err, kept),
-            Mode::Mux => by_line(alloc, formula, input, out, err, kept),
+            Mode::Watch => {
+                let live = Live::<Verdicts>::new(alloc, formula, STREAM_LIMITS);
+                streamed(live, input, out, err, kept)
+            }
+            Mode::Early => {
+                let live = Live::<Deciding>::new(alloc, formula, LIMITS);
+                streamed(live, input, out, err, kept)
+            }
+            Mode::Mux => streamed(Many::new(alloc, formula), input, out, err, kept),
             Mode::Margins => margins_of_rows(alloc, formula, input, out, err, kept),
         },
         Err(fault) => refuse(err, fault),

@@ -1,19 +1,14 @@
 //! Verdicts as the bytes of a trace come.
-ghost use Rattle.std.specs.Prelude.{◌≡◌, ◌≢◌, ◌≤◌, ◌^◌, ◌++◌, ℕ, List, [], Bool, true, false, Err, IfOk};
-ghost use Rattle.io_edge.specs.Causes.{Rose, after_end};
-ghost use Rattle.io_edge.specs.Calls.{drained, filled};
-ghost use Rattle.workbench.specs.InputFaults.{stream_limits};
-ghost use Rattle.workbench.specs.Requests.{stream as by_row, verdicts};
-ghost use Rattle.workbench.specs.Pushing.{IsStreamEnd};
-ghost use Rattle.workbench.specs.Watches.{Past, with_piece, StandsFor, StandsForAll, HasPushed, HasFinished};
-ghost use Rattle.workbench.specs.Watches.{IsCall, Moves, IsLate, IsOpen, IsFaultOf, phase_after};
+ghost use Rattle.std.specs.Prelude.{◌≡◌, ◌≢◌, ◌≤◌, ◌^◌, [], true, false, Err, IfOk};
+ghost use Rattle.io_edge.specs.Causes.{Rose};
+ghost use Rattle.workbench.specs.Watches.{Past, with_piece, StandsFor, HasPushed, HasFinished};
+ghost use Rattle.workbench.specs.Watches.{IsCall, Moves, IsLate, IsOpen, IsFaultOf};
 ghost use Rattle.workbench.specs.declared.watch.WatchFault.{WatchFault as Reason};
 
 use crate::fault::Stop;
 use crate::live::write_made;
-use crate::stream::stream;
 use frac128::Memory;
-use io_edge::{Sink, Source};
+use io_edge::Sink;
 use std::alloc::Global;
 use std::marker::Model;
 use stl_syntax::{Formula, UnitFault};
@@ -115,16 +110,6 @@ fn allow(phase: Phase) -> Result<(), WatchFault>
     }
 }
 
-/// The phase after the end of a source.
-fn phase_of(ending: Result<bool, Stop>) -> Phase
-    ensures { result ≡ phase_after ending }
-{
-    match ending {
-        Ok(_) => Phase::Ended,
-        Err(_) => Phase::Stopped,
-    }
-}
-
 impl Watch {
     /// A watch of a formula that took no bytes yet.
     ///
@@ -191,33 +176,13 @@ impl Watch {
         }
     }
 
-    /// The formula.
-    pub(crate) fn formula(&self) -> &Formula
-        ensures { result.now ≡ self.now.live.formula }
+    /// The watch that has taken the bytes of a reader, which has come to their end.
+    pub(crate) fn ended(live: Live<Verdicts>) -> Watch
+        ensures { result ≡ record { live = live; phase = Phase.Ended } }
     {
-        self.live.formula()
-    }
-
-    /// Pushes all that a source gives, and takes its end.
-    pub(crate) fn drain<S: Source, K: Sink>(
-        &mut self,
-        input: &mut S,
-        out: &mut K,
-    ) -> Result<bool, Stop>
-        requires { StandsFor (record { formula = self.old.live.formula; limits = stream_limits; bytes = []; text = [] }) self.old }
-        ensures ending { IsStreamEnd (λ bytes text.
-            (holds : Bool) × StandsForAll (record { formula = self.old.live.formula; limits = stream_limits; bytes = bytes; text = text }) holds self.new)
-            (by_row verdicts self.old.live.formula) (drained S.left S.ended S.ends S.gave S.asked S.faults input.old input.new)
-            (filled K.written K.faults out.old out.new) result }
-        ensures formula { self.new.live.formula ≡ self.old.live.formula }
-        ensures ends { S.ends input.new ≡ after_end (S.ended input.new) (S.ends input.old) }
-        ensures read_due { result ≢ Err Stop.Unread → S.faults input.new ≡ S.faults input.old }
-        ensures write_due { result ≢ Err Stop.Unwritten → K.faults out.new ≡ K.faults out.old }
-        ensures input_later { S.faults input.old ≤ S.faults input.new }
-        ensures out_later { K.faults out.old ≤ K.faults out.new }
-    {
-        let ending = stream(&mut self.live, input, out);
-        self.phase = phase_of(ending);
-        ending
+        Watch {
+            live,
+            phase: Phase::Ended,
+        }
     }
 }

@@ -1,11 +1,15 @@
-use Rattle.std.proofs.Common.{map, refl, sym, ◌∙◌, subst, inl, inr}
+use Rattle.std.proofs.Common.{false, map, refl, sym, ◌∙◌, subst, inl, inr}
 use Rattle.std.specs.Prelude.{string_bytes}
 use Rattle.report.specs.Lines.{line_text}
 use Rattle.workbench.specs.Commands.{on_formula}
-use Rattle.workbench.specs.Requests.{IsAsked}
+use Rattle.workbench.specs.Deciding.{IsDeciding}
+use Rattle.workbench.specs.Requests.{IsAsked, stream, sessions, verdicts, early}
+use Rattle.workbench.specs.Watches.{WatchesRows}
 use Rattle.workbench.specs.Wholes.{command_of, verb_of}
 use Rattle.workbench.specs.declared.request.Mode.{Mode}
 use Rattle.workbench.proofs.RunEnds.{none_of_both, none_run, made_run, refused_run, known_run, ends_soundly, serves, not_words}
+use Rattle.workbench.proofs.AtRest.{live_begun, live_asked}
+use Rattle.workbench.proofs.ManyLines.{many_begun, many_asked}
 use Rattle.workbench.proofs.Leaving.{none_left, made_left, refused_left, whole_left}
 use Rattle.workbench.proofs.top.run.Goals as goal
 
@@ -34,46 +38,68 @@ returns-in-Whole-clause-unread g c = λ h. elim h [
 
 pub returns-in-Watch-clause-unread : goal.returns-in-Watch-clause-unread
 returns-in-Watch-clause-unread g c = λ h. elim h [
-  | inl two ↦ absurd (c.by_row.ensures.known (inl two))
-  | inr (inl three) ↦ absurd (c.by_row.ensures.known (inr three))
+  | inl two ↦ absurd (c.streamed.ensures.known (inl two))
+  | inr (inl three) ↦ absurd (c.streamed.ensures.known (inr three))
   | inr (inr (number, rows, asked)) ↦ absurd (c.in_default.ensures number rows asked)
 ]
 
 pub returns-in-Early-clause-unread : goal.returns-in-Early-clause-unread
 returns-in-Early-clause-unread g c = λ h. elim h [
-  | inl two ↦ absurd (c.decide.ensures.known (inl two))
-  | inr (inl three) ↦ absurd (c.decide.ensures.known (inr three))
+  | inl two ↦ absurd (c.streamed-in-Early.ensures.known (inl two))
+  | inr (inl three) ↦ absurd (c.streamed-in-Early.ensures.known (inr three))
   | inr (inr (number, rows, asked)) ↦ absurd (c.in_default.ensures number rows asked)
 ]
+
+pub returns-in-Mux-clause-unread : goal.returns-in-Mux-clause-unread
+returns-in-Mux-clause-unread g c = λ h. elim h [
+  | inl two ↦ absurd (c.streamed-in-Mux.ensures.known (inl two))
+  | inr (inl three) ↦ absurd (c.streamed-in-Mux.ensures.known (inr three))
+  | inr (inr (number, rows, asked)) ↦ absurd (c.in_default.ensures number rows asked)
+]
+
+pub streamed-requires : goal.streamed-requires
+streamed-requires g c = live_begun WatchesRows verdicts c.new-live.result c.new-live.ensures.live c.new-live.ensures.limits c.new-live.ensures.empty
+
+pub streamed-requires-in-Early : goal.streamed-requires-in-Early
+streamed-requires-in-Early g c =
+    live_begun (λ s k made. IsDeciding false s k) early c.new-live-in-Early.result c.new-live-in-Early.ensures.live c.new-live-in-Early.ensures.limits
+    c.new-live-in-Early.ensures.empty
+
+pub streamed-requires-in-Mux : goal.streamed-requires-in-Mux
+streamed-requires-in-Mux g c = many_begun c.new.result c.new.ensures.rest
+
+pub returns-in-Watch-clause-ran : goal.returns-in-Watch-clause-ran
+returns-in-Watch-clause-ran g c =
+    let words = map string_bytes c.args.words.now in
+    let text = c.in-Some-asked.asked.text.now in
+    c.streamed.ensures.ran words (stream verdicts c.in-Ok.formula) (record {
+      text = text;
+      form = subst (λ (m : Mode). IsAsked words (on_formula (verb_of m) text)) c.in-Watch.is c.in-Some-asked.ensures;
+      is = c.in-Ok.ensures.ok;
+      served = λ i h. h;
+    }) refl (live_asked verdicts c.in-Ok.formula c.new-live.result c.new-live.ensures.formula)
 
 pub returns-in-Early-clause-ran : goal.returns-in-Early-clause-ran
 returns-in-Early-clause-ran g c =
     let words = map string_bytes c.args.words.now in
     let text = c.in-Some-asked.asked.text.now in
-    c.decide.ensures.ran words (record {
+    c.streamed-in-Early.ensures.ran words (stream early c.in-Ok.formula) (record {
       text = text;
       form = subst (λ (m : Mode). IsAsked words (on_formula (verb_of m) text)) c.in-Early.is c.in-Some-asked.ensures;
       is = c.in-Ok.ensures.ok;
       served = λ i h. h;
-    })
-
-pub returns-in-Mux-clause-unread : goal.returns-in-Mux-clause-unread
-returns-in-Mux-clause-unread g c = λ h. elim h [
-  | inl two ↦ absurd (c.by_line.ensures.known (inl two))
-  | inr (inl three) ↦ absurd (c.by_line.ensures.known (inr three))
-  | inr (inr (number, rows, asked)) ↦ absurd (c.in_default.ensures number rows asked)
-]
+    }) refl (live_asked early c.in-Ok.formula c.new-live-in-Early.result c.new-live-in-Early.ensures.formula)
 
 pub returns-in-Mux-clause-ran : goal.returns-in-Mux-clause-ran
 returns-in-Mux-clause-ran g c =
     let words = map string_bytes c.args.words.now in
     let text = c.in-Some-asked.asked.text.now in
-    c.by_line.ensures.ran words (record {
+    c.streamed-in-Mux.ensures.ran words (sessions c.in-Ok.formula) (record {
       text = text;
       form = subst (λ (m : Mode). IsAsked words (on_formula (verb_of m) text)) c.in-Mux.is c.in-Some-asked.ensures;
       is = c.in-Ok.ensures.ok;
       served = λ i h. h;
-    })
+    }) refl (many_asked c.in-Ok.formula c.new.result c.new.ensures.formula)
 
 pub returns-in-Margins-clause-unread : goal.returns-in-Margins-clause-unread
 returns-in-Margins-clause-unread g c = λ h. elim h [
@@ -102,17 +128,6 @@ returns-in-Whole-clause-ran g c =
     c.whole-ending.result c.finish.result reason.0 c.finish.ensures.status c.whole-ending.ensures.ending c.whole-ending.ensures.read
     c.whole-ending.ensures.write
     c.whole-ending.ensures.ends reason.1 reason.2)
-
-pub returns-in-Watch-clause-ran : goal.returns-in-Watch-clause-ran
-returns-in-Watch-clause-ran g c =
-    let words = map string_bytes c.args.words.now in
-    let text = c.in-Some-asked.asked.text.now in
-    c.by_row.ensures.ran words (record {
-      text = text;
-      form = subst (λ (m : Mode). IsAsked words (on_formula (verb_of m) text)) c.in-Watch.is c.in-Some-asked.ensures;
-      is = c.in-Ok.ensures.ok;
-      served = λ i h. h;
-    })
 
 pub returns-in-Err-clause-ran : goal.returns-in-Err-clause-ran
 returns-in-Err-clause-ran g c =

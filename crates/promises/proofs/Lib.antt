@@ -1,0 +1,16 @@
+pub mod OneRequest
+pub mod Completing
+pub mod Due
+pub mod NoForm
+pub mod CheckPromises
+pub mod MarginTruth
+mod ExplainTexts
+mod JsonTexts
+pub mod OwedLaws
+pub mod SureLines
+pub mod SureDecisions
+pub mod SureMargins
+pub mod EndsOnce
+pub mod BenchesHear
+mod KeepingPace
+mod AccountLaw

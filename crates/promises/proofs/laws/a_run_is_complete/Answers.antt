@@ -1,0 +1,5 @@
+use Rattle.promises.proofs.Completing.{completed}
+use Rattle.promises.proofs.laws.a_run_is_complete.Goals as goal
+
+pub returns : goal.returns
+returns c = completed

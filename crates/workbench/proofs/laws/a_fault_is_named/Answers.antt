@@ -1,5 +1,0 @@
-use Rattle.workbench.proofs.Due.{fault_due}
-use Rattle.workbench.proofs.laws.a_fault_is_named.Goals as goal
-
-pub returns : goal.returns
-returns c = fault_due

@@ -1,5 +1,0 @@
-use Rattle.workbench.proofs.MarginTruth.{measured_truth, tabulated_truth, reported_truth}
-use Rattle.workbench.proofs.laws.margins_tell_the_truth.Goals as goal
-
-pub returns : goal.returns
-returns c = record { lines = measured_truth; rows = tabulated_truth; report = reported_truth }

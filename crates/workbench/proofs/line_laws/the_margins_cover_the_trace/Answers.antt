@@ -1,5 +1,0 @@
-use Rattle.workbench.proofs.SureMargins.{margin_text}
-use Rattle.workbench.proofs.line_laws.the_margins_cover_the_trace.Goals as goal
-
-pub returns : goal.returns
-returns c = λ f bytes text status a. margin_text f bytes text status a

@@ -1,5 +1,0 @@
-use Rattle.workbench.proofs.OneRequest.{one_request}
-use Rattle.workbench.proofs.owing_laws.one_request_is_asked_for.Goals as goal
-
-pub returns : goal.returns
-returns c = one_request

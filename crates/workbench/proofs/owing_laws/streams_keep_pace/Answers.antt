@@ -1,5 +1,0 @@
-use Rattle.workbench.proofs.KeepingPace.{kept_pace}
-use Rattle.workbench.proofs.owing_laws.streams_keep_pace.Goals as goal
-
-pub returns : goal.returns
-returns c = λ words request i o e status ask streamed run some. kept_pace words request ask streamed i o some run.ended
