@@ -45,7 +45,8 @@ impl VerdictSets {
         requires { (c : Of) × CanTakeIn self.old false c }
         ensures { OnOk result ((c : Of) → CanTakeIn self.old false c → HasSets self.new c) }
     {
-        self.sets.grow(&self.case.formula, &self.case.bound, &self.case.trace)?;
+        self.sets
+            .grow(&self.case.formula, &self.case.bound, &self.case.trace)?;
         self.case.trace.keep_last();
         Ok(())
     }
@@ -72,7 +73,11 @@ impl VerdictSets {
         requires { (c : Of) × HasSets self c × IsTrace c.trace }
         ensures { IfOk result (λ a. (f : Parsed) (c : Of) → IsCase f c → HasSets self c → IsTrace c.trace → IsCheckAnswer f c.trace a.holds a.text) }
     {
-        let VerdictSets { alloc: _alloc, case, sets } = self;
+        let VerdictSets {
+            alloc: _alloc,
+            case,
+            sets,
+        } = self;
         let scale = case.formula.scale();
         let last = case.trace.time(case.trace.rows() - 1);
         let judged = sets.finish(alloc, &case.formula, last)?;
