@@ -36,8 +36,8 @@ pub record Progress {K : Type 0} (Stands : K → Case → Type 0) (limits : Limi
   -- each read gave a byte at least
   pub enough : reads ≤ length bytes
 
-module _ {K : Type 0} {Stands : K → Case → Type 0} {limits : Limits} {f : Formula} {before now : Option (List ℕ)} {reader : Reader} {kept : Option K} {reads : ℕ}
-    (p : Progress Stands limits f before now reader kept reads) where
+module _ {K : Type 0} {Stands : K → Case → Type 0} {limits : Limits} {f : Formula} {before now : Option (List ℕ)} {reader : Reader}
+    {kept : Option K} {reads : ℕ} (p : Progress Stands limits f before now reader kept reads) where
   -- lines are short and not many, so the reads are few
   pub few_reads : limits.lines ≤ 8589934592 → 18446744073709551615 ≤ reads → ⊥
   few_reads n r =
@@ -124,13 +124,13 @@ stop_from {bytes = bytes} before after ended known NoMemory s k r read prompt = 
 stop_from before after ended known (Wide i den) s k r read prompt = absurd r
 
 -- the end of the bytes, told to the reader, is the end of the reading
-pub end_from : {K : Type 0} {Stands : K → Case → Type 0} {l limits : Limits} {f : Formula} {bytes : List ℕ} (before after : Option (List ℕ)) (ended : Bool)
+pub end_from : {K : Type 0} (Stands : K → Case → Type 0) {l limits : Limits} {f : Formula} {bytes : List ℕ} (before after : Option (List ℕ)) (ended : Bool)
     (r : Result (Unit {0}) StreamStop) (kept : Option K)
     → l ≡ limits → ended ≡ true → IsRead before after ended bytes → IsReadPromptly limits f bytes ended
     → MatchResult r (λ _. MatchOption kept ⊥ (IsEndedAs Stands l f bytes)) (IsRefused l f true bytes)
     → MatchResult (outcome_of r) (λ _. MatchOption kept ⊥ (IsReadAs Stands limits f before after ended)) (IsStop limits f before after ended)
-end_from before after ended (Ok x) None s k read prompt m = absurd m
-end_from {f = f} {bytes = bytes} before after ended (Ok x) (Some y) s k read prompt m = record {
+end_from Stands before after ended (Ok x) None s k read prompt m = absurd m
+end_from Stands {f = f} {bytes = bytes} before after ended (Ok x) (Some y) s k read prompt m = record {
   case = m.case;
   for_case = m.for_case;
   read = record {
@@ -141,7 +141,7 @@ end_from {f = f} {bytes = bytes} before after ended (Ok x) (Some y) s k read pro
     case = m.ended.case;
   };
 }
-end_from before after ended (Err e) kept s k read prompt m = stop_from before after ended true e s k m read prompt
+end_from Stands before after ended (Err e) kept s k read prompt m = stop_from before after ended true e s k m read prompt
 
 -- a case that was kept whole was read whole
 pub read_itself : {limits : Limits} {f : Formula} {before after : Option (List ℕ)} {ended : Bool} (x : Case)

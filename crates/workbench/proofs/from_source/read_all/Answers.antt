@@ -52,7 +52,7 @@ returns-then-count-eq0-clause-read g c =
     (IsStop c.args.reading.now.rows.limits c.args.formula.now (g.S.Source.left c.args.input.now) (g.S.Source.left c.read.new.self)
     (g.S.Source.ended c.read.new.self)))
     (sym c.outcome_from.ensures)
-    (end_from (g.S.Source.left c.args.input.now) (g.S.Source.left c.read.new.self) (g.S.Source.ended c.read.new.self)
+    (end_from g.K.Keep.stands (g.S.Source.left c.args.input.now) (g.S.Source.left c.read.new.self) (g.S.Source.ended c.read.new.self)
     c.finish.result c.finish.new.self.kept p.same_limits ended
     (read_all p _ _ (take c.in-Ok.count c.read.new.buf) (none_taken c.in-Ok.count c.read.new.buf c.if-count-eq0.true) c.in-Ok.ensures.bytes.0
     (c.in-Ok.ensures.bytes.1 c.if-count-eq0.true size))
