@@ -1,16 +1,15 @@
 -- Rows that come straight into what is kept of a case, and what is kept for what the reader stands for.
-use Rattle.std.proofs.Common.{◌≡◌, ℕ, true, false, List, [], ◌∷◌, ◌++◌, refl, sym, ap, ◌∙◌, subst, Option, Some, None, Result, Ok, Err}
+use Rattle.std.proofs.Common.{◌≡◌, ℕ, true, false, List, [], ◌++◌, refl, sym, ap, ◌∙◌, subst, Option, Some, None, Result, Ok, Err}
 use Rattle.std.specs.Prelude.{option_map, MatchOption, MatchResult, OnOk, IfErr}
 use Rattle.std.proofs.lemmas.Option.{same_Some}
 use Rattle.stl_syntax.specs.Formula.{Formula}
-use Rattle.stl_syntax.specs.Trace.{Row, Trace}
+use Rattle.stl_syntax.specs.Trace.{Row}
 use Rattle.trace_reader.specs.TraceText.{Heading, TraceOf}
 use Rattle.trace_reader.specs.Feeds.{through_feed}
 use Rattle.trace_reader.specs.Reader.{Reader, StandsFor, HasRead, header_of}
 use Rattle.trace_reader.specs.Taken.{HasTraceSoFar}
 use Rattle.trace_reader.specs.declared.refusal.Limits.{Limits}
 use Rattle.trace_reader.specs.declared.refusal.TraceRefusal.{TraceRefusal}
-use Rattle.trace_stream.specs.Cases.{with_row}
 use Rattle.trace_stream.specs.CaseReader.{HasCase, IsKept, IsEnded, IsRefused, IsLastFault, of_header, own}
 use Rattle.trace_stream.specs.Kept.{with_rows, StandsForCase, IsEndedAs}
 use Rattle.trace_stream.specs.declared.case.Case.{Case}

@@ -1,5 +1,5 @@
 -- What is kept of a trace's rows as they come, and the case that it stands for.
-use Rattle.std.specs.Prelude.{◌≡◌, ℕ, List, ◌++◌, Option, Some, None}
+use Rattle.std.specs.Prelude.{ℕ, List, ◌++◌, Option, Some, None}
 use Rattle.stl_syntax.specs.Formula.{Formula}
 use Rattle.stl_syntax.specs.Trace.{Row}
 use Rattle.trace_reader.specs.Reader.{Reader, StandsFor}

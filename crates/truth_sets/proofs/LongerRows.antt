@@ -1,12 +1,12 @@
 -- Sets that stand for the rows so far, up to one of them, stand for them where more rows have come behind.
-use Rattle.std.proofs.Common.{◌≡◌, ℕ, ◌<◌, false, List, [], ◌∷◌, ◌++◌, length, refl, sym, ◌∙◌, subst, arith, append_assoc}
+use Rattle.std.proofs.Common.{◌≡◌, ℕ, ◌<◌, false, List, [], ◌∷◌, ◌++◌, length, refl, ◌∙◌, subst, arith, append_assoc}
 use Rattle.std.proofs.lemmas.Bool.{false≢true}
 use Rattle.stl_syntax.specs.Trace.{Header, Row, Trace, Continues, first_time}
 use Rattle.stl_syntax.specs.declared.node.Node.{Node}
 use Rattle.atom_lines.specs.Binding.{Binding}
 use Rattle.truth_sets.specs.Growing.{IsTidy, TellsUpto}
 use Rattle.truth_sets.specs.Rows.{HasGrown}
-use Rattle.truth_sets.specs.Standing.{HaveGrown, StandFor}
+use Rattle.truth_sets.specs.Standing.{StandFor}
 use Rattle.truth_sets.specs.declared.atom.NodeSet.{NodeSet}
 use Rattle.truth_sets.specs.declared.growing.TruthSets.{TruthSets}
 

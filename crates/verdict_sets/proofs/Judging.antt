@@ -1,9 +1,9 @@
 -- What the stretches of the root's set tell of the formula: their verdicts describe it, and their lines are the answer of `check`.
-use Rattle.std.proofs.Common.{◌≡◌, ◌≢◌, ◌⊎◌, inl, inr, ℕ, zero, suc, ◌+◌, ◌<◌, ◌≤◌, Bool, true, false, not, List, [], ◌∷◌, ◌++◌, length, Some}
+use Rattle.std.proofs.Common.{◌≡◌, ◌≢◌, inl, inr, ℕ, suc, ◌+◌, ◌<◌, ◌≤◌, Bool, true, false, not, List, [], ◌∷◌, ◌++◌, length, Some}
 use Rattle.std.proofs.Common.{refl, sym, ap, ◌∙◌, subst, arith}
 use Rattle.std.specs.Prelude.{◌↔◌, slice_get, MatchBool, IsTrue}
 use Rattle.std.proofs.lemmas.List.{get_or_past}
-use Rattle.rational.specs.Time.{Rational, ◌≤ʳ◌, ◌<ʳ◌, closed, Interval, IsIn, IsNotEmpty, BeginAlike, EndAlike, Touch}
+use Rattle.rational.specs.Time.{Rational, ◌≤ʳ◌, ◌<ʳ◌, closed, Interval, BeginAlike, EndAlike, Touch}
 use Rattle.rational.specs.Places.{Place, Same, Before, After, Upto, begins, ends}
 use Rattle.rational.proofs.Order.{same_sym, le_refl, le_of_lt, le_of_same}
 use Rattle.rational.proofs.PlaceLemmas.{after_same, upto_same, same_places, same_trans_places, same_before, before_same, between, after_later}

@@ -4,10 +4,9 @@ use Rattle.std.proofs.Common.{refl, sym, ap, ◌∙◌, subst, arith, append_ass
 use Rattle.std.specs.Prelude.{◌==◌, Some}
 use Rattle.stl_syntax.specs.Formula.{Formula}
 use Rattle.stl_syntax.specs.Trace.{Header, Row, Trace, IsTrace, AreRows, last_time}
-use Rattle.stl_syntax.specs.declared.node.Node.{Node}
 use Rattle.atom_lines.specs.Binding.{Binding, IsBound}
 use Rattle.atom_lines.specs.Rows.{row_of}
-use Rattle.trace_reader.specs.Reader.{Reader, StandsFor, header_read}
+use Rattle.trace_reader.specs.Reader.{Reader, StandsFor}
 use Rattle.trace_reader.specs.Taken.{HasTraceSoFar}
 use Rattle.trace_reader.proofs.TraceLemmas.{last_behind}
 use Rattle.truth_sets.specs.Growing.{IsTail}

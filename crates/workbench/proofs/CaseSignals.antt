@@ -1,12 +1,11 @@
 -- The answer of a case: the times of its trace, the signals of its atoms, and what the root's signal tells of the formula.
 use Rattle.std.proofs.Common.{◌≡◌, ℕ, pos, ◌-◌, ◌<◌, ap, Bool, true, false, List, [], ◌∷◌}
-use Rattle.std.proofs.Common.{◌++◌, length, Some, refl, sym, ◌∙◌, subst, arith, inl}
-use Rattle.std.specs.Prelude.{slice_get, MatchBool}
+use Rattle.std.proofs.Common.{length, Some, refl, sym, ◌∙◌, subst, arith, inl}
+use Rattle.std.specs.Prelude.{slice_get}
 use Rattle.std.proofs.lemmas.Option.{same_Some}
-use Rattle.rational.specs.Time.{Rational, closed, whole, ◌≈◌}
+use Rattle.rational.specs.Time.{Rational, whole, ◌≈◌}
 use Rattle.rational.specs.Extended.{value_at, ◌≈ᵉ◌}
 use Rattle.rational.specs.Affine.{level}
-use Rattle.rational.proofs.Order.{same_sym}
 use Rattle.rational.proofs.AffineLemmas.{same_symᵉ}
 use Rattle.rational.proofs.LevelLemmas.{level_is}
 use Rattle.value_laws.specs.Members.{ShapeOf}
@@ -17,12 +16,8 @@ use Rattle.pl_signal.specs.Moves.{Tells}
 use Rattle.value_laws.specs.declared.truth.Truth.{Truth}
 use Rattle.value_laws.specs.Values.{truth_value}
 use Rattle.stl_syntax.specs.Trace.{Row, Trace, IsTrace, first_time, last_time, start, stop}
-use Rattle.stl_syntax.specs.Formula.{Formula, atom, root, subformula}
-use Rattle.stl_syntax.specs.Truth.{Truth as Holds}
-use Rattle.stl_syntax.specs.SupInf.{Reading, SupInf, HasValues, HasInfs, one, minus_one, truth_setting}
-use Rattle.stl_syntax.specs.Texts.{start_line, AreVerdictLines, IsStartLine}
-use Rattle.stl_syntax.specs.Verdicts.{Describes}
-use Rattle.stl_syntax.specs.declared.items.Verdict.{Verdict}
+use Rattle.stl_syntax.specs.Formula.{atom, root, subformula}
+use Rattle.stl_syntax.specs.SupInf.{Reading, SupInf, HasValues, HasInfs, one, minus_one}
 use Rattle.stl_syntax.specs.declared.atom.Atom.{Atom}
 use Rattle.stl_syntax.specs.declared.node.Node.TheVariants.{Atom as Leaf}
 use Rattle.atom_lines.specs.Binding.{IsBound}
@@ -32,9 +27,7 @@ use Rattle.offline_eval.specs.Keeping.{IsStack}
 use Rattle.offline_eval.specs.Making.{TellsValue}
 use Rattle.offline_eval.specs.Evaluation.{TellNodes}
 use Rattle.report.specs.SignalVerdicts.{sign_of}
-use Rattle.report.proofs.SignalLaw.{truth_at, signal_describes}
 use Rattle.trace_stream.specs.declared.case.Case.{Case}
-use Rattle.trace_stream.specs.Cases.{IsCase}
 use Rattle.workbench.specs.Answering.{setting_of, IsRootOf}
 
 -- a row for places behind the last one

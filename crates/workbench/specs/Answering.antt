@@ -1,24 +1,19 @@
 -- What judging a trace makes on the way: the signals of a formula's nodes, and that of the formula.
-use Rattle.std.specs.Prelude.{◌≡◌, ℕ, Bool, List, ◌++◌}
-use Rattle.rational.specs.Time.{Rational, ◌≈◌}
+use Rattle.std.specs.Prelude.{ℕ, List}
 use Rattle.value_laws.specs.Members.{ShapeOf}
 use Rattle.pl_signal.specs.declared.knot.Knot.{Knot}
 use Rattle.pl_signal.specs.declared.faults.WidePair.{WidePair}
 use Rattle.pl_signal.specs.declared.faults.WidePair.TheVariants.{Cross, Value}
-use Rattle.pl_signal.specs.Knots.{start, IsWorth}
+use Rattle.pl_signal.specs.Knots.{start}
 use Rattle.pl_signal.specs.Moves.{Tells}
-use Rattle.value_laws.specs.declared.truth.Truth.{Truth}
 use Rattle.stl_syntax.specs.Trace as trace
 use Rattle.stl_syntax.specs.Trace.{Trace, first_time, last_time}
 use Rattle.stl_syntax.specs.Formula.{root}
 use Rattle.stl_syntax.specs.SupInf.{Reading, Setting, SupInf, HasValues, HasInfs}
-use Rattle.stl_syntax.specs.Texts.{start_line}
-use Rattle.stl_syntax.specs.declared.scale.Scale.{Scale}
 use Rattle.offline_eval.specs.Keeping.{IsStack, TellsStack}
 use Rattle.offline_eval.specs.Evaluation.{IsFault}
 use Rattle.offline_eval.specs.declared.faults.EvalFault.{EvalFault}
 use Rattle.offline_eval.specs.declared.faults.EvalFault.TheVariants as E
-use Rattle.report.specs.SignalVerdicts.{sign_of, AreSignalLines}
 use Rattle.trace_stream.specs.declared.case.Case.{Case}
 use Rattle.workbench.specs.declared.fault.Stop.{Stop}
 use Rattle.workbench.specs.declared.fault.Stop.TheVariants.{NoMemory, Wide}

@@ -12,7 +12,7 @@ use crate::top::{LIMITS, write_answer};
 use io_edge::{Sink, Source};
 use std::alloc::Global;
 use stl_syntax::Formula;
-use verdict_sets::{Told, VerdictSets};
+use verdict_sets::VerdictSets;
 
 /// Reads the whole trace, judges it by the formula, and writes the verdicts.
 pub(crate) fn judge<S: Source, K: Sink>(
@@ -37,7 +37,13 @@ pub(crate) fn judge<S: Source, K: Sink>(
         Err(stop) => return Err(stop),
     };
     match sets.finish(alloc) {
-        Ok(Told { holds, text }) => write_answer(out, &Answer { holds, text }),
+        Ok(told) => write_answer(
+            out,
+            &Answer {
+                holds: told.holds,
+                text: told.text,
+            },
+        ),
         Err(_) => Err(Stop::NoMemory),
     }
 }

@@ -1,7 +1,6 @@
 -- Rows more of what is kept.
-use Rattle.std.proofs.Common.{◌++◌, Some, take, sym, subst, append-nil}
-use Rattle.trace_stream.specs.CaseReader.{IsKept}
-use Rattle.trace_stream.specs.Kept.{StandsForCase, IsKeptAs, with_rows}
+use Rattle.std.proofs.Common.{Some, take, sym, subst, append-nil}
+use Rattle.trace_stream.specs.Kept.{IsKeptAs, with_rows}
 use Rattle.trace_stream.proofs.RowsKept.{so_far, kept_rows, case_of}
 use Rattle.trace_stream.proofs.case_reader.take_rows.Goals as goal
 

@@ -1,6 +1,6 @@
 -- A stretch has a time.
 use Rattle.std.proofs.Common.{sym}
-use Rattle.rational.specs.Places.{Place, Before}
+use Rattle.rational.specs.Places.{Place}
 use Rattle.rational.proofs.Order.{same_sym}
 use Rattle.rational.proofs.PlaceLemmas.{same_before, before_same, room_of_before}
 use Rattle.frac128.specs.Value.{value}

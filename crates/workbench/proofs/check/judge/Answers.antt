@@ -17,7 +17,7 @@ pub returns-in-Ok-finish-clause-ending : goal.returns-in-Ok-finish-clause-ending
 returns-in-Ok-finish-clause-ending g c =
     let r = c.in-Ok.ensures.read in
     let t = r.read.whole.trace in
-    let a = c.in-Ok-finish.answer in
+    let a = c.in-Ok-finish.told in
     answered r.case a.holds a.text r.read
     (check_answer c.args.formula.now r.case.trace a.holds a.text
     (c.in-Ok-finish.ensures c.args.formula.now r.case r.read.case r.for_case (record { rows = t.text.rising.rows })))
@@ -29,7 +29,7 @@ returns-in-Ok-finish-clause-read g c = λ e. absurd (not_unread c.write_answer.e
 pub returns-in-Ok-finish-clause-nothing : goal.returns-in-Ok-finish-clause-nothing
 returns-in-Ok-finish-clause-nothing g c = λ err other. absurd (only_unwritten c.write_answer.ensures.written err other)
 
-pub returns-clause-ending : goal.returns-clause-ending
-returns-clause-ending g c =
+pub returns-in-Err-finish-clause-ending : goal.returns-in-Err-finish-clause-ending
+returns-in-Err-finish-clause-ending g c =
     let r = c.in-Ok.ensures.read in
     unanswered r.case NoMemory r.read tt refl

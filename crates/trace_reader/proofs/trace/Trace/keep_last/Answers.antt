@@ -1,5 +1,5 @@
 -- The last row alone.
-use Rattle.std.proofs.Common.{◌≡◌, ℕ, ◌-◌, ◌*◌, length, drop, refl, sym, ap, ◌∙◌, subst, arith, nat_abs, ◌≤◌}
+use Rattle.std.proofs.Common.{◌≡◌, ◌-◌, ◌*◌, length, drop, refl, sym, ap, ◌∙◌, subst, arith, nat_abs, ◌≤◌}
 use Rattle.std.proofs.lemmas.List.Elements.{All-drop}
 use Rattle.stl_syntax.specs.Trace.{Trace}
 use Rattle.trace_reader.specs.Trace.{rows_of}

@@ -1,12 +1,11 @@
 -- The one row that is held is the last of the trace.
-use Rattle.std.proofs.Common.{◌≡◌, ◌-◌, [], ◌∷◌, length, sym, ap, ◌∙◌, subst, arith, get_or}
+use Rattle.std.proofs.Common.{◌≡◌, ◌-◌, length, sym, ap, ◌∙◌, subst, arith, get_or}
 use Rattle.std.proofs.lemmas.Result.{IfOk-weaker}
 use Rattle.stl_syntax.specs.Formula.{Formula}
-use Rattle.stl_syntax.specs.Trace.{Row, Trace, IsTrace, last_time}
+use Rattle.stl_syntax.specs.Trace.{IsTrace, last_time}
 use Rattle.stl_syntax.specs.declared.scale.Scale.{Scale}
-use Rattle.atom_lines.specs.Binding.{Binding, IsBound}
+use Rattle.atom_lines.specs.Binding.{IsBound}
 use Rattle.truth_sets.specs.Standing.{StandFor, TellsRoot}
-use Rattle.trace_stream.specs.Cases.{IsCase}
 use Rattle.trace_stream.specs.declared.case.Case.{Case}
 use Rattle.verdict_sets.specs.Keeping.{HasSets}
 use Rattle.verdict_sets.specs.Telling.{IsJudgedText}

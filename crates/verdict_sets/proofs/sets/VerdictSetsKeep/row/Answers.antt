@@ -1,4 +1,4 @@
-use Rattle.std.proofs.Common.{◌≡◌, [], ◌∷◌, ap, length, nat_eq}
+use Rattle.std.proofs.Common.{[], ◌∷◌, ap, nat_eq}
 use Rattle.std.proofs.lemmas.Result.{on_ok_weaker}
 use Rattle.trace_stream.specs.Cases.{with_row}
 use Rattle.verdict_sets.proofs.Taking.{can_take, fits_row}

@@ -1,5 +1,5 @@
 use Rattle.std.proofs.Common.{ap, nat_eq}
-use Rattle.trace_stream.specs.Kept.{with_rows, IsKeptOn}
+use Rattle.trace_stream.specs.Kept.{with_rows}
 use Rattle.verdict_sets.proofs.Taking.{can_take, held_so_far}
 use Rattle.verdict_sets.proofs.sets.VerdictSetsKeep.take_rows.Goals as goal
 
