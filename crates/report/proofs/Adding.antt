@@ -3,7 +3,7 @@ use Rattle.std.proofs.Common.{◌≡◌, ℕ, zero, suc, ◌+◌, ◌-◌, ◌�
 use Rattle.std.proofs.Common.{length-append, length-take-le, length-drop, refl, sym, ap, ◌∙◌, arith, subst}
 use Rattle.std.proofs.lemmas.List.{take-append-le}
 use Rattle.report.specs.Appended.{Grew, Then}
-use Rattle.report.specs.Before.{IsPut, Puts}
+use Rattle.report.specs.Before.{Puts}
 use Rattle.report.specs.After.{IsAdded, Adds}
 use Rattle.report.proofs.KeptTexts.{put_length, stands}
 

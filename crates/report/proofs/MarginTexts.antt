@@ -197,25 +197,12 @@ module _ {P : Type 0} (shape : ShapeOf P) (scale : Scale) where
       let (k, at, none) = last_of ks i last in
       subst (AreLaterLines shape scale ks) (append-nil text) (before k [] [] (drop_on ks i k at ∙ ap (λ xs. k ∷ xs) none) refl)
 
-  -- where the lines up to a knot were written, and a part of the next, the rest of them all is there to be written
-  pub lines_part : (ks : List (Knot P)) (i : ℕ) (k n : Knot P) (old mid new : List ℕ) → slice_get ks i ≡ Some k → slice_get ks (suc i) ≡ Some n
-      → Grew (AreLinesTo ks i) old mid → GrewInPart (AreNextLines shape scale k n) mid new → GrewInPart (AreLaterLines shape scale ks) old new
-  lines_part ks i k n old mid new at at_next (text, before, e) (a, b, next, f) =
-      let more = piece_lines_exist scale (plain_knot shape n) (pieces_of shape n (drop (suc (suc i)) ks)) in
-      let all = lines_more ks i k n text (a ++ b) at at_next before next n (drop (suc (suc i)) ks) more.0 (drop_on ks (suc i) n at_next) more.1 in
-      (text ++ a, b ++ more.0, subst (AreLaterLines shape scale ks) (simp append_assoc) all, f ∙ ap (λ w. w ++ a) e ∙ append_assoc old text a)
-
   -- the first knot's line and the later ones make the lines of margins
   pub margin_lines : (ks : List (Knot P)) (k : Knot P) → slice_get ks 0 ≡ Some k → (text : List ℕ)
       → Then (IsKnotLine scale (plain_knot shape k)) (AreLaterLines shape scale ks) text → AreMarginLines scale (knots_of shape ks) text
   margin_lines [] k at text h = absurd (let e = at in cc)
   margin_lines (x ∷ ks) k at text (first, later, is_first, is_later, e) =
       (first, later, subst (λ l. IsKnotLine scale (plain_knot shape l) first) (sym (same_Some _ _ at)) is_first, is_later, e)
-
-  -- the later lines exist
-  pub later_exist : (ks : List (Knot P)) (k : Knot P) → slice_get ks 0 ≡ Some k → growth.Some (AreLaterLines shape scale ks)
-  later_exist [] k at = absurd (let e = at in cc)
-  later_exist (x ∷ ks) k at = piece_lines_exist scale (plain_knot shape x) (pieces_of shape x ks)
 
 -- a knot's time is within what the ends are
 pub knot_within : {P : Type 0} (shape : ShapeOf P) (n : ℕ) (ks : List (Knot P)) (i : ℕ) (k : Knot P) → IsSignal shape ks → slice_get ks i ≡ Some k

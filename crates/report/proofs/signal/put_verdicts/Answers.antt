@@ -1,4 +1,4 @@
-use Rattle.std.proofs.Common.{◌≡◌, ℕ, ap, suc, true, false, ◌+◌, ◌-◌, Some, List, [], ◌∷◌, ◌++◌, length, append-nil, append_assoc, refl, sym, subst, arith, ◌≤◌, ◌∙◌}
+use Rattle.std.proofs.Common.{◌≡◌, ℕ, ap, suc, true, false, ◌+◌, ◌-◌, Some, List, [], ◌∷◌, ◌++◌, length, append-nil, append_assoc, refl, sym, subst, arith}
 use Rattle.std.specs.Prelude.{slice_get}
 use Rattle.std.proofs.lemmas.Result.{on_ok_weaker, on_err_weaker}
 use Rattle.rational.specs.Time.{closed}
@@ -14,7 +14,7 @@ use Rattle.stl_syntax.specs.declared.scale.Scale.{Scale}
 use Rattle.report.specs.declared.spelling.OpenSpan.{OpenSpan}
 use Rattle.pl_signal.specs.declared.knot.Knot.{Knot}
 use Rattle.value_laws.specs.declared.truth.Truth.{Truth}
-use Rattle.report.specs.Appended.{Grew, GrewInPart, AreEach}
+use Rattle.report.specs.Appended.{Grew, GrewInPart}
 use Rattle.report.specs.SignalVerdicts.{AreSignalLines}
 use Rattle.report.specs.VerdictForms.{AreEntries}
 use Rattle.report.proofs.Growths.{grew_as, part_as, part_none, part_shorter, front_then}

@@ -1,4 +1,4 @@
-use Rattle.std.proofs.Common.{◌++◌, codes, ap, sym, arith, ◌∙◌, refl}
+use Rattle.std.proofs.Common.{◌++◌, codes, ap, sym}
 use Rattle.stl_syntax.specs.Texts.{bool_text, newline}
 use Rattle.report.proofs.Adding.{add_as}
 use Rattle.report.proofs.verdict_lines.add_open.Goals as goal

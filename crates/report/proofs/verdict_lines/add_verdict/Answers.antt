@@ -1,6 +1,6 @@
 use Rattle.std.proofs.Common.{Bool, true, false, if◌then◌else◌, ◌≤◌, ◌++◌, codes, length, arith}
 use Rattle.stl_syntax.specs.Texts.{bool_text, newline}
-use Rattle.report.specs.VerdictForms.{line_begin, line_end}
+use Rattle.report.specs.VerdictForms.{line_begin}
 use Rattle.report.proofs.Adding.{add_then, add_as}
 use Rattle.report.proofs.Spans.{line_is}
 use Rattle.report.proofs.verdict_lines.add_verdict.Goals as goal
