@@ -1,5 +1,7 @@
 -- Bytes that grow by one text after another, or by a first part of the last.
-use Rattle.std.proofs.Common.{◌≡◌, ℕ, List, [], ◌++◌, append-nil, append_assoc, refl, sym, ap, ◌∙◌}
+use Rattle.std.proofs.Common.{◌≡◌, ℕ, List, [], ◌++◌, append-nil, append_assoc, refl, sym, ap, ◌∙◌, subst}
+use Rattle.std.specs.Prelude.{Result, Ok, Err, OnOk}
+use Rattle.std.proofs.lemmas.List.{append_cancel_left}
 use Rattle.report.specs.Appended.{Grew, GrewInPart, Then, Is}
 
 -- some text of a kind
@@ -38,3 +40,26 @@ part_as P Q old new h (a, rest, p, e) = (a, rest, h (a ++ rest) p, e)
 -- where both have a text, both together have one
 pub some_then : (P Q : List ℕ → Type 0) → Some P → Some Q → Some (Then P Q)
 some_then P Q (a, p) (b, q) = (a ++ b, (a, b, p, q, refl))
+
+-- what was appended of a cut, from the same place on, is a cut
+pub part_shorter : (P : List ℕ → Type 0) (old new more front : List ℕ) → GrewInPart P old (new ++ more) → new ≡ old ++ front → GrewInPart P old new
+part_shorter P old new more front (a, rest, p, e) f =
+    let same : a ≡ front ++ more = append_cancel_left old a (front ++ more) (sym e ∙ (ap (λ w. w ++ more) f ∙ append_assoc old front more)) in
+    (front, more ++ rest, subst P (ap (λ w. w ++ rest) same ∙ append_assoc front more rest) p, f)
+
+-- two growths, one after the other
+pub front_then : (old mid new a b : List ℕ) → mid ≡ old ++ a → new ≡ mid ++ b → new ≡ old ++ (a ++ b)
+front_then old mid new a b e f = f ∙ (ap (λ w. w ++ b) e ∙ append_assoc old a b)
+
+-- both parts stayed as they were
+pub joined_same : (t u l m : List ℕ) → u ≡ t → m ≡ l → u ++ m ≡ (t ++ l) ++ []
+joined_same t u l m e f = ap (λ w. w ++ m) e ∙ (ap (λ w. t ++ w) f ∙ sym (append-nil (t ++ l)))
+
+-- two facts of an Ok make a third
+pub on_ok_both : {T E A B C : Type 0} (r : Result T E) → (A → B → C) → OnOk r A → OnOk r B → OnOk r C
+on_ok_both (Ok x) f a b = f a b
+on_ok_both (Err e) f a b = tt
+
+-- what was handed over and what is left are what there was
+pub joined_none : (t u l m : List ℕ) → u ≡ t ++ l → m ≡ [] → u ++ m ≡ t ++ l
+joined_none t u l m e f = ap (λ w. u ++ w) f ∙ (append-nil u ∙ e)

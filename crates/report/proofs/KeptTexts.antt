@@ -1,10 +1,9 @@
 -- The text of a time that is kept from one line to the next.
 use Rattle.std.proofs.Common.{◌≡◌, ℕ, ℤ, pos, negsuc, ◌+◌, ◌-◌, ◌*◌, ◌*ℤ◌, ◌<◌, ◌≤◌, decimal, true, false, List, []}
-use Rattle.std.proofs.Common.{◌∷◌, ◌++◌, length, take, drop, length-append, length-drop, refl, sym, ap, ◌∙◌, arith}
+use Rattle.std.proofs.Common.{◌∷◌, length, take, drop, length-append, length-drop, refl, sym, ap, ◌∙◌, arith}
 use Rattle.std.specs.declared.cmp.Ordering.{Ordering}
 use Rattle.std.specs.declared.cmp.Ordering.TheVariants.{Less, Equal, Greater}
 use Rattle.std.specs.Ordering.{is_eq}
-use Rattle.std.proofs.lemmas.List.{drop-drop, drop-take, drop-append-le}
 use Rattle.std.proofs.Math.Seq.{take-append_seam}
 use Rattle.std.proofs.lemmas.Fmt.{decimal_digit}
 use Rattle.std.proofs.lemmas.Int.{ints}
@@ -28,46 +27,11 @@ pub put_length : {w : List ℕ} {k : ℕ} {old new : List ℕ} {end at : ℕ} �
 put_length {w} {k} {old} {new} {end} {at} p h =
     omega (arith, ap length p.put, length-drop at new, length-drop end old, length-append w (drop end old), p.same, p.inside)
 
--- what stands behind it is as it was
-pub behind : {w : List ℕ} {k : ℕ} {old new : List ℕ} {end at : ℕ} → IsPut w k old end new at → end ≤ length old → (j : ℕ) → end ≤ j
-    → drop j new ≡ drop j old
-behind {w} {k} {old} {new} {end} {at} p h j l =
-    let n = put_length p h in
-    let whole : drop end new ≡ drop end old =
-    ap (λ i. drop i new) (sym n ∙ (let e : length w + at ≡ at + length w = omega arith in e))
-    ∙ sym (drop-drop (length w) at new) ∙ ap (drop (length w)) p.put ∙ over w (drop end old) in
-    let back : end + (j - end) ≡ j = omega (arith, l) in
-    ap (λ i. drop i new) (sym back) ∙ sym (drop-drop (j - end) end new) ∙ ap (drop (j - end)) whole ∙ drop-drop (j - end) end old ∙ ap (λ i. drop i old) back
-  where
-    over : (xs ys : List ℕ) → drop (length xs) (xs ++ ys) ≡ ys
-    over [] ys = refl
-    over (x ∷ xs) ys = over xs ys
-
 -- the word is what stands there
 pub stands : {w : List ℕ} {k : ℕ} {old new : List ℕ} {end at : ℕ} → IsPut w k old end new at → end ≤ length old → take (end - at) (drop at new) ≡ w
 stands {w} {k} {old} {new} {end} {at} p h =
     let n : end - at ≡ length w = omega (arith, put_length p h) in
     ap (λ i. take i (drop at new)) n ∙ ap (take (length w)) p.put ∙ take-append_seam w (drop end old)
-
--- a part of a word, from a place in it on
-pub put_part : {w : List ℕ} {k : ℕ} {old new : List ℕ} {end at : ℕ} (j m : ℕ) → IsPut w k old end new at → end ≤ length old → j ≤ length w
-    → length w ≤ m → IsPut (drop j w) m old end new (at + j)
-put_part {w} {k} {old} {new} {end} {at} j m p h l few = record {
-  put = sym (drop-drop j at new) ∙ ap (drop j) p.put ∙ drop-append-le j w (drop end old) l;
-  few = omega (arith, put_length p h, few);
-  inside = omega (arith, put_length p h, l);
-  same = p.same;
-}
-
--- the last bytes of a piece that is kept
-pub kept_part : (buf : List ℕ) (from to : ℕ) → 32 ≤ to → from ≤ to → to - from ≤ 32
-    → drop (32 - (to - from)) (take 32 (drop (to - 32) buf)) ≡ take (to - from) (drop from buf)
-kept_part buf from to room order few =
-    let n = to - from in
-    let all : (32 - n) + n ≡ 32 = omega (arith, few) in
-    let place : (to - 32) + (32 - n) ≡ from = omega (arith, few, order, room) in
-    ap (λ m. drop (32 - n) (take m (drop (to - 32) buf))) (sym all) ∙ drop-take (32 - n) n (drop (to - 32) buf)
-    ∙ ap (take n) (drop-drop (32 - n) (to - 32) buf ∙ ap (λ i. drop i buf) place)
 
 -- two numbers that compare as equal are the same
 pub same_of_cmp : (a b : Rational) → is_eq (rational_cmp a b) ≡ true → a ≈ b

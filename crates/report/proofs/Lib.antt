@@ -2,6 +2,7 @@ pub mod FurtherExamples
 pub mod ReportExamples
 pub mod Parts
 pub mod Putting
+pub mod Adding
 pub mod Spans
 pub mod Tops
 pub mod Fractions

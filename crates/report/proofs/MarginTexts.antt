@@ -197,14 +197,6 @@ module _ {P : Type 0} (shape : ShapeOf P) (scale : Scale) where
       let (k, at, none) = last_of ks i last in
       subst (AreLaterLines shape scale ks) (append-nil text) (before k [] [] (drop_on ks i k at ∙ ap (λ xs. k ∷ xs) none) refl)
 
-  -- where the lines up to a knot were written, and a part of the next, the rest of them all is there to be written
-  pub lines_part : (ks : List (Knot P)) (i : ℕ) (k n : Knot P) (old mid new : List ℕ) → slice_get ks i ≡ Some k → slice_get ks (suc i) ≡ Some n
-      → Grew (AreLinesTo ks i) old mid → GrewInPart (AreNextLines shape scale k n) mid new → GrewInPart (AreLaterLines shape scale ks) old new
-  lines_part ks i k n old mid new at at_next (text, before, e) (a, b, next, f) =
-      let more = piece_lines_exist scale (plain_knot shape n) (pieces_of shape n (drop (suc (suc i)) ks)) in
-      let all = lines_more ks i k n text (a ++ b) at at_next before next n (drop (suc (suc i)) ks) more.0 (drop_on ks (suc i) n at_next) more.1 in
-      (text ++ a, b ++ more.0, subst (AreLaterLines shape scale ks) (simp append_assoc) all, f ∙ ap (λ w. w ++ a) e ∙ append_assoc old text a)
-
   -- the first knot's line and the later ones make the lines of margins
   pub margin_lines : (ks : List (Knot P)) (k : Knot P) → slice_get ks 0 ≡ Some k → (text : List ℕ)
       → Then (IsKnotLine scale (plain_knot shape k)) (AreLaterLines shape scale ks) text → AreMarginLines scale (knots_of shape ks) text
@@ -212,14 +204,62 @@ module _ {P : Type 0} (shape : ShapeOf P) (scale : Scale) where
   margin_lines (x ∷ ks) k at text (first, later, is_first, is_later, e) =
       (first, later, subst (λ l. IsKnotLine scale (plain_knot shape l) first) (sym (same_Some _ _ at)) is_first, is_later, e)
 
-  -- the later lines exist
-  pub later_exist : (ks : List (Knot P)) (k : Knot P) → slice_get ks 0 ≡ Some k → growth.Some (AreLaterLines shape scale ks)
-  later_exist [] k at = absurd (let e = at in cc)
-  later_exist (x ∷ ks) k at = piece_lines_exist scale (plain_knot shape x) (pieces_of shape x ks)
-
 -- a knot's time is within what the ends are
 pub knot_within : {P : Type 0} (shape : ShapeOf P) (n : ℕ) (ks : List (Knot P)) (i : ℕ) (k : Knot P) → IsSignal shape ks → slice_get ks i ≡ Some k
     → IsWithin n (start ks) → IsWithin n (stop ks) → IsWithin n (time k)
 knot_within shape n ks i k s at from to =
     let w = worth_within shape ks (time k) (value_at (shape.function k.point) (time k)) s (worth_at shape ks i k (time k) at (same_refl (time k))) in
     (le_trans from.0 w.above, le_trans w.below to.1)
+
+module _ {P : Type 0} (shape : ShapeOf P) (scale : Scale) (ks : List (Knot P)) where
+  -- the line of the first knot
+  abbrev pub IsFirstLine : List ℕ → Type 0
+  IsFirstLine text = (k : Knot P) → slice_get ks 0 ≡ Some k → IsKnotLine scale (plain_knot shape k) text
+
+  -- the lines up to the knot at place n
+  abbrev pub AreMarginsTo : ℕ → List ℕ → Type 0
+  AreMarginsTo n = Then IsFirstLine (AreLinesTo shape scale ks n)
+
+  -- those of the first knot alone
+  pub margins_begin : (k : Knot P) (text : List ℕ) → slice_get ks 0 ≡ Some k → IsKnotLine scale (plain_knot shape k) text → AreMarginsTo 0 text
+  margins_begin k text at line = (
+    text,
+    [],
+    (λ m there. subst (λ x. IsKnotLine scale (plain_knot shape x) text) (same_Some _ _ (sym at ∙ there)) line),
+    lines_begin shape scale ks,
+    sym (append-nil text),
+  )
+
+  -- a piece and its knot more are two lines more
+  pub margins_more : (i : ℕ) (k n : Knot P) (old mid new : List ℕ) → slice_get ks i ≡ Some k → slice_get ks (suc i) ≡ Some n
+      → Grew (AreMarginsTo i) old mid → Grew (AreNextLines shape scale k n) mid new → Grew (AreMarginsTo (suc i)) old new
+  margins_more i k n old mid new at at_next (text, (first, later, is_first, is_later, e), f) (next, is_next, g) = (
+    text ++ next,
+    (
+      first,
+      later ++ next,
+      is_first,
+      lines_more shape scale ks i k n later next at at_next is_later is_next,
+      ap (λ w. w ++ next) e ∙ append_assoc first later next,
+    ),
+    g ∙ (ap (λ w. w ++ next) f ∙ append_assoc old text next),
+  )
+
+  -- up to the last knot they are all lines
+  pub margins_all : (k : Knot P) (i : ℕ) (text : List ℕ) → slice_get ks 0 ≡ Some k → suc i ≡ length ks → AreMarginsTo i text
+      → AreMarginLines scale (knots_of shape ks) text
+  margins_all k i text at last (first, later, is_first, is_later, e) =
+      margin_lines shape scale ks k at text (first, later, is_first k at, lines_end shape scale ks i later last is_later, e)
+
+  -- up to any knot they are a first part of all lines
+  pub margins_part : (k : Knot P) (i : ℕ) (n : Knot P) (old new : List ℕ) → slice_get ks 0 ≡ Some k → slice_get ks i ≡ Some n
+      → Grew (AreMarginsTo i) old new → GrewInPart (AreMarginLines scale (knots_of shape ks)) old new
+  margins_part k i n old new at here (text, (first, later, is_first, is_later, e), f) =
+      let more = piece_lines_exist scale (plain_knot shape n) (pieces_of shape n (drop (suc i) ks)) in
+      let all = is_later n (drop (suc i) ks) more.0 (drop_on ks i n here) more.1 in (
+        text,
+        more.0,
+        margin_lines shape scale ks k at (text ++ more.0)
+            (first, later ++ more.0, is_first k at, all, ap (λ w. w ++ more.0) e ∙ append_assoc first later more.0),
+        f,
+      )

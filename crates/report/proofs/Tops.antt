@@ -8,7 +8,7 @@ use Rattle.std.proofs.lemmas.Nat.Gcd.{dvd_trans}
 use Rattle.std.proofs.Math.Nat.{dvd-mul_right_of_dvd, div-mul_cancel, mul-pos, one-le-pow, eq-zero_of_zero-dvd}
 use Prim.Native.Nat.{◌∣◌}
 use lib.IntN.{neg_ℤ}
-use Rattle.rational.specs.Rational.{Rational, ◌≈◌, mixed, ratio, fraction}
+use Rattle.rational.specs.Rational.{Rational, ◌≈◌, mixed, ratio, fraction, whole}
 use Rattle.rational.specs.Time.{IsLowest, Divides}
 use Rattle.rational.proofs.Order.{same_sym, same_trans}
 use Rattle.rational.proofs.Mixed.{neg_parts, mul_parts}
@@ -155,3 +155,8 @@ fraction_is num den negative size (suc k) p e f = subst (λ z. fraction num z �
 pub units_same : (digits : ℕ) (v w : Rational) (negative : Bool) (size den : ℕ) → v ≈ w → IsInUnits digits v negative size den
     → IsInUnits digits w negative size den
 units_same digits v w negative size den e u = record { lowest = u.lowest; same = same_trans (same_sym e) u.same; unsigned_zero = u.unsigned_zero }
+
+-- a quotient that goes up is a whole number
+pub whole_is : (negative : Bool) (size d n : ℕ) (p : 0 < d) → size ≡ n * d → ratio (signed negative size) d p ≈ whole (signed negative n)
+whole_is false size d n p e = record { same = omega (arith, e) }
+whole_is true size d n p e = record { same = omega (arith, e, neg_parts size, neg_parts n, ap (λ x. x * d) (neg_parts n)) }

@@ -18,3 +18,5 @@ pub mod Lines
 pub mod FaultTexts
 pub mod PartLines
 pub mod EarlyLines
+pub mod After
+pub mod Shown

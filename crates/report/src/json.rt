@@ -21,7 +21,6 @@ ghost use Rattle.report.specs.SignalVerdicts.{sign_of};
 ghost use Rattle.report.specs.Steps.{steps_of, step};
 
 use crate::entry::{put_item_entry, put_knot_entry, put_piece_entry, string_value};
-use crate::following::Style;
 use crate::items::line_from;
 use crate::signal::put_spans;
 use frac128::Memory;
@@ -241,12 +240,7 @@ fn put_tail(
     put_opened(alloc, text, b",", &margins_object(alloc)?)?;
     put_margin_entries(alloc, text, room, margins, scale)?;
     put_opened(alloc, text, b",", &start_object(alloc, holds)?)?;
-    let style = Style {
-        json: true,
-        scale,
-        alloc,
-    };
-    put_spans(text, truth, style)?;
+    put_spans(text, truth, scale)?;
     text.push(b"}\n")
 }
 

@@ -1,26 +1,30 @@
 //! The texts of verdicts, margins, explanations and faults.
 #![tactic(auto)]
 
+mod after;
 mod before;
 mod early;
 mod entry;
 mod fault;
-mod following;
 mod items;
 mod json;
 mod last;
 mod last_part;
-mod last_value;
 pub mod laws;
 mod line;
 mod listing;
 mod margin;
+mod margin_lines;
 mod number;
 mod part;
 mod signal;
 mod spelling;
 mod table;
+mod time_text;
+mod value_text;
 mod verdict;
+mod verdict_lines;
+mod waiting;
 
 pub use early::put_decided;
 pub use fault::{
@@ -37,3 +41,4 @@ pub use part::{MarginPart, put_margin_line, put_margin_line_after};
 pub use signal::put_verdicts;
 pub use table::put_table;
 pub use verdict::{put_start, put_verdict, put_verdict_after};
+pub use verdict_lines::VerdictLines;

@@ -93,7 +93,7 @@ pub(crate) fn in_units(t: &Frac, digits: u8) -> Lowest
 }
 
 /// A number by its sign and its size.
-fn sized(n: i128) -> (bool, u128)
+pub(crate) fn sized(n: i128) -> (bool, u128)
     ensures is { n ≡ signed result.0 result.1 }
     ensures negative { result.0 ≡ true → 0 < result.1 }
 {

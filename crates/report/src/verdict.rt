@@ -3,7 +3,6 @@ ghost use Rattle.std.specs.Prelude.{◌≡◌, ◌≤◌, ◌++◌, if◌then◌
 ghost use Rattle.stl_syntax.specs.Texts.{IsSpanText, IsVerdictLine, start_line};
 ghost use Rattle.report.specs.Appended.{Grew, GrewInPart};
 
-use crate::following::put_next_line;
 use crate::last::LastTime;
 use crate::number::{in_units, put_fraction};
 use frac128::{Memory, Span};
@@ -66,8 +65,7 @@ pub fn put_verdict_after(
     ensures ok { OnOk result (Grew (IsVerdictLine scale v.now) text.old text.new) }
     ensures err { OnErr result (GrewInPart (IsVerdictLine scale v.now) text.old text.new) }
 {
-    let mut buf = [0u8; 256];
-    put_next_line(text, &mut buf, last, v, scale)
+    last.put_line(text, v, scale)
 }
 
 /// Appends the line of the truth at the start.

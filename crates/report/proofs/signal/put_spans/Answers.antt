@@ -1,6 +1,5 @@
-use Rattle.std.proofs.Common.{◌≡◌, ℕ, suc, false, ◌+◌, ◌-◌, Some, List, [], ◌∷◌, ◌++◌, length, append-nil, append_assoc, refl, sym, subst, arith, ◌≤◌, ◌∙◌}
+use Rattle.std.proofs.Common.{◌≡◌, ℕ, suc, true, false, ◌+◌, ◌-◌, Some, List, [], ◌∷◌, ◌++◌, length, append-nil, append_assoc, refl, sym, subst, arith, ◌≤◌, ◌∙◌}
 use Rattle.std.specs.Prelude.{slice_get}
-use Rattle.std.proofs.lemmas.List.{length-replicate}
 use Rattle.std.proofs.lemmas.Result.{on_ok_weaker, on_err_weaker}
 use Rattle.rational.specs.Time.{closed}
 use Rattle.rational.proofs.Lists.{on_err_anyway}
@@ -11,7 +10,7 @@ use Rattle.stl_syntax.specs.declared.items.Verdict.{Verdict}
 use Rattle.report.specs.SignalVerdicts.{DescribesFunction}
 use Rattle.report.specs.Spelling.{Past, listed}
 use Rattle.report.specs.VerdictForms.{IsEntry, WrittenPast, CutPast}
-use Rattle.report.specs.declared.following.Style.{Style}
+use Rattle.stl_syntax.specs.declared.scale.Scale.{Scale}
 use Rattle.report.specs.declared.spelling.OpenSpan.{OpenSpan}
 use Rattle.pl_signal.specs.declared.knot.Knot.{Knot}
 use Rattle.value_laws.specs.declared.truth.Truth.{Truth}
@@ -27,7 +26,6 @@ loop-i-init c = (
   spelled_start c.args.s.now c.knot_in_place.result.now c.start-span.result c.knot_in_place.ensures c.start-span.ensures.from c.start-span.ensures.from_in
       c.start-span.ensures.holds,
   ([], refl, sym (append-nil c.args.text.now)),
-  omega (arith, length-replicate {A = ℕ} 256 0),
   refl,
 )
 
@@ -44,14 +42,14 @@ put_past-requires-clause-rising c =
     (subst (λ n. slice_get c.args.s.now n ≡ Some c.knot_in_place-in-loop-i-2.result.now) next c.knot_in_place-in-loop-i-2.ensures)
 
 pub put_past-requires-clause-digits : goal.put_past-requires-clause-digits
-put_past-requires-clause-digits c = subst (λ (y : Style). y.scale.time ≤ 6) (sym c.loop-i.invariant.4) c.requires
+put_past-requires-clause-digits c = subst (λ (y : Scale). y.time ≤ 6) (sym c.loop-i.invariant.3) c.requires
 
 module _ (c : After-put_past) where
   abbrev vs : List Verdict
   vs = c.loop-i.invariant.0
 
   abbrev E : Verdict → List ℕ → Type 0
-  E = IsEntry c.args.style.json false c.args.style.scale
+  E = IsEntry true false c.args.scale
 
   abbrev k : Knot Truth
   k = c.knot_in_place-in-loop-i.result.now
@@ -79,14 +77,14 @@ module _ (c : After-put_past) where
 pub returns-in_err-put_past-clause-err : goal.returns-in_err-put_past-clause-err
 returns-in_err-put_past-clause-err c =
     let f = (goal.at.returns-in_err-put_past-clause-err c).After-put_past in
-    let cut : CutPast c.args.style.json c.args.style.scale c.loop-i.span (k f) (n f) c.loop-i.text c.put_past.new.text =
-    subst (λ (y : Style). CutPast y.json y.scale c.loop-i.span (k f) (n f) c.loop-i.text c.put_past.new.text) c.loop-i.invariant.4
+    let cut : CutPast true c.args.scale c.loop-i.span (k f) (n f) c.loop-i.text c.put_past.new.text =
+    subst (λ (y : Scale). CutPast true y c.loop-i.span (k f) (n f) c.loop-i.text c.put_past.new.text) c.loop-i.invariant.3
     c.in_err-put_past.ensures.err in
     let p = cut.past in
     let ws = listed p.by_gap ++ listed p.by_point in
     let end = to_end f p in
     on_err_anyway _
-    (entries_part truth_shape c.args.style.json c.args.style.scale c.args.s.now (vs f) ws end.0 end.1 c.args.text.now c.loop-i.text c.put_past.new.text
+    (entries_part truth_shape true c.args.scale c.args.s.now (vs f) ws end.0 end.1 c.args.text.now c.loop-i.text c.put_past.new.text
     (subst (λ xs. DescribesFunction (IsWorth truth_shape c.args.s.now) xs (closed (start c.args.s.now) (stop c.args.s.now)))
     (append_assoc (vs f) ws (end.0 ++ end.1 ∷ [])) end.2) c.loop-i.invariant.2 cut.part)
 
@@ -94,8 +92,8 @@ pub loop-i-preserved : goal.loop-i-preserved
 loop-i-preserved c =
     let f = (goal.at.loop-i-preserved c).After-put_past in
     let there : (c.loop-i.i - 1) + 1 ≡ c.loop-i.i + 1 - 1 = omega arith in
-    let w : WrittenPast c.args.style.json c.args.style.scale c.loop-i.span (k f) (n f) c.put_past.new.span c.loop-i.text c.put_past.new.text =
-    subst (λ (y : Style). WrittenPast y.json y.scale c.loop-i.span (k f) (n f) c.put_past.new.span c.loop-i.text c.put_past.new.text) c.loop-i.invariant.4
+    let w : WrittenPast true c.args.scale c.loop-i.span (k f) (n f) c.put_past.new.span c.loop-i.text c.put_past.new.text =
+    subst (λ (y : Scale). WrittenPast true y c.loop-i.span (k f) (n f) c.put_past.new.span c.loop-i.text c.put_past.new.text) c.loop-i.invariant.3
     c.in_ok-put_past.ensures.ok in
     let p = w.past in
     let ws = listed p.by_gap ++ listed p.by_point in (
@@ -103,8 +101,7 @@ loop-i-preserved c =
       subst (λ (o : OpenSpan). IsSpelledTo c.args.s.now (c.loop-i.i + 1 - 1) (vs f ++ ws) o) w.is
           (subst (λ i. IsSpelledTo c.args.s.now i (vs f ++ ws) p.new) there (advanced f p)),
       each_grow (E f) (vs f) ws c.args.text.now c.loop-i.text c.put_past.new.text c.loop-i.invariant.2 w.grew,
-      omega (arith, c.put_past.ensures.room, c.loop-i.invariant.3),
-      c.put_past.ensures.style ∙ c.loop-i.invariant.4,
+      c.put_past.ensures.scale ∙ c.loop-i.invariant.3,
     )
 
 pub close-end-requires : goal.close-end-requires
@@ -121,15 +118,15 @@ whole c =
 pub returns-clause-ok : goal.returns-clause-ok
 returns-clause-ok c =
     let all = whole (goal.at.returns-clause-ok c).After-close-end in
-    on_ok_weaker c.put_next.result
-    (λ grew. entries_all truth_shape c.args.style.json c.args.style.scale c.args.s.now c.loop-i.invariant.0 c.close-end.result c.args.text.now c.loop-i.text
-    c.put_next.new.text all
-    c.loop-i.invariant.2 grew) c.put_next.ensures.ok
+    on_ok_weaker c.put_verdict_entry.result
+    (λ grew. entries_all truth_shape true c.args.scale c.args.s.now c.loop-i.invariant.0 c.close-end.result c.args.text.now c.loop-i.text
+    c.put_verdict_entry.new.text all
+    c.loop-i.invariant.2 grew) c.put_verdict_entry.ensures.ok
 
 pub returns-clause-err : goal.returns-clause-err
 returns-clause-err c =
     let all = whole (goal.at.returns-clause-err c).After-close-end in
-    on_err_weaker c.put_next.result
-    (λ grew. entries_part_last truth_shape c.args.style.json c.args.style.scale c.args.s.now c.loop-i.invariant.0 c.close-end.result c.args.text.now
-    c.loop-i.text c.put_next.new.text all
-    c.loop-i.invariant.2 grew) c.put_next.ensures.err
+    on_err_weaker c.put_verdict_entry.result
+    (λ grew. entries_part_last truth_shape true c.args.scale c.args.s.now c.loop-i.invariant.0 c.close-end.result c.args.text.now
+    c.loop-i.text c.put_verdict_entry.new.text all
+    c.loop-i.invariant.2 grew) c.put_verdict_entry.ensures.err

@@ -1,4 +1,4 @@
-use Rattle.std.proofs.Common.{◌≡◌, ◌-◌, ◌≤◌, false, List, length}
+use Rattle.std.proofs.Common.{◌≡◌, ◌-◌, true, false, List}
 use Rattle.stl_syntax.specs.declared.items.Verdict.{Verdict}
 use Rattle.report.specs.Appended.{Grew, AreEach}
 use Rattle.report.specs.VerdictForms.{IsEntry}
@@ -8,5 +8,5 @@ use Rattle.report.proofs.signal.put_spans.Given as goal
 abbrev pub invariant-loop-i : goal.invariant-loop-i
 invariant-loop-i l =
     (verdicts : List Verdict) × IsSpelledTo l.s (l.i - 1) verdicts l.span × Grew
-    (AreEach (IsEntry l.style.json false l.style.scale) verdicts) l.initial.text l.text
-    × (256 ≤ length l.buf) × (l.pen.style ≡ l.style)
+    (AreEach (IsEntry true false l.scale) verdicts) l.initial.text l.text
+    × (l.pen.scale ≡ l.scale)

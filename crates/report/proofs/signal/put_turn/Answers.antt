@@ -1,4 +1,4 @@
-use Rattle.std.proofs.Common.{false, ◌++◌, [], Some, None, append-nil, refl, sym, ◌∙◌}
+use Rattle.std.proofs.Common.{true, false, ◌++◌, [], Some, None, append-nil, refl, sym, ◌∙◌}
 use Rattle.std.proofs.lemmas.Result.{on_ok_weaker, on_err_weaker}
 use Rattle.rational.proofs.Tests.{same_of_beq}
 use Rattle.report.specs.VerdictForms.{IsEntry}
@@ -14,18 +14,18 @@ returns-then-holds-truth-clause-ok c = record {
 
 pub returns-clause-ok : goal.returns-clause-ok
 returns-clause-ok c =
-    let E = IsEntry c.args.pen.now.style.json false c.args.pen.now.style.scale in
-    on_ok_weaker c.put_next.result
+    let E = IsEntry true false c.args.pen.now.scale in
+    on_ok_weaker c.put_verdict_entry.result
     (λ g. record { ended = Some c.turn-ended.result; goes = c.turn-ended.ensures; grew = (g.0, each_one E c.turn-ended.result g.0 g.1, g.2) })
-    c.put_next.ensures.ok
+    c.put_verdict_entry.ensures.ok
 
 pub returns-clause-err : goal.returns-clause-err
 returns-clause-err c =
-    let E = IsEntry c.args.pen.now.style.json false c.args.pen.now.style.scale in
-    on_err_weaker c.put_next.result
+    let E = IsEntry true false c.args.pen.now.scale in
+    on_err_weaker c.put_verdict_entry.result
     (λ g. record {
       ended = Some c.turn-ended.result;
       new = c.turn-ended.new.self;
       goes = c.turn-ended.ensures;
       part = (g.0, g.1, each_one E c.turn-ended.result (g.0 ++ g.1) g.2, g.3);
-    }) c.put_next.ensures.err
+    }) c.put_verdict_entry.ensures.err

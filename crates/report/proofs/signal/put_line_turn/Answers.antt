@@ -1,0 +1,37 @@
+use Rattle.std.proofs.Common.{false, ◌++◌, [], Some, None, append-nil, refl, sym, ◌∙◌}
+use Rattle.std.proofs.lemmas.Result.{on_ok_weaker, on_err_weaker}
+use Rattle.rational.proofs.Tests.{same_of_beq}
+use Rattle.report.specs.VerdictForms.{IsEntry}
+use Rattle.report.proofs.Growths.{joined_same}
+use Rattle.report.proofs.Lines.{line_exists}
+use Rattle.report.proofs.Sequences.{each_one}
+use Rattle.report.proofs.signal.put_line_turn.Goals as goal
+
+pub returns-then-holds-truth-clause-ok : goal.returns-then-holds-truth-clause-ok
+returns-then-holds-truth-clause-ok c = record {
+  ended = None;
+  goes = (sym c.holds.ensures ∙ same_of_beq c.holds.result c.args.truth c.if-holds-truth.true, refl);
+  grew = ([], refl, sym (append-nil (c.args.text.now ++ c.args.lines.now)));
+}
+
+pub returns-then-holds-truth-clause-begins : goal.returns-then-holds-truth-clause-begins
+returns-then-holds-truth-clause-begins c = ([], sym (append-nil c.args.text.now))
+
+pub returns-clause-ok : goal.returns-clause-ok
+returns-clause-ok c =
+    let E = IsEntry false false c.args.scale in
+    on_ok_weaker c.put.result
+    (λ g. record { ended = Some c.turn-ended.result; goes = c.turn-ended.ensures; grew = (g.0, each_one E c.turn-ended.result g.0 g.1, g.2) })
+    c.put.ensures.ok
+
+pub returns-clause-err : goal.returns-clause-err
+returns-clause-err c =
+    let E = IsEntry false false c.args.scale in
+    let line = line_exists c.args.scale c.turn-ended.result in
+    on_err_weaker c.put.result
+    (λ e. record {
+      ended = Some c.turn-ended.result;
+      new = c.turn-ended.new.self;
+      goes = c.turn-ended.ensures;
+      part = ([], line.0, each_one E c.turn-ended.result line.0 line.1, joined_same c.args.text.now c.put.new.text c.args.lines.now c.put.new.self e.0 e.1);
+    }) c.put.ensures.err

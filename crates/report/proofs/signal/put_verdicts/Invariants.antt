@@ -1,0 +1,12 @@
+use Rattle.std.proofs.Common.{◌≡◌, ◌-◌, ◌++◌, ℕ, false, List}
+use Rattle.stl_syntax.specs.declared.items.Verdict.{Verdict}
+use Rattle.report.specs.Appended.{Grew, AreEach}
+use Rattle.report.specs.VerdictForms.{IsEntry}
+use Rattle.report.proofs.Advances.{IsSpelledTo}
+use Rattle.report.proofs.signal.put_verdicts.Given as goal
+
+abbrev pub invariant-loop-i : goal.invariant-loop-i
+invariant-loop-i l =
+    (verdicts : List Verdict) × IsSpelledTo l.s (l.i - 1) verdicts l.span
+    × Grew (AreEach (IsEntry false false l.scale) verdicts) l.initial.text (l.text ++ l.lines)
+    × ((front : List ℕ) × (l.text ≡ l.initial.text ++ front))
