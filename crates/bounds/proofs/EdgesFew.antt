@@ -2,9 +2,9 @@
 use Rattle.std.proofs.Common.{◌≡◌, ℕ, suc, ◌+◌, ◌*◌, ◌≤◌, Bool, true, false, not, cond, List, [], ◌∷◌, ◌++◌, length, refl, sym, ap, ◌∙◌, subst}
 use Rattle.std.proofs.Common.{arith, inl, inr, ℤ, Some, None}
 use Rattle.std.specs.Prelude.{◌≢◌, MatchBool}
-use Rattle.rational.specs.Time.{Rational, ◌≈◌, whole, Interval}
+use Rattle.rational.specs.Time.{Rational, whole, Interval}
 use Rattle.rational.specs.Places.{Place, ends}
-use Rattle.rational.proofs.Order.{same_refl, same_sym, same_trans}
+use Rattle.rational.proofs.Order.{same_refl, same_sym}
 use Rattle.frac128.specs.Value.{value}
 use Rattle.frac128.specs.Spans.{interval}
 use Rattle.stl_syntax.specs.Trace.{Header, Trace, first_time}
@@ -23,6 +23,7 @@ use Rattle.online_nodes.proofs.EmittedLaw.{emitted_tiles}
 use Rattle.online_nodes.proofs.RowsLaw.{rows_of, trace_so_far, goes_on_itself}
 use Rattle.bounds.specs.Turns.{turns_for_a_row, rows_about}
 use Rattle.bounds.specs.Held.{with_front, fronts_from, times_within, so_far, EdgesAreBounded}
+use Rattle.bounds.proofs.FewTimes.{among_same}
 use Rattle.bounds.proofs.HeldFew.{Parts, Joins, few_meet}
 
 -- how each verdict meets the next
@@ -34,11 +35,6 @@ AllPart fronts v (w ∷ ws) = Parts fronts v w × AllPart fronts w ws
 abbrev pub Part : List Rational → List Verdict → Type 0
 Part fronts [] = Unit {0}
 Part fronts (v ∷ vs) = AllPart fronts v vs
-
-among_same : (times : List Rational) (t u : Rational) → t ≈ u → IsAmong times u → IsAmong times t
-among_same [] t u e h = absurd h
-among_same (x ∷ times) t u e (inl f) = inl (same_trans e f)
-among_same (x ∷ times) t u e (inr m) = inr (among_same times t u e m)
 
 -- more fronts
 all_part_more : (x : Rational) (fronts : List Rational) (v : Verdict) (vs : List Verdict) → AllPart fronts v vs → AllPart (x ∷ fronts) v vs

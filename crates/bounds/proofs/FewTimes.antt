@@ -51,6 +51,12 @@ among_or_not (u ∷ times) t = elim (lt_or_same_or_gt t u) [
   ]
 ]
 
+-- a time that is one of a list, or equal to one
+pub among_same : (times : List Rational) (t u : Rational) → t ≈ u → IsAmong times u → IsAmong times t
+among_same [] t u e h = absurd h
+among_same (x ∷ times) t u e (inl f) = inl (same_trans e f)
+among_same (x ∷ times) t u e (inr m) = inr (among_same times t u e m)
+
 -- in two lists
 pub among_left : (times others : List Rational) (t : Rational) → IsAmong times t → IsAmong (times ++ others) t
 among_left [] others t h = absurd h

@@ -57,7 +57,8 @@ given_are_few nodes header order events run i l verdicts emitted = by_front (sho
         (answered_to (first_time (state nodes events).rows) None) (answered_to (first_time (state nodes events).rows) (Some f)) verdicts verdicts tiles told
         (parted nodes header i initial events verdicts emitted) meets in
         wider_in_all (verdicts_for_a_row (subformula nodes i)) (rows_about (subformula nodes i) (so_far nodes header events) from (whole f))
-        (length (state nodes events).rows) (length verdicts) (within_all (earlier from (looks_back (subformula nodes i))) (later (whole f) (looks_ahead (subformula nodes i))) (state nodes events).rows)
+        (length (state nodes events).rows) (length verdicts)
+        (within_all (earlier from (looks_back (subformula nodes i))) (later (whole f) (looks_ahead (subformula nodes i))) (state nodes events).rows)
         (in_all (turns_for_a_row (subformula nodes i)) (rests_for_a_row (subformula nodes i))
         (rows_about (subformula nodes i) (so_far nodes header events) from (whole f)) (moves_within nodes i from (whole f) events) (length verdicts)
         (some_rests (subformula nodes i)) (moves_are_few nodes header order events run i l from (whole f)) few)

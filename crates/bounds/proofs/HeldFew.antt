@@ -40,6 +40,16 @@ among_within lo hi (u ∷ times) t h k (inr m) = later_one (is_within lo hi u) (
     later_one true n = inr n
     later_one false n = n
 
+-- the test says that a time lies within
+pub within_of : (lo hi t : Rational) → is_within lo hi t ≡ true → Within lo hi t
+within_of lo hi t e = elim (le_or_lt lo t) [
+  | inl after ↦ elim (le_or_lt t hi) [
+    | inl before ↦ record { above = after; below = before }
+    | inr late ↦ absurd (let k : is_within lo hi t ≡ false = rw (less_no t lo after, less_in hi t late) refl in let x : false ≡ true = sym k ∙ e in cc)
+  ]
+  | inr soon ↦ absurd (let k : is_within lo hi t ≡ false = rw (less_in t lo soon) refl in let x : false ≡ true = sym k ∙ e in cc)
+]
+
 -- a list that rises after a time rises from it
 pub loose : (inside : Bool) (f : Rational) (times : List Rational) → RisesFrom false f times → RisesFrom inside f times
 loose inside f [] r = tt
@@ -174,27 +184,18 @@ module _ (p : Subformula) (tr : Trace) (fronts : List Rational) (stretch : Inter
     outs_put true false t times b r = (elim (b refl) [ inl m ↦ m | inr m ↦ absurd (let e : false ≡ true = m.0 in cc) ], r)
     outs_put false end_in t times b r = r
 
-    inside_of : (t : Rational) → is_within lo hi t ≡ true → Within lo hi t
-    inside_of t e = elim (le_or_lt lo t) [
-      | inl after ↦ elim (le_or_lt t hi) [
-        | inl before ↦ record { above = after; below = before }
-        | inr late ↦ absurd (let k : is_within lo hi t ≡ false = rw (less_no t lo after, less_in hi t late) refl in let x : false ≡ true = sym k ∙ e in cc)
-      ]
-      | inr soon ↦ absurd (let k : is_within lo hi t ≡ false = rw (less_in t lo soon) refl in let x : false ≡ true = sym k ∙ e in cc)
-    ]
-
     ins_among : (v : Verdict) (ws : List Verdict) → IsTold p tr v → Joins p tr fronts v ws
         → AreAmong (ends_within true v ws) (f.times_of ++ times_within lo hi fronts)
     ins_among v [] told h = tt
     ins_among v (w ∷ ws) told h =
         ins_put (is_within lo hi (value v.on.to)) v.on.to_in (value v.on.to) (ends_within true w ws)
-        (λ e. border v w told h.3 h.0 h.2 (inside_of (value v.on.to) e)) (ins_among w ws h.3 h.4)
+        (λ e. border v w told h.3 h.0 h.2 (within_of lo hi (value v.on.to) e)) (ins_among w ws h.3 h.4)
 
     outs_among : (v : Verdict) (ws : List Verdict) → IsTold p tr v → Joins p tr fronts v ws → AreAmong (ends_within false v ws) f.times_of
     outs_among v [] told h = tt
     outs_among v (w ∷ ws) told h =
         outs_put (is_within lo hi (value v.on.to)) v.on.to_in (value v.on.to) (ends_within false w ws)
-        (λ e. border v w told h.3 h.0 h.2 (inside_of (value v.on.to) e)) (outs_among w ws h.3 h.4)
+        (λ e. border v w told h.3 h.0 h.2 (within_of lo hi (value v.on.to) e)) (outs_among w ws h.3 h.4)
 
     few_by : (v : Verdict) (ws held : List Verdict) → IsTold p tr v → Joins p tr fronts v ws → AreMeeting stretch (v ∷ ws) held
         → length held ≤ 2 * count + length (times_within lo hi fronts) + 1

@@ -260,7 +260,8 @@ module _ (nodes : List Node) (header : Header) (order : IsPostOrder nodes) where
 
       same_reader : edge.reader ≡ edge'.reader
       same_reader =
-          one_reader nodes order edge.reader edge'.reader edge.reading edge'.reading edge.left edge'.left i edge.at_reader edge'.at_reader edge.reads edge'.reads
+          one_reader nodes order edge.reader edge'.reader edge.reading edge'.reading edge.left edge'.left i edge.at_reader edge'.at_reader edge.reads
+          edge'.reads
 
       same_node : edge'.reading ≡ edge.reading
       same_node = one_node nodes edge.reader edge'.reader edge.reading edge'.reading edge.at_reader edge'.at_reader same_reader

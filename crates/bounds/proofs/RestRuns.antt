@@ -116,11 +116,15 @@ module _ (at : ℕ → Subformula) (s : State) where
       elim (which (s.fronts p) (s.fronts q) m.0 m.1) [
         | inl x ↦ elim (h.known m.0 x) [
           | inl k ↦ inl (is (inl (rest_same (at p) s.rows (ahead_is f m.0 b m.2) k)))
-          | inr k ↦ absurd (not_both (s.closed && all_at_end s (p ∷ q ∷ [])) (ends_two s p q k.0 (x ∙ sym k.1) (other l.1 m.0 l.3 k.1 l.5 (j.bounded l.1 l.3))) unended)
+          | inr k ↦
+              absurd (not_both (s.closed && all_at_end s (p ∷ q ∷ []))
+              (ends_two s p q k.0 (x ∙ sym k.1) (other l.1 m.0 l.3 k.1 l.5 (j.bounded l.1 l.3))) unended)
         ]
         | inr x ↦ elim (j.known m.0 x) [
           | inl k ↦ inl (is (inr (rest_same (at q) s.rows (ahead_is f m.0 b m.2) k)))
-          | inr k ↦ absurd (not_both (s.closed && all_at_end s (p ∷ q ∷ [])) (ends_two s p q k.0 (other l.0 m.0 l.2 k.1 l.4 (h.bounded l.0 l.2)) (x ∙ sym k.1)) unended)
+          | inr k ↦
+              absurd (not_both (s.closed && all_at_end s (p ∷ q ∷ []))
+              (ends_two s p q k.0 (other l.0 m.0 l.2 k.1 l.4 (h.bounded l.0 l.2)) (x ∙ sym k.1)) unended)
         ]
       ]
     where

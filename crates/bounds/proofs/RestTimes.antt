@@ -1,10 +1,9 @@
 -- The times at which rows can bring a node's front to rest: those of the rows, moved by the windows. Within a stretch they are few.
 use Rattle.std.specs.Prelude.{max, ◌⊎◌}
-use Rattle.std.proofs.Common.{◌≡◌, refl, sym, ◌∙◌, ℕ, suc, ◌+◌, ◌*◌, ◌≤◌, Bool, true, false, cond, List, [], ◌∷◌, ◌++◌, length}
+use Rattle.std.proofs.Common.{◌≡◌, refl, ℕ, suc, ◌+◌, ◌*◌, ◌≤◌, Bool, true, false, cond, List, [], ◌∷◌, ◌++◌, length}
 use Rattle.std.proofs.Common.{arith, inl, inr, Option}
 use Rattle.rational.specs.Time.{Rational, ◌≤ʳ◌, ◌≈◌, later, Within}
-use Rattle.rational.proofs.Order.{le_trans, le_or_lt, same_trans}
-use Rattle.rational.proofs.TimeLemmas.{less_in, less_no}
+use Rattle.rational.proofs.Order.{le_trans}
 use Rattle.stl_syntax.specs.Trace.{Row, row_time}
 use Rattle.stl_syntax.specs.Formula.{Subformula, constant, atom, negation, conjunction, disjunction}
 use Rattle.stl_syntax.specs.Formula.{implication, until, eventually, always, since, once, historically}
@@ -13,17 +12,11 @@ use Rattle.bounds.specs.Turns.{is_within, rows_within, earlier, looks_ahead, loo
 use Rattle.bounds.specs.Held.{times_within}
 use Rattle.bounds.specs.Rests.{rests_for_a_row}
 use Rattle.bounds.proofs.NearTimes.{Move, by, ahead, behind}
-use Rattle.bounds.proofs.FewTimes.{among_left, among_right, moved_back, moved_count, among_moved}
+use Rattle.bounds.proofs.FewTimes.{among_same, among_left, among_right, moved_back, moved_count, among_moved}
 use Rattle.bounds.proofs.AtomTurns.{wider}
 use Rattle.bounds.proofs.FormulaTurns.{moved_within, both_few, left_max, right_max, low_part, high_part, low_ahead, high_ahead, low_behind, high_behind}
 use Rattle.bounds.proofs.FormulaTurns.{near_far, sum_of}
 use Rattle.bounds.proofs.HeldFew.{among_within}
-
--- a time that is one of a list, or equal to one
-pub among_same : (times : List Rational) (t u : Rational) → t ≈ u → IsAmong times u → IsAmong times t
-among_same [] t u e h = absurd h
-among_same (x ∷ times) t u e (inl f) = inl (same_trans e f)
-among_same (x ∷ times) t u e (inr m) = inr (among_same times t u e m)
 
 -- the times of the rows
 abbrev pub row_times : List Row → List Rational
@@ -89,16 +82,6 @@ rest_more (once a b i j p) rows more t h =
     elim h [ inl m ↦ inl (rest_more p rows more (by t (behind a)) m) | inr m ↦ inr (among_more rows more t m) ]
 rest_more (historically a b i j p) rows more t h =
     elim h [ inl m ↦ inl (rest_more p rows more (by t (behind a)) m) | inr m ↦ inr (among_more rows more t m) ]
-
--- the test says that a time lies within
-pub within_of : (lo hi t : Rational) → is_within lo hi t ≡ true → Within lo hi t
-within_of lo hi t e = elim (le_or_lt lo t) [
-  | inl after ↦ elim (le_or_lt t hi) [
-    | inl before ↦ record { above = after; below = before }
-    | inr late ↦ absurd (let k : is_within lo hi t ≡ false = rw (less_no t lo after, less_in hi t late) refl in let x : false ≡ true = sym k ∙ e in cc)
-  ]
-  | inr soon ↦ absurd (let k : is_within lo hi t ≡ false = rw (less_in t lo soon) refl in let x : false ≡ true = sym k ∙ e in cc)
-]
 
 -- the times of the rows within a stretch are as many as the rows
 row_count : (lo hi : Rational) (rows : List Row) → length (times_within lo hi (row_times rows)) ≡ rows_within lo hi rows

@@ -22,9 +22,9 @@ use Rattle.bounds.specs.Turns.{is_within, rows_within, earlier, looks_back, look
 use Rattle.bounds.specs.Held.{with_front, fronts_from, times_within, moves_within, so_far}
 use Rattle.bounds.specs.Rests.{rests_for_a_row, MovesAreFew, EdgesAreFew}
 use Rattle.bounds.proofs.FewTimes.{RisesFrom, rises_before, among_left, among_right, AreAmong, no_more}
-use Rattle.bounds.proofs.HeldFew.{loose}
+use Rattle.bounds.proofs.HeldFew.{loose, within_of}
 use Rattle.bounds.proofs.EdgesFew.{edges_are_bounded}
-use Rattle.bounds.proofs.RestTimes.{IsRest, rest_more, within_of, FewIn, rests_about, some_rests}
+use Rattle.bounds.proofs.RestTimes.{IsRest, rest_more, FewIn, rests_about, some_rests}
 use Rattle.bounds.proofs.RestRuns.{IsKnown, AllKnown, known_after}
 
 -- the fronts that follow one: they rise after it

@@ -9,7 +9,7 @@ use Rattle.stl_syntax.proofs.RowsLemmas.{last_from}
 use Rattle.online_nodes.proofs.RowsLaw.{AreRowsSoFar}
 use Rattle.bounds.specs.Turns.{is_within, rows_within, earlier}
 use Rattle.bounds.proofs.AtomTurns.{counted, one_more}
-use Rattle.bounds.proofs.RestTimes.{within_of}
+use Rattle.bounds.proofs.HeldFew.{within_of}
 use Rattle.watch_bounds.specs.Holdings.{last_rows}
 
 -- each row comes by the time
