@@ -176,13 +176,13 @@ made_run {words} number rows i o e _ _ form (cut_off is p failed) same said = re
   said = said;
   ended = asked (generated number rows) form (λ _. refl) (λ _ x. absurd (false≢true x)) (λ x. absurd (false≢true x))
       (unwritten p.back p.missing failed (record {
-    seen = [];
-    later = [];
-    parts = refl;
-    seen_end = false;
-    at_end = λ h. absurd (false≢true h);
-    owed = subst (IsSummary number rows) p.parts is;
-  }));
+        seen = [];
+        later = [];
+        parts = refl;
+        seen_end = false;
+        at_end = λ h. absurd (false≢true h);
+        owed = subst (IsSummary number rows) p.parts is;
+      }));
 }
 made_run {words} number rows i o e _ _ form (no_room_for_it same_out) same said = record {
   bytes = [];
@@ -353,7 +353,7 @@ module _ (words : List (List ℕ)) (c : Command) (f : Formula) (i : Drained) (o 
         grew = x.grew;
         said = said;
         ended = asked (of_whole c f) ask (λ k. absurd (let h = k in cc)) (λ n _. record { none_left = x.at_end n; once = once (λ k. n (ap status_of k)) })
-      (λ b. absurd (false≢true b)) x.is;
+            (λ b. absurd (false≢true b)) x.is;
       })
 
 -- ---- statuses
