@@ -9,7 +9,7 @@ ghost use Rattle.report.specs.Appended.{Grew};
 ghost use Rattle.verdict_sets.specs.Telling.{IsVerdictOf, AreJudgedLines, IsJudgedText, IsFirstTruth};
 
 use frac128::{Frac, Memory, Span};
-use report::{LastTime, put_start, put_verdict_after};
+use report::{VerdictLines, put_start};
 use std::alloc::Global;
 use stl_syntax::{Scale, Text, Verdict};
 use time_sets::Span as Stretch;
@@ -49,16 +49,16 @@ fn put_stretches(text: &mut Text, judged: &Judged, scale: Scale) -> Result<(), M
     requires own { IsOf judged.now.on judged.now.times }
     ensures { OnOk result (Grew (AreJudgedLines judged.now scale) text.old text.new) }
 {
-    let mut last = LastTime::new();
+    let mut lines = VerdictLines::new();
     let mut from = judged.on.from.time();
     let mut next = 0;
     while let Some(stretch) = judged.times.span(&judged.on, next) {
         let verdict = verdict_of(from, &stretch);
-        put_verdict_after(text, &mut last, &verdict, scale)?;
+        lines.put(text, &verdict, scale)?;
         from = verdict.on.to;
         next += 1;
     }
-    Ok(())
+    lines.hand_over(text)
 }
 
 /// The truth of the first stretch.

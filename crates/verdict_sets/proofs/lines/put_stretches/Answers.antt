@@ -1,6 +1,7 @@
 -- The line of one stretch more.
 use Rattle.std.proofs.Common.{◌≡◌, ℕ, ◌+◌, ◌++◌, ◌∷◌, [], length, refl, sym, ap, ◌∙◌, subst, inl, inr, arith, append-nil, append_assoc, length-append}
 use Rattle.std.proofs.lemmas.Option.{none-some}
+use Rattle.std.proofs.lemmas.Result.{on_ok_weaker}
 use Rattle.rational.specs.Time.{◌≈◌}
 use Rattle.rational.proofs.Lists.{slice_get-push_cases}
 use Rattle.frac128.specs.Value.{value}
@@ -15,7 +16,7 @@ pub loop-stretch-init : goal.loop-stretch-init
 loop-stretch-init c = record {
   from = c.time-from.ensures;
   within = omega arith;
-  lines = ([], refl, λ n v e. absurd (none-some v e), ([], refl, sym (append-nil c.args.text.now)));
+  lines = ([], refl, λ n v e. absurd (none-some v e), ([], refl, ap (λ l. c.args.text.now ++ l) c.new-lines.ensures));
 }
 
 pub verdict_of-verdict-requires-clause-order : goal.verdict_of-verdict-requires-clause-order
@@ -31,7 +32,7 @@ loop-stretch-preserved c =
     let v = c.verdict_of-verdict.result in
     let is = c.verdict_of-verdict.ensures in
     let (verdicts, count, are, (grown, lines, grew)) = c.loop-stretch.invariant.lines in
-    let (line, is_line, longer) = c.in_ok-put_verdict_after.ensures.ok in
+    let (line, is_line, longer) = c.in_ok-put.ensures.ok in
     let here : IsVerdictAt c.args.judged.now c.loop-stretch.next v = record {
       stretch = c.in-Some.stretch;
       at = record { from = s.from; to = s.to; longest = s.longest };
@@ -66,4 +67,8 @@ pub returns : goal.returns
 returns c =
     let (verdicts, count, are, (grown, lines, grew)) = c.loop-stretch.invariant.lines in
     let within = c.loop-stretch.invariant.within in
-    (grown, record { verdicts = verdicts; count = omega (arith, count, within, c.in_default.ensures.none); are = are; lines = lines }, grew)
+    on_ok_weaker c.hand_over.result (λ all. (
+      grown,
+      record { verdicts = verdicts; count = omega (arith, count, within, c.in_default.ensures.none); are = are; lines = lines },
+      all ∙ grew,
+    )) c.hand_over.ensures.text

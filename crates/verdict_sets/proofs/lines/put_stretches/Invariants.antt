@@ -1,4 +1,4 @@
-use Rattle.std.proofs.Common.{◌≡◌, ◌≤◌, ◌+◌, ◌-◌, List, length}
+use Rattle.std.proofs.Common.{◌≡◌, ◌≤◌, ◌+◌, ◌-◌, ◌++◌, List, length}
 use Rattle.rational.specs.Time.{◌≈◌}
 use Rattle.frac128.specs.Value.{value}
 use Rattle.time_sets.specs.Turns.{place}
@@ -14,7 +14,7 @@ invariant-loop-stretch l = record {
   from : value l.from ≈ (place (border l.judged.on l.judged.times l.next)).at;
   within : l.next ≤ length l.judged.times.turns.items + 1;
   lines : (verdicts : List Verdict) × (length verdicts ≡ l.next) × AreFirstVerdicts l.judged verdicts
-      × Grew (AreVerdictLines l.scale verdicts) l.initial.text l.text;
+      × Grew (AreVerdictLines l.scale verdicts) l.initial.text (l.text ++ l.lines);
 }
 
 abbrev pub decreases-loop-stretch : goal.decreases-loop-stretch
