@@ -1,18 +1,18 @@
 -- What becomes of a chain that goes on with a shape.
 use Rattle.std.proofs.Common.{◌≡◌, ◌⊎◌, inl, inr, List, [], ◌∷◌, ◌++◌, refl, sym, ap, subst}
-use Rattle.rational.specs.Time.{Rational, ◌≈◌}
-use Rattle.rational.specs.Extended.{Extended, ◌≈ᵉ◌, Passes, value_at}
+use Rattle.rational.specs.Time.{Rational}
+use Rattle.rational.specs.Extended.{Extended, Passes}
 use Rattle.rational.specs.Affine.{AreSame}
 use Rattle.rational.specs.Places.{Place, After, Upto, Before, AtMost}
 use Rattle.rational.proofs.AffineLemmas.{value_same}
 use Rattle.rational.proofs.Sames.{symᵉ, transᵉ}
 use Rattle.rational.proofs.Order.{same_refl}
-use Rattle.rational.proofs.PlaceLemmas.{sides, upto_of_before, after_of_before, after_at_most, before_of_at_most}
+use Rattle.rational.proofs.PlaceLemmas.{sides, upto_of_before, after_at_most, before_of_at_most}
 use Rattle.frac128.specs.Cuts.{place}
 use Rattle.frac128.specs.declared.cut.Cut.{Cut}
 use Rattle.value_laws.specs.Members.{ShapeOf}
 use Rattle.pieces.specs.declared.piece.Piece.{Piece}
-use Rattle.pieces.specs.Chains.{Chain, end, stop, stop_from, HasShape, HasShapeIn, Each, Rise, IsWorth, IsWorthFrom, CanBeLeftOut, IsPiece, IsNormal}
+use Rattle.pieces.specs.Chains.{Chain, end, stop_from, HasShapeIn, Each, Rise, IsWorthFrom, CanBeLeftOut, IsPiece, IsNormal}
 use Rattle.pieces.specs.Building.{GoesOn}
 use Rattle.pieces.proofs.Ends.{only_time}
 use Rattle.pieces.proofs.ChainLemmas.{stop_append, rise_front, rise_back, rise_append, shape_in, shape_front, shape_back, to_stop}

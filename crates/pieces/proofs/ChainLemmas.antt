@@ -2,10 +2,10 @@
 use Rattle.std.proofs.Common.{◌≡◌, ◌⊎◌, inl, inr, List, [], ◌∷◌, ◌++◌, refl}
 use Rattle.rational.specs.Time.{Rational, ◌≈◌}
 use Rattle.rational.specs.Extended.{Extended, Affine, ◌≈ᵉ◌, Passes, value_at}
-use Rattle.rational.specs.Places.{Place, After, Upto, Before, AtMost}
+use Rattle.rational.specs.Places.{Place, After, Upto, AtMost}
 use Rattle.rational.proofs.AffineLemmas.{same_reflᵉ, value_same}
 use Rattle.rational.proofs.Sames.{symᵉ, transᵉ}
-use Rattle.rational.proofs.PlaceLemmas.{sides, not_both, upto_of_before, after_of_before, after_at_most}
+use Rattle.rational.proofs.PlaceLemmas.{sides, not_both, upto_of_before, after_of_before}
 use Rattle.value_laws.specs.Members.{ShapeOf}
 use Rattle.pieces.specs.declared.piece.Piece.{Piece}
 use Rattle.pieces.specs.Chains.{end, stop_from, HasShapeIn, Rise, IsWorthFrom}

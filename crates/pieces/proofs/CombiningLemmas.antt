@@ -2,7 +2,7 @@
 use Rattle.std.proofs.Common.{◌≡◌, ◌⊎◌, inl, inr, ℕ, ◌+◌, ◌-◌, ◌<◌, Bool, true, false, Result, Ok, Err, sym, subst, arith}
 use Rattle.std.specs.Prelude.{IfErr, if◌then◌else◌}
 use Rattle.std.proofs.lemmas.Bool.{false≢true}
-use Rattle.rational.specs.Time.{Rational, ◌≤ʳ◌, ◌<ʳ◌}
+use Rattle.rational.specs.Time.{Rational, ◌≤ʳ◌}
 use Rattle.rational.specs.Extended.{value_at}
 use Rattle.rational.specs.InPlay.{of_two}
 use Rattle.rational.specs.Places.{After, Upto}
@@ -19,7 +19,7 @@ use Rattle.pl_signal.specs.declared.faults.OpFault.{OpFault}
 use Rattle.pl_signal.specs.declared.faults.OpFault.TheVariants as F
 use Rattle.pl_signal.specs.Wide.{HasCause}
 use Rattle.pl_signal.specs.Joining.{ChosenOf, IsGapFault}
-use Rattle.pieces.specs.Chains.{Chain, stop, HasShape, IsWorth, IsNormal}
+use Rattle.pieces.specs.Chains.{Chain, stop, HasShape, IsWorth}
 use Rattle.pieces.specs.Joining.{Joins, HasPart, IsJoinFault, IsWideMeeting}
 use Rattle.pieces.proofs.Telling.{TellsSoFar, tells_join}
 

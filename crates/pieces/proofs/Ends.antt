@@ -1,10 +1,10 @@
 -- Times behind and before places.
-use Rattle.std.proofs.Common.{◌≡◌, inl, inr, Bool, true, false, refl}
+use Rattle.std.proofs.Common.{Bool, true, false, refl}
 use Rattle.std.specs.Prelude.{MatchBool}
 use Rattle.rational.specs.Time.{Rational, ◌≤ʳ◌, ◌<ʳ◌, ◌≈◌}
 use Rattle.rational.specs.Places.{Place, After, Upto, Before, Same, AtMost}
-use Rattle.rational.proofs.Order.{le_of_lt, le_trans, le_of_same, ge_of_same, lt_of_lt_of_le, lt_of_le_of_lt, same_of_le, same_refl, same_sym}
-use Rattle.rational.proofs.PlaceLemmas.{upto_of_before, upto_same, before_of_at_most, before_at_most}
+use Rattle.rational.proofs.Order.{le_of_lt, le_trans, le_of_same, ge_of_same, lt_of_lt_of_le, lt_of_le_of_lt, same_of_le, same_refl}
+use Rattle.rational.proofs.PlaceLemmas.{upto_of_before, upto_same}
 
 -- what lies behind a place is no earlier than its time
 pub after_le : (c : Place) (t : Rational) → After c t → c.at ≤ʳ t

@@ -1,22 +1,21 @@
 -- The least or the greatest of two shapes between two places, and a chain that goes on with it.
 use Rattle.std.proofs.Common.{◌≡◌, ◌⊎◌, inl, inr, Bool, true, false, refl, sym, ◌∙◌, subst}
 use Rattle.rational.specs.Time.{Rational, ◌≤ʳ◌, ◌<ʳ◌, ◌≈◌}
-use Rattle.rational.specs.Extended.{Extended, Affine, value_at, Passes, ◌≤ᵉ◌}
+use Rattle.rational.specs.Extended.{Extended, Affine, value_at, Passes}
 use Rattle.rational.specs.Affine.{MeetAlone}
 use Rattle.rational.specs.Places.{Place, After, Upto, Before}
-use Rattle.rational.proofs.Order.{lt_or_same_or_gt, not_lt_of_le, same_sym, le_of_lt}
+use Rattle.rational.proofs.Order.{lt_or_same_or_gt, not_lt_of_le, same_sym}
 use Rattle.std.proofs.lemmas.Bool.{false≢true}
 use Rattle.rational.proofs.ExtendedLemmas.{le_transᵉ, le_of_ltᵉ, clashᵉ}
 use Rattle.rational.proofs.AffineLemmas.{value_same}
 use Rattle.rational.proofs.Sames.{symᵉ}
 use Rattle.rational.proofs.PlaceLemmas.{sides, upto_of_before, after_of_before}
-use Rattle.frac128.specs.Value.{value}
 use Rattle.frac128.specs.Cuts.{place}
 use Rattle.frac128.specs.declared.cut.Cut.{Cut}
 use Rattle.value_laws.specs.Members.{ShapeOf}
 use Rattle.pl_signal.specs.declared.joining.Side.{Side}
 use Rattle.pl_signal.specs.declared.joining.Side.TheVariants.{Least, Greatest}
-use Rattle.pl_signal.specs.Joining.{IsChosen, IsTakenAt, IsTurn, TurnsOver}
+use Rattle.pl_signal.specs.Joining.{IsChosen, IsTurn, TurnsOver}
 use Rattle.pl_signal.proofs.Choices.{IsTaken, chosen_first, chosen_second, chosen_same, chosen_one, taken_between, taken_of_greater, taken_of_less, taken_same}
 use Rattle.pieces.specs.Chains.{Chain, stop, HasShape, IsWorth}
 use Rattle.pieces.specs.Building.{GoesOn}
@@ -169,11 +168,13 @@ module _ {P : Type 0} (shape : ShapeOf P) where
   pub turned_apart : (p q : P) (c d : Place) → TurnsOver (shape.function p) (shape.function q) c.at d.at → Before c d → c.at <ʳ d.at
   turned_apart p q c d turn (inl l) = l
   turned_apart p q c d (inl (f, g)) (inr (s, e, i)) = absurd (clashᵉ (value_at (shape.function p) c.at) (value_at (shape.function q) c.at) f
-      (le_transᵉ (value_at (shape.function q) c.at) (value_at (shape.function q) d.at) (value_at (shape.function p) c.at) (value_same (shape.function q) s).at_most
+      (le_transᵉ (value_at (shape.function q) c.at) (value_at (shape.function q) d.at) (value_at (shape.function p) c.at)
+      (value_same (shape.function q) s).at_most
       (le_transᵉ (value_at (shape.function q) d.at) (value_at (shape.function p) d.at) (value_at (shape.function p) c.at)
       (le_of_ltᵉ (value_at (shape.function q) d.at) (value_at (shape.function p) d.at) g) (value_same (shape.function p) s).at_least)))
   turned_apart p q c d (inr (f, g)) (inr (s, e, i)) = absurd (clashᵉ (value_at (shape.function q) c.at) (value_at (shape.function p) c.at) f
-      (le_transᵉ (value_at (shape.function p) c.at) (value_at (shape.function p) d.at) (value_at (shape.function q) c.at) (value_same (shape.function p) s).at_most
+      (le_transᵉ (value_at (shape.function p) c.at) (value_at (shape.function p) d.at) (value_at (shape.function q) c.at)
+      (value_same (shape.function p) s).at_most
       (le_transᵉ (value_at (shape.function p) d.at) (value_at (shape.function q) d.at) (value_at (shape.function q) c.at)
       (le_of_ltᵉ (value_at (shape.function p) d.at) (value_at (shape.function q) d.at) g) (value_same (shape.function q) s).at_least)))
 

@@ -1,5 +1,5 @@
 -- A chain as a signal of knots, and a signal as a chain.
-use Rattle.std.proofs.Common.{◌≡◌, ◌⊎◌, inl, inr, Bool, ℕ, zero, suc, ap, ◌+◌, ◌<◌, ◌≤◌, List, [], ◌∷◌, Some, true, false, length, refl, sym, ◌∙◌, subst, arith}
+use Rattle.std.proofs.Common.{◌≡◌, ◌⊎◌, inl, inr, Bool, ℕ, zero, suc, ap, ◌+◌, ◌<◌, List, [], ◌∷◌, Some, true, false, length, refl, sym, ◌∙◌, subst, arith}
 use Rattle.std.specs.Prelude.{slice_get, MatchBool}
 use Rattle.std.specs.declared.cmp.Ordering.{Ordering}
 use Rattle.std.specs.declared.cmp.Ordering.TheVariants.{Less, Equal, Greater}
@@ -7,15 +7,15 @@ use Rattle.rational.specs.Rational.{IsOrder}
 use Rattle.std.proofs.Math.Nat.{eq-or-lt_of_le}
 use Rattle.std.proofs.lemmas.Bool.{false≢true}
 use Rattle.rational.specs.Time.{Rational, ◌≤ʳ◌, ◌<ʳ◌, ◌≈◌}
-use Rattle.rational.specs.Extended.{Extended, value_at, ◌≈ᵉ◌, Passes}
+use Rattle.rational.specs.Extended.{value_at}
 use Rattle.rational.specs.Windows.{Function}
 use Rattle.rational.specs.Places.{Place, After, Upto, Before, Same}
 use Rattle.rational.proofs.Order.{le_refl, le_of_same, ge_of_same, same_of_le, same_refl, same_sym, same_trans, lt_or_same_or_gt, not_lt_of_le, le_of_lt}
-use Rattle.rational.proofs.Order.{lt_of_le_of_lt, lt_of_lt_of_le, le_trans}
+use Rattle.rational.proofs.Order.{lt_of_le_of_lt}
 use Rattle.rational.proofs.AffineLemmas.{value_same}
-use Rattle.rational.proofs.Sames.{symᵉ, transᵉ}
+use Rattle.rational.proofs.Sames.{transᵉ}
 use Rattle.rational.proofs.TimeFunctions.{IsFunction}
-use Rattle.rational.proofs.PlaceLemmas.{after_same, upto_same, same_places}
+use Rattle.rational.proofs.PlaceLemmas.{after_same}
 use Rattle.frac128.specs.Value.{value}
 use Rattle.frac128.specs.Cuts.{place, is_after}
 use Rattle.frac128.specs.declared.cut.Cut.{Cut}
@@ -133,7 +133,8 @@ module _ {P : Type 0} (shape : ShapeOf P) where
 
   -- where it ends then
   pub ends_knot : {old new : Chain P} (k : Knot P) (to : Frac) → GoesOnBy shape old k to new
-      → (stop new ≡ place (record { time = to; side = 0 })) × (new.from ≡ old.from) × ((p : P) → HasShape new p → HasShape old p ⊎ (p ≡ k.point) ⊎ (p ≡ k.after))
+      → (stop new ≡ place (record { time = to; side = 0 })) × (new.from ≡ old.from)
+      × ((p : P) → HasShape new p → HasShape old p ⊎ (p ≡ k.point) ⊎ (p ≡ k.after))
   ends_knot k to (inl one) = (one.1.ends, one.1.begins, λ p h. elim (one.1.shapes p h) [ inl x ↦ inl x | inr x ↦ inr (inr x) ])
   ends_knot {old} k to (inr two) = (two.2.ends, two.2.begins ∙ two.1.begins, λ p h. by_part p (two.2.shapes p h))
     where
@@ -197,7 +198,8 @@ module _ {P : Type 0} (shape : ShapeOf P) where
   pub tells_last : {old new : Chain P} (F : Function) (k : Knot P) (until : Cut) → until ≡ record { time = k.time; side = 1 } → IsFunction F
       → TellsSoFar shape F old → Same (stop old) (before (value k.time)) → F (value k.time) (value_at (shape.function k.point) (value k.time))
       → GoesOn shape old until k.point new → TellsSoFar shape F new
-  tells_last {old} {new} F k until e is s begins point on = tells_on shape F is s on (λ t a u. there t (after_same (stop old) (before (value k.time)) t begins a)
+  tells_last {old} {new} F k until e is s begins point on =
+      tells_on shape F is s on (λ t a u. there t (after_same (stop old) (before (value k.time)) t begins a)
       (subst (λ u. Upto (place u) t) e u))
     where
       there : (t : Rational) → value k.time ≤ʳ t → t ≤ʳ value k.time → F t (value_at (shape.function k.point) t)

@@ -1,12 +1,11 @@
 -- The last pieces of a list, as the program reads and writes them.
-use Rattle.std.proofs.Common.{◌≡◌, ◌⊎◌, inl, inr, ℕ, suc, ◌+◌, ◌<◌, ◌^◌, List, [], ◌∷◌, ◌++◌, length, get_or, set, take, refl, sym, ◌∙◌, ap, subst, arith, length-append, IsTrue, Bool, false}
-use Rattle.std.proofs.lemmas.List.{get_or_at, set_at, append_assoc, take_more, take_all}
+use Rattle.std.proofs.Common.{◌≡◌, ℕ, ◌+◌, ◌<◌, List, [], ◌∷◌, ◌++◌, length, get_or, set, take, refl, sym, ◌∙◌, ap, subst, arith, length-append}
+use Rattle.std.proofs.lemmas.List.{get_or_at, set_at, append_assoc}
 use Rattle.std.specs.Prelude.{Option, Some, None, IsSome, option_to_list}
 use Rattle.std.proofs.lemmas.Bool.{false≢true}
 use Rattle.rational.specs.Rational.{IsWithin}
 use Rattle.rational.specs.Affine.{AreSame}
 use Rattle.rational.specs.Places.{Place, Before}
-use Rattle.frac128.specs.Value.{value}
 use Rattle.frac128.specs.Cuts.{place}
 use Rattle.frac128.specs.declared.cut.Cut.{Cut}
 use Rattle.value_laws.specs.Members.{ShapeOf}
@@ -15,7 +14,7 @@ use Rattle.pieces.specs.declared.piece.Piece.{Piece}
 use Rattle.pieces.specs.Chains.{end, stop_from, IsNormal, CanBeLeftOut}
 use Rattle.pieces.specs.Building.{GoesOn}
 use Rattle.pieces.proofs.ChainLemmas.{stop_append}
-use Rattle.pieces.proofs.BuildingLemmas.{chain_of, longer, IsNew, goes_on_new, goes_on_same, goes_on_left}
+use Rattle.pieces.proofs.BuildingLemmas.{chain_of, longer, goes_on_new, goes_on_same, goes_on_left}
 
 -- a list that is not empty has a last element
 pub split_last : {X : Type 0} (xs : List X) → 0 < length xs → (front : List X) × (last : X) × (xs ≡ front ++ last ∷ [])

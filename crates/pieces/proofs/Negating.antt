@@ -1,10 +1,10 @@
 -- A chain negated piece by piece.
-use Rattle.std.proofs.Common.{◌≡◌, ◌⊎◌, inl, inr, ℕ, zero, suc, ◌<◌, ◌^◌, List, [], ◌∷◌, Some, length, set, refl, sym, ap, subst, arith, IsTrue}
+use Rattle.std.proofs.Common.{◌≡◌, inl, inr, ℕ, zero, suc, ◌^◌, List, [], ◌∷◌, Some, length, set, refl, sym, ap, subst, arith, IsTrue}
 use Rattle.std.specs.Prelude.{slice_get}
 use Rattle.rational.specs.Time.{Rational, ◌≈◌}
 use Rattle.rational.specs.Extended.{Extended, ◌≈ᵉ◌, opposite, value_at, Affine}
 use Rattle.rational.specs.Affine.{AreSame, HasBoundedLevel, IsBounded}
-use Rattle.rational.specs.Places.{Place, After, Upto, Before, Same}
+use Rattle.rational.specs.Places.{Place, Upto, Before, Same}
 use Rattle.rational.proofs.AffineLemmas.{opposite_back, same_reflᵉ}
 use Rattle.rational.proofs.Bounds.{level_bounded}
 use Rattle.rational.proofs.PlaceLemmas.{between}

@@ -1,23 +1,24 @@
 -- A chain read up to a place: the piece that goes on there, by its place in the list.
-use Rattle.std.proofs.Common.{◌≡◌, ◌⊎◌, inl, inr, ℕ, zero, suc, ◌+◌, ◌<◌, ◌≤◌, ◌^◌, List, [], ◌∷◌, Some, Bool, true, false, IsTrue, length, refl, sym, ap, subst, arith}
+use Rattle.std.proofs.Common.{◌≡◌, ◌⊎◌, inl, inr, ℕ, zero, suc, ◌+◌, ◌<◌, ◌≤◌, ◌^◌, List, [], ◌∷◌, Some}
+use Rattle.std.proofs.Common.{Bool, true, false, IsTrue, length, refl, sym, ap, subst, arith}
 use Rattle.std.specs.Prelude.{slice_get, if◌then◌else◌, ◌↔◌}
 use Rattle.std.proofs.Math.Nat.{eq-or-lt_of_le}
 use Rattle.std.proofs.lemmas.Bool.{false≢true}
 use Rattle.rational.specs.Rational.{IsWithin}
 use Rattle.rational.specs.Time.{Rational}
-use Rattle.rational.specs.Extended.{Extended, value_at}
-use Rattle.rational.specs.Affine.{HasBoundedLevel, IsBounded}
+use Rattle.rational.specs.Extended.{value_at}
+use Rattle.rational.specs.Affine.{HasBoundedLevel}
 use Rattle.rational.specs.Places.{Place, After, Upto, Before, Same, AtMost}
 use Rattle.rational.proofs.AffineLemmas.{same_reflᵉ}
 use Rattle.rational.proofs.Bounds.{level_bounded}
 use Rattle.rational.proofs.Mixed.{within_between}
-use Rattle.rational.proofs.PlaceLemmas.{between, place_order, not_before_itself, before_at_most, before_of_at_most, same_of_at_most, same_before, upto_same}
-use Rattle.rational.proofs.PlaceLemmas.{same_places, same_trans_places, le_of_at_most, upto_of_before, after_at_most}
+use Rattle.rational.proofs.PlaceLemmas.{between, place_order, not_before_itself, before_at_most, same_of_at_most, same_before}
+use Rattle.rational.proofs.PlaceLemmas.{same_places, le_of_at_most, upto_of_before, after_at_most}
 use Rattle.value_laws.specs.Members.{ShapeOf}
 use Rattle.pl_signal.proofs.Values.{some_is}
 use Rattle.pieces.specs.declared.piece.Piece.{Piece}
-use Rattle.pieces.specs.Chains.{Chain, end, stop, stop_from, HasShape, HasShapeIn, Rise, IsWorth, IsWorthFrom, IsLimited, IsNormal}
-use Rattle.pieces.proofs.Ends.{at_most_itself, at_most_of_before, at_most_of_same, at_most_trans}
+use Rattle.pieces.specs.Chains.{Chain, end, stop, stop_from, HasShapeIn, Rise, IsWorth, IsWorthFrom, IsLimited, IsNormal}
+use Rattle.pieces.proofs.Ends.{at_most_of_before, at_most_of_same, at_most_trans}
 use Rattle.pieces.proofs.ChainLemmas.{to_stop}
 
 module _ {P : Type 0} where

@@ -1,5 +1,5 @@
 -- Chains that tell a function of time, and how they are built.
-use Rattle.std.proofs.Common.{◌≡◌, ◌⊎◌, inl, inr, List, [], refl, sym, subst}
+use Rattle.std.proofs.Common.{◌≡◌, ◌⊎◌, inl, inr, [], sym, subst}
 use Rattle.rational.specs.Time.{Rational}
 use Rattle.rational.specs.Extended.{Extended, Passes, value_at}
 use Rattle.rational.specs.Places.{Place, After, Upto, Same}

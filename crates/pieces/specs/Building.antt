@@ -1,5 +1,5 @@
 -- A chain of pieces that goes on after its last piece.
-use Rattle.std.specs.Prelude.{◌≡◌, ◌⊎◌, ◌↔◌, List}
+use Rattle.std.specs.Prelude.{◌≡◌, ◌⊎◌, ◌↔◌}
 use Rattle.rational.specs.Time.{Rational}
 use Rattle.rational.specs.Extended.{Extended, Passes}
 use Rattle.rational.specs.Places.{After, Upto}

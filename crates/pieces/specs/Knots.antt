@@ -4,7 +4,6 @@ use Rattle.rational.specs.Time.{Rational, ◌<ʳ◌}
 use Rattle.rational.specs.Extended.{value_at, ◌≈ᵉ◌}
 use Rattle.rational.specs.Places.{Place}
 use Rattle.frac128.specs.Value.{value}
-use Rattle.frac128.specs.declared.cut.Cut.{Cut}
 use Rattle.frac128.specs.declared.frac.Frac.{Frac}
 use Rattle.value_laws.specs.Members.{ShapeOf}
 use Rattle.pl_signal.specs.declared.knot.Knot.{Knot}

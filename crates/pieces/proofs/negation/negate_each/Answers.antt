@@ -1,5 +1,4 @@
-use Rattle.std.proofs.Common.{◌≡◌, ℕ, ◌+◌, ◌<◌, length, set, suc, Some, refl, sym, ◌∙◌, ap, subst, arith}
-use Rattle.std.specs.Prelude.{slice_get}
+use Rattle.std.proofs.Common.{◌≡◌, ◌+◌, ◌<◌, length, set, suc, refl, sym, ◌∙◌, ap, subst, arith}
 use Rattle.std.proofs.lemmas.Option.{slice_get_read}
 use Rattle.pl_signal.proofs.Values.{some_is}
 use Rattle.pieces.specs.declared.piece.Piece.{Piece}
@@ -11,7 +10,8 @@ neg-negated-requires g c =
     let same = opposite_length g.P.Shape c.loop-i.i c.args.items.now.items c.loop-i.items.items c.loop-i.invariant in
     let inside : c.loop-i.i < length c.loop-i.items.items = let more = c.loop-i-test.true in let count = c.len-i-end.ensures in omega (arith, same) in
     let at = slice_get_read c.loop-i.items.items (length c.loop-i.items.items) c.loop-i.i c.index.result.now refl inside c.index.ensures in
-    c.requires c.index.result.now.shape (opposite_here g.P.Shape c.loop-i.i c.args.items.now.items c.loop-i.items.items c.index.result.now c.loop-i.invariant at)
+    c.requires c.index.result.now.shape
+    (opposite_here g.P.Shape c.loop-i.i c.args.items.now.items c.loop-i.items.items c.index.result.now c.loop-i.invariant at)
 
 pub loop-i-preserved : goal.loop-i-preserved
 loop-i-preserved g c =

@@ -1,4 +1,4 @@
-use Rattle.std.proofs.Common.{◌≡◌, ◌^◌, sym, ◌∙◌}
+use Rattle.std.proofs.Common.{◌^◌, sym, ◌∙◌}
 use Rattle.std.proofs.lemmas.Bool.{false≢true}
 use Rattle.frac128.specs.Cuts.{place}
 use Rattle.pieces.proofs.Lasts.{last_within, put_same, put_left, put_new}

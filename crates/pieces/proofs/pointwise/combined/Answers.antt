@@ -11,13 +11,14 @@ use Rattle.frac128.specs.Cuts.{place}
 use Rattle.pl_signal.specs.Joining.{ChosenOf}
 use Rattle.pl_signal.specs.declared.faults.OpFault.TheVariants as F
 use Rattle.pl_signal.proofs.Kept.{fault_kept}
-use Rattle.pieces.specs.Chains.{Chain, IsWorth, HasShape, end, stop}
+use Rattle.pieces.specs.Chains.{IsWorth, HasShape, end, stop}
 use Rattle.pieces.specs.Joining.{IsJoinFault}
 use Rattle.pieces.proofs.Ends.{after_of_lt, upto_of_lt, at_most_itself, at_most_of_before, at_most_trans, same_place}
 use Rattle.pieces.proofs.BuildingLemmas.{chain_of}
 use Rattle.pieces.proofs.ChainLemmas.{to_stop}
 use Rattle.pieces.proofs.Telling.{chosen_is_function, worth_is_function, tells_none, told}
-use Rattle.pieces.proofs.Standing.{StandsAt, stands_first, stands_next, stands_last, stands_inside, stands_before, is_inside, shape_at, level_at, end_within, end_most, worth_on}
+use Rattle.pieces.proofs.Standing.{StandsAt, stands_first, stands_next, stands_last, stands_inside, stands_before, is_inside, shape_at}
+use Rattle.pieces.proofs.Standing.{level_at, end_within, end_most, worth_on}
 use Rattle.pieces.proofs.CombiningLemmas.{JoinsBoth, joined_shapes, tells_joined, fault_of_parts, nearer}
 use Rattle.pieces.proofs.pointwise.combined.Given.{Over}
 use Rattle.pieces.proofs.pointwise.combined.Goals.{After-of-next}
@@ -98,7 +99,8 @@ returns-in-Err-clause-wide g c =
     let step = (goal.at.returns-in-Err-clause-wide g c).After-of-next in
     fault_kept (IsJoinFault g.P.Shape c.args.a.now c.args.b.now) c.fault_of.result c.join.new.fault c.fault_of.ensures tt
     (IfSome_then c.join.new.fault c.in-Err.ensures.wide (λ pair (from, at, fault).
-    fault_of_parts g.P.Shape c.args.a.now c.args.b.now c.piece-p.result.now.shape c.piece-q.result.now.shape from c.of-next.result.until.time (F.Wide pair) fault
+    fault_of_parts g.P.Shape c.args.a.now c.args.b.now c.piece-p.result.now.shape c.piece-q.result.now.shape from c.of-next.result.until.time
+    (F.Wide pair) fault
     (subst (λ s. c.args.a.now.from.at ≤ʳ s) (sym at) (le_of_at_most c.args.a.now.from (stop c.loop-i.built) c.loop-i.invariant.above))
     (le_of_at_most (place c.of-next.result.until) (stop c.args.a.now) (below g step))
     (shape_at c.args.a.now.pieces c.loop-i.i c.piece-p.result.now c.piece-p.ensures)

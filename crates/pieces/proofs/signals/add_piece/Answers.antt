@@ -1,4 +1,4 @@
-use Rattle.std.proofs.Common.{◌≡◌, inl, inr, Some, refl, sym, ◌∙◌, subst}
+use Rattle.std.proofs.Common.{inl, inr, refl, sym, ◌∙◌, subst}
 use Rattle.std.proofs.lemmas.Result.{on_ok_weaker}
 use Rattle.rational.proofs.Order.{lt_of_le_of_lt, ge_of_same}
 use Rattle.frac128.specs.Value.{value}
@@ -15,7 +15,13 @@ returns-in-Less g c =
     on_ok_weaker c.step.result
     (λ on p e. subst (λ p. IsAdded g.P.Shape c.args.chain.now (value c.args.at.now.time) p c.args.built.now c.step.new.self)
     (some_is (sym c.piece-piece.ensures ∙ e))
-    (inr (c.in-Less.ensures, c.shape_at_end.result, c.shape_at_end.ensures.shape, c.shape_at_end.ensures.worth c.piece-piece.result.now c.piece-piece.ensures, on)))
+    (inr (
+      c.in-Less.ensures,
+      c.shape_at_end.result,
+      c.shape_at_end.ensures.shape,
+      c.shape_at_end.ensures.worth c.piece-piece.result.now c.piece-piece.ensures,
+      on,
+    )))
     c.step.ensures.ok
 
 pub returns-in_default : goal.returns-in_default

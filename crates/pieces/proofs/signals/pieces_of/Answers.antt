@@ -1,4 +1,4 @@
-use Rattle.std.proofs.Common.{◌≡◌, ◌⊎◌, inl, inr, [], ◌+◌, ◌-◌, ◌<◌, ◌^◌, Some, length, refl, sym, ◌∙◌, ap, subst, arith}
+use Rattle.std.proofs.Common.{◌≡◌, inl, inr, [], ◌-◌, ◌^◌, Some, sym, ◌∙◌, ap, subst, arith}
 use Rattle.std.specs.Prelude.{slice_get}
 use Rattle.rational.specs.Places.{Before, Same}
 use Rattle.rational.proofs.Order.{same_refl, same_sym}
@@ -11,9 +11,9 @@ use Rattle.pl_signal.proofs.Telling as so_far
 use Rattle.pl_signal.proofs.Moving.{limited_at, first_is, last_of}
 use Rattle.pieces.specs.Chains.{HasShape, stop}
 use Rattle.pieces.specs.Knots.{before, after}
-use Rattle.pieces.proofs.Ends.{same_place, only_time}
+use Rattle.pieces.proofs.Ends.{same_place}
 use Rattle.pieces.proofs.BuildingLemmas.{chain_of}
-use Rattle.pieces.proofs.Telling.{tells_none, tells_on, told}
+use Rattle.pieces.proofs.Telling.{tells_none, told}
 use Rattle.pieces.proofs.KnotLemmas.{tells_knot, ends_knot, just_later, tells_last}
 use Rattle.pieces.proofs.signals.pieces_of.Given.{Over}
 use Rattle.pieces.proofs.signals.pieces_of.Goals.{After-knot_in_place-end}
@@ -101,9 +101,11 @@ returns-clause-worth g c =
     c.loop-i.invariant.tells (last_ends g (goal.at.returns-clause-worth g c).After-knot_in_place-end)
     (worth_at g.P.Shape c.args.signal.now (c.len-last.result - 1) c.knot_in_place-end.result.now (knots.time c.knot_in_place-end.result.now)
     c.knot_in_place-end.ensures (same_refl (knots.time c.knot_in_place-end.result.now))) on)
-    (subst (λ s. Same s (before (knots.start c.args.signal.now))) (sym (on.begins ∙ c.loop-i.invariant.begins)) (same_place (before (knots.start c.args.signal.now))))
+    (subst (λ s. Same s (before (knots.start c.args.signal.now))) (sym (on.begins ∙ c.loop-i.invariant.begins))
+    (same_place (before (knots.start c.args.signal.now))))
     (subst (λ s. Same s (after (knots.stop c.args.signal.now))) (sym (on.ends ∙ ap (λ u. place u) c.just_after.ensures))
-    (subst (λ t. Same (after (knots.time c.knot_in_place-end.result.now)) (after t)) (sym stops) (same_place (after (knots.time c.knot_in_place-end.result.now)))))
+    (subst (λ t. Same (after (knots.time c.knot_in_place-end.result.now)) (after t)) (sym stops)
+    (same_place (after (knots.time c.knot_in_place-end.result.now)))))
 
 pub returns-clause-shapes : goal.returns-clause-shapes
 returns-clause-shapes g c = λ p h. elim (c.in_ok-put.ensures.ok.shapes p h) [

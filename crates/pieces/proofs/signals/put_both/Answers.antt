@@ -1,4 +1,4 @@
-use Rattle.std.proofs.Common.{◌≡◌, ◌^◌, inl, inr, ◌∙◌, ap, sym, subst}
+use Rattle.std.proofs.Common.{◌^◌, inl, ◌∙◌, ap, sym, subst}
 use Rattle.std.proofs.lemmas.Result.{on_ok_weaker}
 use Rattle.rational.specs.Rational.{IsWithin}
 use Rattle.rational.specs.Places.{Before}
@@ -8,7 +8,6 @@ use Rattle.frac128.specs.Value.{value}
 use Rattle.frac128.specs.Cuts.{place}
 use Rattle.pieces.specs.Building.{GoesOn}
 use Rattle.pieces.specs.Chains.{stop}
-use Rattle.pieces.specs.Knots.{after}
 use Rattle.pieces.proofs.KnotLemmas.{just_later}
 use Rattle.pieces.proofs.signals.put_both.Goals as goal
 
@@ -24,10 +23,16 @@ put-requires-2-clause-limited g c = subst (λ s. IsWithin (2 ^ 34) s.at) (sym (c
     c.requires.from_within
 
 pub put-requires-2-clause-later : goal.put-requires-2-clause-later
-put-requires-2-clause-later g c = subst (λ s. Before s (place c.args.until.now)) (sym (c.in_ok-put.ensures.ok.ends ∙ ap (λ u. place u) c.just_after-here.ensures))
+put-requires-2-clause-later g c =
+    subst (λ s. Before s (place c.args.until.now)) (sym (c.in_ok-put.ensures.ok.ends ∙ ap (λ u. place u) c.just_after-here.ensures))
     (inl c.requires.order)
 
 pub returns : goal.returns
 returns g c = on_ok_weaker c.put-2.result
-    (λ on. (c.put.new.self, subst (λ u. GoesOn g.P.Shape c.args.built.now u c.args.knot.now.point c.put.new.self) c.just_after-here.ensures c.in_ok-put.ensures.ok, on))
+    (λ on. (
+      c.put.new.self,
+      subst (λ u. GoesOn g.P.Shape c.args.built.now u c.args.knot.now.point c.put.new.self)
+          c.just_after-here.ensures c.in_ok-put.ensures.ok,
+      on,
+    ))
     c.put-2.ensures.ok

@@ -1,4 +1,4 @@
-use Rattle.std.proofs.Common.{◌≡◌, ◌^◌, inl, inr}
+use Rattle.std.proofs.Common.{◌^◌, inl, inr}
 use Rattle.std.proofs.lemmas.Result.{on_ok_weaker}
 use Rattle.rational.proofs.Order.{same_sym, le_of_same, lt_of_le_of_lt}
 use Rattle.rational.proofs.Mixed.{within_same}

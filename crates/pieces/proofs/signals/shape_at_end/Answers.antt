@@ -1,5 +1,4 @@
-use Rattle.std.proofs.Common.{◌≡◌, ◌+◌, ◌<◌, length, Some, refl, sym, ◌∙◌, ap, subst}
-use Rattle.std.specs.Prelude.{slice_get}
+use Rattle.std.proofs.Common.{◌+◌, sym, ◌∙◌, subst}
 use Rattle.rational.specs.Extended.{value_at}
 use Rattle.pl_signal.proofs.Values.{some_is}
 use Rattle.pieces.specs.Chains.{IsWorth, end}

@@ -1,7 +1,6 @@
-use Rattle.std.proofs.Common.{◌≡◌, ◌+◌, ◌<◌, ◌≤◌, ◌^◌, suc, length, Some, refl, sym, ◌∙◌, ap, subst, arith}
-use Rattle.std.specs.Prelude.{slice_get}
+use Rattle.std.proofs.Common.{◌≡◌, ◌+◌, ◌^◌, suc, length, sym, ◌∙◌, ap, subst, arith}
 use Rattle.rational.specs.Rational.{IsWithin}
-use Rattle.rational.specs.Time.{◌≈◌, ◌≤ʳ◌, ◌<ʳ◌}
+use Rattle.rational.specs.Time.{◌≈◌, ◌<ʳ◌}
 use Rattle.rational.specs.Places.{Before}
 use Rattle.rational.proofs.Order.{same_refl, same_sym}
 use Rattle.rational.proofs.Mixed.{within_same, within_between}
@@ -11,7 +10,7 @@ use Rattle.frac128.specs.Cuts.{place}
 use Rattle.pl_signal.specs.Knots as knots
 use Rattle.pl_signal.specs.Moves as moves
 use Rattle.pl_signal.proofs.Telling as so_far
-use Rattle.pieces.specs.Chains.{HasShape, IsWorth, end, stop}
+use Rattle.pieces.specs.Chains.{IsWorth, end, stop}
 use Rattle.pieces.proofs.Ends.{at_most_of_before, at_most_trans}
 use Rattle.pieces.proofs.Telling.{worth_is_function}
 use Rattle.pieces.proofs.Standing.{begin_at, begin_most, next_begin, last_begin, rises_at, end_most, shape_at}

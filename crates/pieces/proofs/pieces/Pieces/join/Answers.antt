@@ -1,15 +1,10 @@
-use Rattle.std.proofs.Common.{◌≡◌, ◌∙◌, Bool, true, false, if◌then◌else◌, ap, sym, subst}
+use Rattle.std.proofs.Common.{if◌then◌else◌, ap, sym, subst}
 use Rattle.std.proofs.lemmas.Option.{IfSome_then}
 use Rattle.std.proofs.lemmas.Result.{on_ok_weaker, on_err_weaker}
 use Rattle.rational.specs.Places.{Before}
 use Rattle.frac128.specs.Value.{value}
 use Rattle.frac128.specs.Cuts.{place}
-use Rattle.frac128.specs.declared.frac.Frac.{Frac}
-use Rattle.pl_signal.specs.declared.faults.OpFault.TheVariants as F
-use Rattle.pl_signal.specs.Joining.{IsGapFault}
 use Rattle.pl_signal.proofs.JoiningLemmas.{turns_over}
-use Rattle.pl_signal.proofs.Kept.{none_kept}
-use Rattle.pieces.specs.Chains.{stop}
 use Rattle.pieces.specs.Joining.{IsTakenOn}
 use Rattle.pieces.proofs.JoiningLemmas.{joins_alone, turned_apart}
 use Rattle.pieces.proofs.pieces.Pieces.join.Goals as goal

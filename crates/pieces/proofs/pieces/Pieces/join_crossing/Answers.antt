@@ -1,4 +1,4 @@
-use Rattle.std.proofs.Common.{◌≡◌, ◌^◌, ◌∙◌, ap, subst, sym}
+use Rattle.std.proofs.Common.{◌^◌, ◌∙◌, ap, subst}
 use Rattle.rational.specs.Affine.{MeetAlone}
 use Rattle.rational.proofs.Order.{le_of_lt}
 use Rattle.rational.proofs.Mixed.{within_between}
@@ -43,6 +43,6 @@ returns-clause-ok g c side turn =
     c.crossing.result c.in_ok-time.time c.in_ok-time.ensures.ok c.crossing.ensures.met in
     let old = ap (λ ps. chain_of (place c.self.inside.from) ps) c.reserve.ensures.items ∙ c.self.view_is in
     let (half, on, on') = c.put_two-2.ensures in
-    joins_crossing_back g.P.Shape side c.args.self.now half (chain_of (place c.self.inside.from) c.put_two-2.new.items.items) c.args.p.now c.args.q.now c.args.first
-    (place c.args.from.now) (record { time = c.in_ok-time.time; side = 0 }) c.args.until.now c.if-first.false c.requires.begins turn meet
+    joins_crossing_back g.P.Shape side c.args.self.now half (chain_of (place c.self.inside.from) c.put_two-2.new.items.items)
+    c.args.p.now c.args.q.now c.args.first (place c.args.from.now) (record { time = c.in_ok-time.time; side = 0 }) c.args.until.now c.if-first.false c.requires.begins turn meet
     (subst (λ o. GoesOn g.P.Shape o (record { time = c.in_ok-time.time; side = 0 }) c.args.q.now half) old on) on'
