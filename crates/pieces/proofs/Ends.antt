@@ -1,0 +1,75 @@
+-- Times behind and before places.
+use Rattle.std.proofs.Common.{Bool, true, false, refl}
+use Rattle.std.specs.Prelude.{MatchBool}
+use Rattle.rational.specs.Time.{Rational, ◌≤ʳ◌, ◌<ʳ◌, ◌≈◌}
+use Rattle.rational.specs.Places.{Place, After, Upto, Before, Same, AtMost}
+use Rattle.rational.proofs.Order.{le_of_lt, le_trans, le_of_same, ge_of_same, lt_of_lt_of_le, lt_of_le_of_lt, same_of_le, same_refl}
+use Rattle.rational.proofs.PlaceLemmas.{upto_of_before, upto_same}
+
+-- what lies behind a place is no earlier than its time
+pub after_le : (c : Place) (t : Rational) → After c t → c.at ≤ʳ t
+after_le c t = by_side c.after
+  where
+    by_side : (b : Bool) → MatchBool b (c.at <ʳ t) (c.at ≤ʳ t) → c.at ≤ʳ t
+    by_side true h = le_of_lt h
+    by_side false h = h
+
+-- what lies before a place is no later than its time
+pub upto_le : (c : Place) (t : Rational) → Upto c t → t ≤ʳ c.at
+upto_le c t = by_side c.after
+  where
+    by_side : (b : Bool) → MatchBool b (t ≤ʳ c.at) (t <ʳ c.at) → t ≤ʳ c.at
+    by_side true h = h
+    by_side false h = le_of_lt h
+
+-- what is later than a place's time lies behind it
+pub after_of_lt : (c : Place) (t : Rational) → c.at <ʳ t → After c t
+after_of_lt c t h = by_side c.after
+  where
+    by_side : (b : Bool) → MatchBool b (c.at <ʳ t) (c.at ≤ʳ t)
+    by_side true = h
+    by_side false = le_of_lt h
+
+-- what is earlier lies before it
+pub upto_of_lt : (c : Place) (t : Rational) → t <ʳ c.at → Upto c t
+upto_of_lt c t h = by_side c.after
+  where
+    by_side : (b : Bool) → MatchBool b (t ≤ʳ c.at) (t <ʳ c.at)
+    by_side true = le_of_lt h
+    by_side false = h
+
+-- by another pair for the time
+pub after_time_same : (c : Place) (t u : Rational) → t ≈ u → After c t → After c u
+after_time_same c t u e = by_side c.after
+  where
+    by_side : (b : Bool) → MatchBool b (c.at <ʳ t) (c.at ≤ʳ t) → MatchBool b (c.at <ʳ u) (c.at ≤ʳ u)
+    by_side true h = lt_of_lt_of_le h (le_of_same e)
+    by_side false h = le_trans h (le_of_same e)
+
+pub upto_time_same : (c : Place) (t u : Rational) → t ≈ u → Upto c t → Upto c u
+upto_time_same c t u e = by_side c.after
+  where
+    by_side : (b : Bool) → MatchBool b (t ≤ʳ c.at) (t <ʳ c.at) → MatchBool b (u ≤ʳ c.at) (u <ʳ c.at)
+    by_side true h = le_trans (ge_of_same e) h
+    by_side false h = lt_of_le_of_lt (ge_of_same e) h
+
+-- between two places at one time there is that time alone
+pub only_time : (c d : Place) (t : Rational) → c.at ≈ d.at → After c t → Upto d t → t ≈ d.at
+only_time c d t e a u = same_of_le (upto_le d t u) (le_trans (ge_of_same e) (after_le c t a))
+
+-- a place is at most itself, and at most each that it comes before, or that is the same
+pub at_most_itself : (c : Place) → AtMost c c
+at_most_itself c t u = u
+
+pub at_most_of_before : (c d : Place) → Before c d → AtMost c d
+at_most_of_before c d h t u = upto_of_before c d t h u
+
+pub at_most_of_same : (c d : Place) → Same c d → AtMost c d
+at_most_of_same c d h t u = upto_same c d t h u
+
+pub at_most_trans : (c d e : Place) → AtMost c d → AtMost d e → AtMost c e
+at_most_trans c d e h k t u = k t (h t u)
+
+-- a place is the same as itself
+pub same_place : (c : Place) → Same c c
+same_place c = (same_refl c.at, refl)

@@ -1,0 +1,10 @@
+pub mod Ends
+pub mod ChainLemmas
+pub mod BuildingLemmas
+pub mod Lasts
+pub mod Telling
+pub mod JoiningLemmas
+pub mod Standing
+pub mod CombiningLemmas
+pub mod Negating
+pub mod KnotLemmas

@@ -1,0 +1,31 @@
+use Rattle.std.proofs.Common.{inl, inr, refl, sym, ◌∙◌, subst}
+use Rattle.std.proofs.lemmas.Result.{on_ok_weaker}
+use Rattle.rational.proofs.Order.{lt_of_le_of_lt, ge_of_same}
+use Rattle.frac128.specs.Value.{value}
+use Rattle.pl_signal.proofs.Values.{some_is}
+use Rattle.pieces.specs.Knots.{IsAdded}
+use Rattle.pieces.proofs.KnotLemmas.{not_less}
+use Rattle.pieces.proofs.signals.add_piece.Goals as goal
+
+pub step-requires-clause-later : goal.step-requires-clause-later
+step-requires-clause-later g c = lt_of_le_of_lt (ge_of_same c.requires.here) c.in-Less.ensures
+
+pub returns-in-Less : goal.returns-in-Less
+returns-in-Less g c =
+    on_ok_weaker c.step.result
+    (λ on p e. subst (λ p. IsAdded g.P.Shape c.args.chain.now (value c.args.at.now.time) p c.args.built.now c.step.new.self)
+    (some_is (sym c.piece-piece.ensures ∙ e))
+    (inr (
+      c.in-Less.ensures,
+      c.shape_at_end.result,
+      c.shape_at_end.ensures.shape,
+      c.shape_at_end.ensures.worth c.piece-piece.result.now c.piece-piece.ensures,
+      on,
+    )))
+    c.step.ensures.ok
+
+pub returns-in_default : goal.returns-in_default
+returns-in_default g c = λ p e.
+    subst (λ p. IsAdded g.P.Shape c.args.chain.now (value c.args.at.now.time) p c.args.built.now c.args.built.now)
+    (some_is (sym c.piece-piece.ensures ∙ e))
+    (inl (not_less c.cmp.result (value c.args.at.now.time) (value c.piece-piece.result.now.until.time) c.cmp.ensures c.in_default.not-Less, refl))

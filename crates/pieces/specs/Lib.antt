@@ -1,0 +1,5 @@
+pub mod Chains
+pub mod Building
+pub mod Joining
+pub mod Negating
+pub mod Knots

@@ -1,0 +1,18 @@
+//! Functions of time as pieces, each up to a place: just before a time, or just after it.
+//!
+//! With places a time and the gap behind it need no parts of their own, so an operator takes one step from end to end. A signal of
+//! knots says the same (`signals`): the crates above can go over to pieces one at a time.
+#![tactic(auto)]
+
+mod joining;
+mod negation;
+mod next;
+mod piece;
+mod pieces;
+mod pointwise;
+mod signals;
+
+pub use piece::Piece;
+pub use pieces::Pieces;
+pub use pointwise::{lower, upper};
+pub use signals::{pieces_of, signal_of};
