@@ -86,22 +86,11 @@ module _ (nodes : List Node) (header : Header) where
   takes_run s (suc n) = (tt, takes_run s n)
 
   -- an event that may come, and the steps
-  pub run_steps : (each : List Event) (e : Event) → IsRun nodes header each → MayCome nodes header (state_from nodes initial each) e
+  run_steps : (each : List Event) (e : Event) → IsRun nodes header each → MayCome nodes header (state_from nodes initial each) e
       → IsRun nodes header (each ++ e ∷ steps_of 0 nodes)
   run_steps each e run may =
       run_append nodes header initial each (e ∷ steps_of 0 nodes) run
       (may, steps_run 0 [] nodes refl refl (after_event nodes (state_from nodes initial each) e))
-
-  -- and takes
-  pass_run : (each : List Event) (e : Event) (n : ℕ) → IsRun nodes header each → MayCome nodes header (state_from nodes initial each) e
-      → IsRun nodes header (each ++ e ∷ (steps_of 0 nodes ++ takes n))
-  pass_run each e n run may =
-      run_append nodes header initial each (e ∷ (steps_of 0 nodes ++ takes n)) run (
-        may,
-        run_append nodes header (after_event nodes (state_from nodes initial each) e) (steps_of 0 nodes) (takes n)
-            (steps_run 0 [] nodes refl refl (after_event nodes (state_from nodes initial each) e))
-            (takes_run (state_from nodes (after_event nodes (state_from nodes initial each) e) (steps_of 0 nodes)) n),
-      )
 
   -- n verdicts more are taken
   take_more : (events : List Event) (m n : ℕ) (vs : List Verdict) → IsTaken nodes header events m → Emitted nodes header events (length nodes - 1) vs
@@ -123,7 +112,8 @@ module _ (nodes : List Node) (header : Header) where
     -- and all this may come
     pub run : IsRun nodes header (each ++ pass_of e nodes made)
 
-  pub passed : (each : List Event) (e : Event) → e ≢ taken → IsRun nodes header each → MayCome nodes header (state_from nodes initial each) e
+  -- so it is where the root's list is there
+  passed : (each : List Event) (e : Event) → e ≢ taken → IsRun nodes header each → MayCome nodes header (state_from nodes initial each) e
       → IsEmptied nodes header each → (vs : List Verdict) → Emitted nodes header (each ++ e ∷ steps_of 0 nodes) (length nodes - 1) vs → HasPassed each e
   passed each e ne run may x vs em =
       let path : (each ++ e ∷ steps_of 0 nodes) ++ takes (length vs - x.taken) ≡ each ++ pass_of e nodes (length vs - x.taken) =
@@ -141,7 +131,9 @@ module _ (nodes : List Node) (header : Header) where
           is_emitted = emitted_takes nodes header (length nodes - 1) (each ++ e ∷ steps_of 0 nodes) (length vs - x.taken) vs em;
           all = all;
         });
-        run = pass_run each e (length vs - x.taken) run may;
+        run = subst (λ l. IsRun nodes header l) path
+            (run_append nodes header initial (each ++ e ∷ steps_of 0 nodes) (takes (length vs - x.taken)) (run_steps each e run may)
+            (takes_run (state_from nodes initial (each ++ e ∷ steps_of 0 nodes)) (length vs - x.taken)));
       }
 
 module _ (nodes : List Node) (header : Header) (order : IsPostOrder nodes) (rows : List Row) (ended : Bool) (events : List Event)
@@ -149,7 +141,7 @@ module _ (nodes : List Node) (header : Header) (order : IsPostOrder nodes) (rows
   abbrev at : List Event → State
   at es = state_from nodes initial es
 
-  abbrev pub all_rows : Trace
+  abbrev all_rows : Trace
   all_rows = record { header = header; rows = rows }
 
   rows_are : (at events).rows ≡ rows

@@ -46,7 +46,7 @@ module _ (nodes : List Node) (header : Header) (order : IsPostOrder nodes) (i : 
       (Describes vs p (record { header = header; rows = new.rows }) (answered (first_time new.rows) (shown old i) f))
 
   -- a front that is shown does not fall
-  pub rises_on : (s : State) (events : List Event) → IsRunFrom nodes header s events → IsSound nodes header order s
+  rises_on : (s : State) (events : List Event) → IsRunFrom nodes header s events → IsSound nodes header order s
       → NeverLess (shown s i) (shown (state_from nodes s events) i)
   rises_on s [] r h g x = (g, x, omega (arith, ints))
   rises_on s (e ∷ events) r h g x =

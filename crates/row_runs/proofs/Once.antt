@@ -114,7 +114,8 @@ module _ (nodes : List Node) (header : Header) (i : ℕ) where
         by_front (Some f) x =
             let bound = h.bounded i f l x in
             shown_by s i (first_time s.rows) (Some f) refl x
-            ∙ sym (shown_by (after_event nodes s (row r)) i (first_time s.rows) (Some f) (first_same nodes header order s (row r) bound.last bound.is_last) (kept ∙ x))
+            ∙ sym (shown_by (after_event nodes s (row r)) i (first_time s.rows) (Some f)
+            (first_same nodes header order s (row r) bound.last bound.is_last) (kept ∙ x))
 
     -- so do rows before other events
     pub once_rows : (more : List Row) (events : List Event) (s : State) → IsRunFrom nodes header s (rows_of more ++ events) → IsSound nodes header order s

@@ -13,7 +13,7 @@ use Rattle.stl_syntax.specs.declared.node.Node.{Node}
 use Rattle.stl_syntax.proofs.RowsLemmas.{row_later}
 use Rattle.stl_syntax.proofs.VerdictsLaw.{alike_length}
 use Rattle.stl_syntax.proofs.WellFormedLemmas.{root_some}
-use Rattle.online_nodes.specs.Network.{Event, row, close, State, last_row, node_is_atom, initial, after_event, state_from, state, shown, reach_back}
+use Rattle.online_nodes.specs.Network.{Event, Front, row, close, State, last_row, node_is_atom, initial, after_event, state_from, state, shown, reach_back}
 use Rattle.online_nodes.specs.Network.{MayCome, IsRunFrom, IsRun, Emitted}
 use Rattle.online_nodes.specs.Needed.{AreNeeded, IsEdge, IsRootEdge}
 use Rattle.online_nodes.specs.Driven.{rows_of, pass_of, IsEmptied, IsDriven, nothing as no_rows, by_rows as by_block, by_end as driven_end}
@@ -100,6 +100,20 @@ module _ (nodes : List Node) (header : Header) (order : IsPostOrder nodes) (one 
       width [] k = k.0
       width (r ∷ l) k = row_width (length header.columns) r.time l q later k.1
 
+  -- at a row an atom gives out the same, whether a step of every node follows or not
+  atom_row : {done : List Row} {each : List Event} (q : Row) (n : ℕ) → IsBuilt done false each
+      → IsBuilt (done ++ q ∷ []) false (each ++ pass_of (row q) nodes n) → (i : ℕ) → i < length nodes → node_is_atom nodes i ≡ true → (a : List Event)
+      → IsRun nodes header (a ++ row q ∷ []) → (at a).rows ≡ done → GivesMerged nodes header i a each
+      → GivesMerged nodes header i (a ++ row q ∷ []) (each ++ pass_of (row q) nodes n)
+  atom_row {done} {each} q n b c i l x a run same g =
+      let rows_same = (built_at c).rows_are ∙ sym (ap (λ (z : State). z.rows) (one_more nodes header initial a (row q)) ∙ ap (λ k. k ++ q ∷ []) same) in
+      let was = atom_shown i l x (at each) (at a) (sound each b.run) (sound a (run_split nodes header initial a (row q ∷ []) run).0)
+      ((built_at b).rows_are ∙ sym same) in
+      let now = atom_shown i l x (at (each ++ pass_of (row q) nodes n)) (at (a ++ row q ∷ [])) (sound (each ++ pass_of (row q) nodes n) c.run)
+      (sound (a ++ row q ∷ []) run) rows_same in
+      merged_on nodes header order i l a (row q ∷ []) (a ++ row q ∷ []) each (pass_of (row q) nodes n) (each ++ pass_of (row q) nodes n)
+      refl refl run c.run rows_same was now (inr tt) g
+
   module _ (rows : List Row) (events : List Event) (driven : IsDriven nodes header rows false events) (run : IsRun nodes header events) (some : rows ≢ [])
     where
       -- one row more
@@ -152,26 +166,14 @@ module _ (nodes : List Node) (header : Header) (order : IsPostOrder nodes) (one 
                 more = pass_of (row q) nodes n ++ r.more;
                 is = r.is ∙ append_assoc each (pass_of (row q) nodes n) r.more;
                 built = subst (λ k. IsBuilt k false r.next) (append_assoc done (q ∷ []) todo) r.built;
-                atoms = λ i l x a run' same g. by_atom n c r i l x a run' same g;
+                atoms = λ i l x a run' same g.
+                    let path = append_assoc a (row q ∷ []) (rows_of todo) in
+                    let run_q = subst (λ es. IsRun nodes header es) (sym path) run' in
+                    let first = (run_split nodes header initial (a ++ row q ∷ []) (rows_of todo) run_q).0 in
+                    let rows_a = ap (λ (z : State). z.rows) (one_more nodes header initial a (row q)) ∙ ap (λ k. k ++ q ∷ []) same in
+                    subst (λ es. GivesMerged nodes header i es r.next) path
+                    (r.atoms i l x (a ++ row q ∷ []) run_q rows_a (atom_row q n b c i l x a first same g));
               }
-            where
-              by_atom : (n : ℕ) (c : IsBuilt (done ++ q ∷ []) false (each ++ pass_of (row q) nodes n)) (r : Built (done ++ q ∷ []) todo (each ++ pass_of (row q) nodes n))
-                  (i : ℕ) → i < length nodes → node_is_atom nodes i ≡ true → (a : List Event) → IsRun nodes header (a ++ row q ∷ rows_of todo)
-                  → (at a).rows ≡ done → GivesMerged nodes header i a each → GivesMerged nodes header i (a ++ row q ∷ rows_of todo) r.next
-              by_atom n c r i l x a run' same g =
-                  let path : (a ++ row q ∷ []) ++ rows_of todo ≡ a ++ row q ∷ rows_of todo = append_assoc a (row q ∷ []) (rows_of todo) in
-                  let run_q = subst (λ es. IsRun nodes header es) (sym path) run' in
-                  let first = (run_split nodes header initial (a ++ row q ∷ []) (rows_of todo) run_q).0 in
-                  let before = (run_split nodes header initial a (row q ∷ []) first).0 in
-                  let rows_a : (at (a ++ row q ∷ [])).rows ≡ done ++ q ∷ [] =
-                  ap (λ (z : State). z.rows) (one_more nodes header initial a (row q)) ∙ ap (λ k. k ++ q ∷ []) same in
-                  let rows_same : (at (each ++ pass_of (row q) nodes n)).rows ≡ (at (a ++ row q ∷ [])).rows = (built_at c).rows_are ∙ sym rows_a in
-                  let was = atom_shown i l x (at each) (at a) (sound each b.run) (sound a before) ((built_at b).rows_are ∙ sym same) in
-                  let now = atom_shown i l x (at (each ++ pass_of (row q) nodes n)) (at (a ++ row q ∷ [])) (sound (each ++ pass_of (row q) nodes n) c.run)
-                  (sound (a ++ row q ∷ []) first) rows_same in
-                  let g' = merged_on nodes header order i l a (row q ∷ []) (a ++ row q ∷ []) each (pass_of (row q) nodes n) (each ++ pass_of (row q) nodes n)
-                  refl refl first c.run rows_same was now (inr tt) g in
-                  subst (λ es. GivesMerged nodes header i es r.next) path (r.atoms i l x (a ++ row q ∷ []) run_q rows_a g')
 
   -- ---- the whole run
 
@@ -221,7 +223,8 @@ module _ (nodes : List Node) (header : Header) (order : IsPostOrder nodes) (one 
 
           by_atom : (i : ℕ) → i < length nodes → (t : Bool) → node_is_atom nodes i ≡ t → GivesMerged nodes header i new next
           by_atom i l true x =
-              merged_on nodes header order i l (events ++ rows_of more) (pass_of (row r) nodes n) new g.next (pass_of (row r) nodes m) next refl refl run last.run
+              merged_on nodes header order i l (events ++ rows_of more) (pass_of (row r) nodes n) new g.next (pass_of (row r) nodes m) next refl refl
+              run last.run
               (same_rows driven last_driven)
               (atom_shown i l x (at g.next) (at (events ++ rows_of more)) (sound g.next g.built.run) (sound (events ++ rows_of more) run_rows.0)
               ((built_at g.built).rows_are ∙ sym rows_then))
@@ -273,8 +276,8 @@ module _ (nodes : List Node) (header : Header) (order : IsPostOrder nodes) (one 
       )
 
       p : HasPassed nodes header b.each close
-      p = pass_follows nodes header order rows true (events ++ pass_of close nodes n) driven run some (root_some nodes one) b.each close (λ x. (let k = x in cc))
-          b.built.run may (driven_emptied nodes header (driven_by_rows nodes header b.built.by_rows)) goes (λ c. refl)
+      p = pass_follows nodes header order rows true (events ++ pass_of close nodes n) driven run some (root_some nodes one) b.each close
+          (λ x. (let k = x in cc)) b.built.run may (driven_emptied nodes header (driven_by_rows nodes header b.built.by_rows)) goes (λ c. refl)
 
       last : IsBuilt rows true (b.each ++ pass_of close nodes p.made)
       last = record { run = p.run; by_rows = by_end p.made b.built.by_rows some p.emptied }
@@ -316,18 +319,11 @@ module _ (nodes : List Node) (header : Header) (order : IsPostOrder nodes) (one 
     unfolding state
     edges i l held edge =
         let (ws, en, merged) = given i l edge.emitted edge.is_emitted in
-        let same = same_shown driven by_rows_driven i l in
-        let rows_same = same_rows driven by_rows_driven in
-        let read = same_fronts driven by_rows_driven edge.reader (slice_get_within nodes edge.reader edge.reading edge.at_reader) in
-        let tiles = subst (λ o. IsWhole (first_time (at b.each).rows) o edge.emitted) (sym same)
-        (subst (λ r. IsWhole (first_time r) (shown (at events) i) edge.emitted) (sym rows_same)
-        (emitted_tiles nodes header order events run i l edge.emitted edge.is_emitted)) in
-        let needs = subst (λ o. AreNeeded (first_time (at b.each).rows) (shown (at b.each) i) o (reach_back edge.reading edge.left) edge.emitted held) (sym read)
-        (subst (λ o. AreNeeded (first_time (at b.each).rows) o ((at events).fronts edge.reader) (reach_back edge.reading edge.left) edge.emitted held) (sym same)
-        (subst (λ r. AreNeeded (first_time r) (shown (at events) i) ((at events).fronts edge.reader) (reach_back edge.reading edge.left) edge.emitted held)
-        (sym rows_same) edge.is_needed)) in
-        let n = needed_of (first_time (at b.each).rows) (shown (at b.each) i) ((at b.each).fronts edge.reader) (reach_back edge.reading edge.left) ws edge.emitted
-        held (emitted_tiles nodes header order b.each b.built.run i l ws en) tiles merged needs in
+        let n = needed_of (first_time (at b.each).rows) (shown (at b.each) i) ((at b.each).fronts edge.reader) (reach_back edge.reading edge.left) ws
+        edge.emitted held (emitted_tiles nodes header order b.each b.built.run i l ws en)
+        (moved (λ start shown reader. IsWhole start shown edge.emitted)
+        (emitted_tiles nodes header order events run i l edge.emitted edge.is_emitted)) merged
+        (moved (λ start shown reader. AreNeeded start shown reader (reach_back edge.reading edge.left) edge.emitted held) edge.is_needed) in
         record {
           parts = n.some;
           edge = record {
@@ -342,6 +338,15 @@ module _ (nodes : List Node) (header : Header) (order : IsPostOrder nodes) (one 
           };
           merged = n.merged;
         }
+      where
+        -- start, front and reader's number are the same in both runs
+        moved : (P : ℕ → Front → Front → Type 0) → P (first_time (at events).rows) (shown (at events) i) ((at events).fronts edge.reader)
+            → P (first_time (at b.each).rows) (shown (at b.each) i) ((at b.each).fronts edge.reader)
+        moved P h =
+            let read = same_fronts driven by_rows_driven edge.reader (slice_get_within nodes edge.reader edge.reading edge.at_reader) in
+            subst (λ q. P (first_time (at b.each).rows) (shown (at b.each) i) q) (sym read)
+            (subst (λ o. P (first_time (at b.each).rows) o ((at events).fronts edge.reader)) (sym (same_shown driven by_rows_driven i l))
+            (subst (λ r. P (first_time r) (shown (at events) i) ((at events).fronts edge.reader)) (sym (same_rows driven by_rows_driven)) h))
 
 pub runs_stand_for_rows : RunsStandForRows
 unfolding state
