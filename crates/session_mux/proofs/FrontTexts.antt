@@ -1,5 +1,5 @@
 -- What a session writes for first bytes whose last line has ended, where it writes a text for more bytes.
-use Rattle.std.proofs.Common.{◌≡◌, ◌⊎◌, inl, inr, ℕ, suc, ◌+◌, ◌-◌, ◌<◌, ◌≤◌, Bool, true, false}
+use Rattle.std.proofs.Common.{◌≡◌, ◌⊎◌, inl, inr, ℕ, ◌-◌, ◌<◌, ◌≤◌, Bool, false}
 use Rattle.std.proofs.Common.{List, [], ◌∷◌, ◌++◌, length, take, refl, sym, ap, ◌∙◌, subst, arith, append-nil, append_assoc, Option, Some, None}
 use Rattle.std.specs.Prelude.{All}
 use Rattle.std.proofs.lemmas.Bool.{false≢true, cases_lt}
@@ -7,16 +7,14 @@ use Rattle.std.proofs.lemmas.List.{take-append-le}
 use Rattle.std.proofs.lemmas.List.Elements.{All-head, All-tail}
 use Rattle.stl_syntax.specs.Formula.{Formula, root}
 use Rattle.stl_syntax.specs.Scaling.{scaled}
-use Rattle.stl_syntax.specs.Stream.{IsNewText, IsRowsText, IsStreamText}
+use Rattle.stl_syntax.specs.Stream.{IsNewText, IsRowsText}
 use Rattle.stl_syntax.specs.Trace.{Header, Row}
 use Rattle.stl_syntax.specs.declared.scale.Scale.{Scale}
 use Rattle.trace_reader.specs.TraceText.{Line, lines, Heading, AreRowLines, none as no_lines, blank, row, AreTraceLines, heading, scale_of}
 use Rattle.trace_reader.specs.InputFaults.{Fault, line_of, stream_limits, IsHeaderAt, here as at_first, later as at_later}
 use Rattle.trace_reader.specs.InputFaults.{IsInputFault, AreRowsBefore, sound, no_header_yet, faulted, faulted_header}
-use Rattle.trace_reader.specs.Reader.{header_of}
 use Rattle.trace_reader.proofs.LineLemmas.{IsDone}
 use Rattle.trace_reader.proofs.OpenLines.{Parts}
-use Rattle.report.specs.FaultTexts.{fault_text}
 use Rattle.report.proofs.StreamTexts.{IsLonger}
 use Rattle.trace_stream.specs.Streams.{verdicts}
 use Rattle.trace_stream.proofs.HeaderLines.{header_stays}
