@@ -71,8 +71,8 @@ impl Times {
             return None;
         }
         Some(Domain {
-            from: self.border(on, next),
-            to: self.turn_or_end(on, next),
+            from: *self.border(on, next),
+            to: *self.turn_or_end(on, next),
         })
     }
 
