@@ -1,10 +1,9 @@
 use Rattle.std.proofs.Common.{inl, inr, refl}
 use Rattle.rational.specs.Extended.{value_at}
 use Rattle.frac128.specs.Value.{value}
-use Rattle.rational.proofs.Order.{le_of_lt}
 use Rattle.rational.proofs.ExtendedLemmas.{le_of_ltᵉ}
-use Rattle.until_ops.proofs.CourseLemmas.{begins_top, not_above, sinks_of, climbs_of, below_on, by_right, only_course}
-use Rattle.until_ops.proofs.course.above.Goals as goal
+use Rattle.courses.proofs.CourseLemmas.{begins_top, not_above, sinks_of, climbs_of, below_on, by_right, only_course}
+use Rattle.courses.proofs.course.above.Goals as goal
 
 pub sunk-requires-clause-start : goal.sunk-requires-clause-start
 sunk-requires-clause-start g c =
@@ -41,6 +40,6 @@ returns-clause-ok g c =
     only_course g.P.Shape gap c.only.result gap.right c.only.ensures.side c.only.ensures.first c.only.ensures.second (inr (inl refl))
     (λ t v a b chosen. by_right (value_at (f gap.before) (value gap.from)) (f gap.left) (f gap.right)
     (value gap.from) t v low top start.is_low start.is_top
-    (climbs_of c.rises.result right c.rises.ensures c.in_default.not-Less (value gap.from) t (le_of_lt a))
+    (climbs_of c.rises.result right c.rises.ensures c.in_default.not-Less (value gap.from) t a)
     (below_on right (f gap.left) (value gap.from) t (value gap.to) c.requires.below a b)
     (not_above c.cmp_at-order.result low (value_at right (value gap.from)) c.cmp_at-order.ensures c.in_default-order.not-Greater) chosen)

@@ -3,11 +3,10 @@ use Rattle.std.specs.Prelude.{MatchBool}
 use Rattle.rational.specs.Onward.{IsBelow}
 use Rattle.rational.specs.Extended.{value_at}
 use Rattle.frac128.specs.Value.{value}
-use Rattle.rational.proofs.Order.{le_of_lt}
 use Rattle.rational.proofs.ExtendedLemmas.{le_transᵉ}
 use Rattle.rational.proofs.ExtendedLemmas.{greatest_of, least_of}
-use Rattle.until_ops.proofs.CourseLemmas.{begins_low, below_on, by_left, only_course, reached_top}
-use Rattle.until_ops.proofs.course.course_over.Goals as goal
+use Rattle.courses.proofs.CourseLemmas.{begins_low, below_on, by_left, only_course, reached_top}
+use Rattle.courses.proofs.course.course_over.Goals as goal
 
 pub returns-then-under-clause-ok : goal.returns-then-under-clause-ok
 returns-then-under-clause-ok g c =
@@ -35,7 +34,7 @@ returns-then-stays_under-clause-ok g c =
     c.only-then-stays_under.ensures.first c.only-then-stays_under.ensures.second (inl refl)
     (λ t v a b chosen. by_left (value_at (f gap.before) (value gap.from)) (f gap.left) (f gap.right)
     (value gap.from) t v low.0 top.0 low.1 top.1
-    (inl (le_transᵉ (value_at (f gap.left) t) (value_at (f gap.left) (value gap.from)) top.0 (stays.0 (value gap.from) t (le_of_lt a)) here)) chosen)
+    (inl (le_transᵉ (value_at (f gap.left) t) (value_at (f gap.left) (value gap.from)) top.0 (stays.0 (value gap.from) t a) here)) chosen)
 
 pub above-requires-clause-below : goal.above-requires-clause-below
 above-requires-clause-below g c =

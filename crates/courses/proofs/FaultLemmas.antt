@@ -1,6 +1,8 @@
 -- A fault told of signals that run back is one of the until.
-use Rattle.std.proofs.Common.{pos, sym, subst}
-use Rattle.rational.specs.Rational.{Rational, negate, subtract, whole, ◌≈◌}
+use Rattle.std.proofs.Common.{◌≤◌, ◌^◌, ℤ, pos, ◌-ℤ◌, arith, sym, subst}
+use Rattle.std.proofs.lemmas.Int.{ints}
+use Rattle.std.specs.Int.RustNames.{unsigned_abs}
+use Rattle.rational.specs.Rational.{Rational, negate, subtract, whole, IsWithin, ◌≈◌}
 use Rattle.rational.specs.Time.{Within}
 use Rattle.rational.specs.InPlay.{since_start, until_end}
 use Rattle.rational.specs.Windows.{Function}
@@ -9,14 +11,14 @@ use Rattle.rational.proofs.Field.{le_negate}
 use Rattle.rational.proofs.PlayBack.{AreBack, crossing_cause, value_cause}
 use Rattle.rational.proofs.RunningBack.{about_zero, turned_of}
 use Rattle.frac128.specs.Value.{value}
-use Rattle.value_laws.specs.Members.{ShapeOf}
+use Rattle.value_laws.specs.Members.{ShapeOf, ShapeLaws}
 use Rattle.pl_signal.specs.declared.faults.WidePair.{WidePair}
 use Rattle.pl_signal.specs.declared.faults.WidePair.TheVariants.{Cross, Value}
 use Rattle.pl_signal.specs.declared.faults.OpFault.{OpFault}
 use Rattle.pl_signal.specs.declared.faults.OpFault.TheVariants as F
-use Rattle.pl_signal.specs.Faults.{IsMirroredPair, IsPairwise}
+use Rattle.pl_signal.specs.Faults.{CanMirror, IsMirroredPair, IsPairwise, OfPair}
 use Rattle.pl_signal.specs.Wide.{HasCause, IsWideCause}
-use Rattle.until_ops.specs.Walks.{IsPairWithin, PairWithin}
+use Rattle.courses.specs.Pairs.{IsPairWithin, PairWithin}
 
 module _ {P P' Q Q' R R' : Function} {from to from' to' : Rational} (back : AreBack P P' Q Q' R R' from to from' to') where
   pair_back : {A : Type 0} (shape : ShapeOf A) (old new : WidePair A) → IsMirroredPair shape (pos 0) old new
@@ -53,3 +55,20 @@ pair_turned {A} shape (F.Wide old) new from to from' to' e f (pair, same, t) h =
     by_pair (Cross p q a b den) (p', q', a', b', is, x, y, s, s') h =
         subst (PairWithin from to) (sym is) (time_back (value a') (value b) s h.1, time_back (value b') (value a) s' h.0)
     by_pair (Value p at den) (p', at', is, x, s) h = subst (PairWithin from to) (sym is) (time_back (value at') (value at) s h)
+
+-- a fault with times in a domain within 2^34 may be mirrored about 0
+pub can_mirror : {A : Type 0} {shape : ShapeOf A} {from to : Rational} (laws : ShapeLaws shape) (e : OpFault A) → IsWithin (2 ^ 34) from → IsWithin (2 ^ 34) to
+    → IsPairWithin from to e → OfPair (CanMirror shape (pos 0)) e
+can_mirror {A} {shape} {from} {to} laws e low high h = by_fault e h
+  where
+    near : (t : Rational) → Within from to t → IsWithin (2 ^ 34) t
+    near t w = (le_trans low.0 w.above, le_trans w.below high.1)
+
+    size : (b : ℤ) → unsigned_abs b ≤ 2 ^ 34 → unsigned_abs (pos 0 -ℤ b) ≤ 2 ^ 34
+    size b h = omega (arith, ints, h)
+
+    by_fault : (e : OpFault A) → IsPairWithin from to e → OfPair (CanMirror shape (pos 0)) e
+    by_fault F.Memory h = tt
+    by_fault (F.Wide (Cross p q a b den)) h =
+        (size (shape.base p) (laws.base_within p), size (shape.base q) (laws.base_within q), near (value a) h.0, near (value b) h.1)
+    by_fault (F.Wide (Value p at den)) h = (size (shape.base p) (laws.base_within p), near (value at) h)

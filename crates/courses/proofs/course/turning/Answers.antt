@@ -1,8 +1,8 @@
 use Rattle.std.proofs.Common.{◌∙◌, refl, sym}
 use Rattle.rational.proofs.Order.{le_refl}
 use Rattle.frac128.specs.Value.{value}
-use Rattle.until_ops.proofs.CourseLemmas.{turned, unturned}
-use Rattle.until_ops.proofs.course.turning.Goals as goal
+use Rattle.courses.proofs.CourseLemmas.{turned, unturned}
+use Rattle.courses.proofs.course.turning.Goals as goal
 
 pub meeting-requires-clause-turned : goal.meeting-requires-clause-turned
 meeting-requires-clause-turned g c =

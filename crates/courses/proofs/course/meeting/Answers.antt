@@ -4,8 +4,8 @@ use Rattle.rational.proofs.Lists.{on_err_anyway}
 use Rattle.frac128.specs.Value.{value}
 use Rattle.pl_signal.specs.Joining.{IsGapFault}
 use Rattle.pl_signal.proofs.Kept.{good_of, kept_fault}
-use Rattle.until_ops.proofs.CourseLemmas.{meets}
-use Rattle.until_ops.proofs.course.meeting.Goals as goal
+use Rattle.courses.proofs.CourseLemmas.{meets}
+use Rattle.courses.proofs.course.meeting.Goals as goal
 
 pub returns-in_err-time-clause-wide : goal.returns-in_err-time-clause-wide
 returns-in_err-time-clause-wide g c =

@@ -5,12 +5,12 @@ use Rattle.std.specs.Prelude.{MatchBool}
 use Rattle.std.specs.Ordering.{MatchOrdering}
 use Rattle.std.specs.declared.cmp.Ordering.{Ordering}
 use Rattle.std.specs.declared.cmp.Ordering.TheVariants.{Less, Equal, Greater}
-use Rattle.rational.specs.Rational.{Rational, ◌<ʳ◌, ◌≤ʳ◌}
+use Rattle.rational.specs.Rational.{Rational, ◌<ʳ◌, ◌≤ʳ◌, ◌≈◌}
 use Rattle.rational.specs.Extended.{Extended, ◌≤ᵉ◌, ◌≈ᵉ◌, IsLeast, IsGreatest, Affine, value_at}
 use Rattle.rational.specs.Affine.{IsOrderᵉ, IsTrend, MeetAlone}
 use Rattle.rational.proofs.Order.{le_of_lt, le_or_lt, same_of_le}
 use Rattle.rational.proofs.ExtendedLemmas.{le_reflᵉ, le_transᵉ}
-use Rattle.rational.proofs.AffineLemmas.{value_same, lies_between}
+use Rattle.rational.proofs.AffineLemmas.{value_same, at_least_an_end}
 use Rattle.rational.proofs.ExtendedLemmas.{greatest_of, clashᵉ, least_of, le_totalᵉ}
 use Rattle.frac128.specs.Value.{value}
 use Rattle.value_laws.specs.Members.{ShapeOf}
@@ -18,10 +18,11 @@ use Rattle.pl_signal.specs.declared.joining.Side.{Side}
 use Rattle.pl_signal.specs.declared.joining.Side.TheVariants.{Least, Greatest}
 use Rattle.pl_signal.specs.Joining.{IsChosen, TurnsOver}
 use Rattle.frac128.specs.declared.frac.Frac.{Frac}
-use Rattle.until_ops.specs.declared.course.Meet.{Meet}
-use Rattle.until_ops.specs.declared.course.Course.{Course}
-use Rattle.until_ops.specs.declared.course.Gap.{Gap}
-use Rattle.until_ops.specs.Courses.{IsCourse, IsLow, IsMeet, IsOfGap, IsPlayed, IsPointOf, IsReached, IsStart, change_places, goes_under}
+use Rattle.courses.specs.declared.course.Meet.{Meet}
+use Rattle.courses.specs.declared.course.Course.{Course}
+use Rattle.courses.specs.declared.course.Gap.{Gap}
+use Rattle.courses.specs.Courses.{IsBegun, IsCourse, IsLow, IsMeet, IsOfGap, IsOnwardIn, IsPlayed, IsPointOf, IsReached, IsStart}
+use Rattle.courses.specs.Courses.{change_places, goes_under}
 use Rattle.rational.specs.Onward.{Climbs, Sinks, InOrder, IsBelow, IsOnward}
 use Rattle.rational.proofs.AffineMeetings.{between}
 use Rattle.rational.proofs.ExtendedLemmas.{le_of_ltᵉ}
@@ -63,15 +64,20 @@ climbs_of Greater f h n = λ t u k. elim (le_or_lt u t) [
 ]
 
 -- the order at both ends holds between them, and as the gap ends
-pub below_on : (f h : Affine) (l t r : Rational) → IsBelow f h l r → l <ʳ t → t ≤ʳ r → value_at f t ≤ᵉ value_at h t
-below_on f h l t r below a b = by_end (le_or_lt r t)
+pub below_on : (f h : Affine) (l t r : Rational) → IsBelow f h l r → l ≤ʳ t → t ≤ʳ r → value_at f t ≤ᵉ value_at h t
+below_on f h l t r below a b = by_begin (le_or_lt t l)
   where
-    by_end : (r ≤ʳ t) ⊎ (t <ʳ r) → value_at f t ≤ᵉ value_at h t
-    by_end (inl e) =
-        let s = same_of_le b e in
-        le_transᵉ (value_at f t) (value_at f r) (value_at h t) (value_same f s).at_most
-        (le_transᵉ (value_at f r) (value_at h r) (value_at h t) below.right (value_same h s).at_least)
-    by_end (inr k) = between f h l t r a k below.left below.right
+    at : (u : Rational) → t ≈ u → value_at f u ≤ᵉ value_at h u → value_at f t ≤ᵉ value_at h t
+    at u s k = le_transᵉ (value_at f t) (value_at f u) (value_at h t) (value_same f s).at_most
+        (le_transᵉ (value_at f u) (value_at h u) (value_at h t) k (value_same h s).at_least)
+
+    by_end : l <ʳ t → (r ≤ʳ t) ⊎ (t <ʳ r) → value_at f t ≤ᵉ value_at h t
+    by_end o (inl e) = at r (same_of_le b e) below.right
+    by_end o (inr k) = between f h l t r o k below.left below.right
+
+    by_begin : (t ≤ʳ l) ⊎ (l <ʳ t) → value_at f t ≤ᵉ value_at h t
+    by_begin (inl e) = at l (same_of_le e a) below.left
+    by_begin (inr o) = by_end o (le_or_lt r t)
 
 module _ (r : Extended) (f h : Affine) (t0 t : Rational) (v low top : Extended) (is_low : IsLeast r (value_at f t0) low)
     (is_top : IsGreatest low (value_at h t0) top) where
@@ -153,15 +159,11 @@ module _ (r : Extended) (f h : Affine) (t0 t : Rational) (v low top : Extended) 
           at_low high (inr k) = le_transᵉ high (value_at h t) x k below
 
 -- what is at most both of a function's values at the ends is at most its value between them
-pub within_ends : (f : Affine) (l t r : Rational) (x : Extended) → l <ʳ t → t ≤ʳ r → x ≤ᵉ value_at f l → x ≤ᵉ value_at f r → x ≤ᵉ value_at f t
-within_ends f l t r x a b h k = by_end (le_or_lt r t)
-  where
-    by_end : (r ≤ʳ t) ⊎ (t <ʳ r) → x ≤ᵉ value_at f t
-    by_end (inl e) = le_transᵉ x (value_at f r) (value_at f t) k (value_same f (same_of_le b e)).at_least
-    by_end (inr l') = elim (lies_between f l t r a l') [
-      | inl m ↦ le_transᵉ x (value_at f l) (value_at f t) h m.0
-      | inr m ↦ le_transᵉ x (value_at f r) (value_at f t) k m.0
-    ]
+pub within_ends : (f : Affine) (l t r : Rational) (x : Extended) → l ≤ʳ t → t ≤ʳ r → x ≤ᵉ value_at f l → x ≤ᵉ value_at f r → x ≤ᵉ value_at f t
+within_ends f l t r x a b h k = elim (at_least_an_end f l r t a b) [
+  | inl m ↦ le_transᵉ x (value_at f l) (value_at f t) h m
+  | inr m ↦ le_transᵉ x (value_at f r) (value_at f t) k m
+]
 
 -- a value is what is chosen of itself
 pub chosen_of_itself : (side : Side) (v : Extended) → IsChosen side v v v
@@ -171,10 +173,8 @@ chosen_of_itself Greatest v = record { left = le_reflᵉ v; right = le_reflᵉ v
 -- a course that is one shape goes where the shape goes
 pub only_course : {P : Type 0} (shape : ShapeOf P) (gap : Gap P) (course : Course P) (x : P) → course.side ≡ Least → course.first ≡ x
     → course.second ≡ x → IsPlayed shape gap x
-    → ((t : Rational) (v : Extended) → value gap.from <ʳ t → t ≤ʳ value gap.to
-    → IsChosen Least (value_at (shape.function x) t) (value_at (shape.function x) t) v
-    → IsOnward (value_at (shape.function gap.before) (value gap.from)) (shape.function gap.left) (shape.function gap.right)
-    (value gap.from) t v)
+    → ((t : Rational) (v : Extended) → value gap.from ≤ʳ t → t ≤ʳ value gap.to
+    → IsChosen Least (value_at (shape.function x) t) (value_at (shape.function x) t) v → IsOnwardIn shape gap t v)
     → IsCourse shape gap course
 only_course {P} shape gap course x s f e played goes = record {
   one = λ _. e ∙ sym f;
@@ -345,6 +345,44 @@ level_over x w v over c = let up : x ≤ᵉ v = elim c.one_of [ inl k ↦ k | in
 -- what is at least two values is at least the greatest of them
 pub top_within : (low r top x : Extended) → IsGreatest low r top → low ≤ᵉ x → r ≤ᵉ x → top ≤ᵉ x
 top_within low r top x g a b = elim g.one_of [ inl k ↦ le_transᵉ top low x k a | inr k ↦ le_transᵉ top r x k b ]
+
+module _ {P : Type 0} (shape : ShapeOf P) (gap : Gap P) (low top : P) (start : IsStart shape gap low top) where
+  abbrev here : P → Extended
+  here x = value_at (shape.function x) (value gap.from)
+
+  -- a since whose right side is not above the left goes on with the top
+  pub begun_top : IsBelow (shape.function gap.right) (shape.function gap.left) (value gap.from) (value gap.to) → IsBegun shape gap top
+  begun_top below = (
+    start.top_of,
+    record {
+      low = here low;
+      top = here top;
+      high = here top;
+      is_low = start.is_low;
+      is_top = start.is_top;
+      is_high = record { left = le_reflᵉ (here top); right = start.is_top.right; one_of = inl (le_reflᵉ (here top)) };
+      is_value = record {
+        left = top_within (here low) (here gap.right) (here top) (here gap.left) start.is_top start.is_low.right below.left;
+        right = le_reflᵉ (here top);
+        one_of = inr (le_reflᵉ (here top));
+      };
+    },
+  )
+
+  -- and where that is below low, with low
+  pub begun_low : here gap.right ≤ᵉ here low → IsBegun shape gap low
+  begun_low higher = (
+    start.low_of,
+    record {
+      low = here low;
+      top = here low;
+      high = here low;
+      is_low = start.is_low;
+      is_top = record { left = le_reflᵉ (here low); right = higher; one_of = inl (le_reflᵉ (here low)) };
+      is_high = record { left = le_reflᵉ (here low); right = higher; one_of = inl (le_reflᵉ (here low)) };
+      is_value = record { left = start.is_low.right; right = le_reflᵉ (here low); one_of = inr (le_reflᵉ (here low)) };
+    },
+  )
 
 -- what is chosen of two values
 chosen_of_two : (side : Side) (x y : Extended) → (v : Extended) × IsChosen side x y v

@@ -1,7 +1,7 @@
 use Rattle.rational.specs.Extended.{value_at}
 use Rattle.frac128.specs.Value.{value}
-use Rattle.until_ops.proofs.CourseLemmas.{point_where_met}
-use Rattle.until_ops.proofs.course.point.Goals as goal
+use Rattle.courses.proofs.CourseLemmas.{point_where_met}
+use Rattle.courses.proofs.course.point.Goals as goal
 
 pub returns-then-turn-clause-value : goal.returns-then-turn-clause-value
 returns-then-turn-clause-value g c =

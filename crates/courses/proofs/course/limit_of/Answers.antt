@@ -2,8 +2,8 @@ use Rattle.std.proofs.Common.{subst, sym}
 use Rattle.rational.specs.Extended.{value_at}
 use Rattle.frac128.specs.Value.{value}
 use Rattle.pl_signal.specs.Joining.{IsChosen}
-use Rattle.until_ops.proofs.CourseLemmas.{chosen_of_itself}
-use Rattle.until_ops.proofs.course.limit_of.Goals as goal
+use Rattle.courses.proofs.CourseLemmas.{chosen_of_itself}
+use Rattle.courses.proofs.course.limit_of.Goals as goal
 
 pub returns-then-course-clause-value : goal.returns-then-course-clause-value
 returns-then-course-clause-value g c =

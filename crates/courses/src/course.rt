@@ -10,38 +10,38 @@ ghost use Rattle.pl_signal.specs.declared.faults.OpFault.TheVariants as F;
 ghost use Rattle.pl_signal.specs.declared.joining.Side.TheVariants.{Least};
 ghost use Rattle.pl_signal.specs.Joining.{IsChosen, IsGapFault, TurnsOver};
 ghost use Rattle.rational.specs.Onward.{IsBelow, Climbs, Sinks};
-ghost use Rattle.until_ops.specs.Courses.{IsCourse, IsCourseFault, IsFixed, IsGap, IsLow, IsPointOf, IsReached, IsStart, IsMeet, IsValueFault};
-ghost use Rattle.until_ops.specs.Courses.{change_places, goes_under};
+ghost use Rattle.courses.specs.Courses.{IsCourse, IsCourseFault, IsFixed, IsGap, IsLow, IsPointOf, IsReached, IsStart, IsMeet, IsValueFault};
+ghost use Rattle.courses.specs.Courses.{change_places, goes_under};
 
 use frac128::{Frac, Memory};
 use pl_signal::{Side, WidePair, chosen, crossing, keep};
 use std::cmp::Ordering;
 use value_laws::Shape;
 
-/// The end of a stretch on which two shapes keep their order, and whether they cross there.
+/// The end of a stretch on which two shapes keep their order, in ticks, and whether they cross there.
 #[derive(Clone, Copy)]
-pub(crate) struct Meet {
-    pub(crate) time: Frac,
-    pub(crate) met: bool,
+pub struct Meet {
+    pub time: Frac,
+    pub met: bool,
 }
 
-/// A gap from a time at which the since is worth `before`, on which its sides are `left` and `right`.
+/// A gap, on which the sides of a since are `left` and `right`; `before` is worth at `from` what the since is just before it, or at it.
 #[derive(Clone, Copy)]
-pub(crate) struct Gap<P> {
-    pub(crate) before: P,
-    pub(crate) left: P,
-    pub(crate) right: P,
-    pub(crate) from: Frac,
-    pub(crate) to: Frac,
+pub struct Gap<P> {
+    pub before: P,
+    pub left: P,
+    pub right: P,
+    pub from: Frac,
+    pub to: Frac,
 }
 
 /// The least of two shapes at each time, or the greatest; `alone` says that both are one shape.
 #[derive(Clone, Copy)]
-pub(crate) struct Course<P> {
-    pub(crate) side: Side,
-    pub(crate) first: P,
-    pub(crate) second: P,
-    pub(crate) alone: bool,
+pub struct Course<P> {
+    pub side: Side,
+    pub first: P,
+    pub second: P,
+    pub alone: bool,
 }
 
 /// Where two shapes cross that change places between `from` and `next`. What is refused is put into `fault`.
@@ -69,7 +69,11 @@ fn meeting<P: Shape>(
 
 /// How far the two keep their order from `from` on, where it is `start`: up to where they cross, or up to `next`, where their order is
 /// `end`. What is refused is put into `fault`.
-pub(crate) fn turning<P: Shape>(
+///
+/// # Errors
+///
+/// `Memory` where the two cross at a time that needs a denominator of 2^60 or more, and where memory is wanting.
+pub fn turning<P: Shape>(
     p: &P,
     q: &P,
     from: &Frac,
@@ -118,7 +122,8 @@ fn changes_places(start: Ordering, end: Ordering) -> bool
 
 /// Whether the first of two that keep their order is at most the second, from their orders at the start and at the end, or where they
 /// cross before that.
-pub(crate) fn is_under(start: Ordering, end: Ordering) -> bool
+#[inline(always)]
+pub fn is_under(start: Ordering, end: Ordering) -> bool
     ensures { result ≡ goes_under start end }
 {
     match start {
@@ -203,7 +208,11 @@ fn stays_under<P: Shape>(left: &P, order: Ordering, start: Ordering) -> bool
 /// What the since is on the gap, where both sides begin in the order `start`, and `under` says whether the left side is below the right
 /// side all over. Then it is the left side, as where that sinks from a time at which the since is not below it. Else a constant is
 /// fixed: what the since cannot sink below. What is refused is put into `fault`.
-pub(crate) fn course_over<P: Shape>(
+///
+/// # Errors
+///
+/// `Memory` where that constant needs a denominator of 2^60 or more, and where memory is wanting.
+pub fn course_over<P: Shape>(
     gap: &Gap<P>,
     start: Ordering,
     under: bool,
@@ -325,7 +334,7 @@ fn raised<P: Shape>(
 }
 
 /// The shape of the course that is taken at a time.
-fn limit_of<P: Shape>(course: &Course<P>, at: &Frac) -> P
+pub fn limit_of<P: Shape>(course: &Course<P>, at: &Frac) -> P
     requires within { IsWithin (2 ^ 34) (value at.now) }
     requires one { IsTrue course.now.alone → course.now.second ≡ course.now.first }
     ensures one { (result ≡ course.now.first) ⊎ (result ≡ course.now.second) }
@@ -341,7 +350,7 @@ fn limit_of<P: Shape>(course: &Course<P>, at: &Frac) -> P
 
 /// A shape with the value of the since at the end of a gap, from its course there and from what both sides are at that time: where they
 /// cross it is that of either.
-pub(crate) fn point<P: Shape>(course: &Course<P>, left: &P, right: &P, turn: &Meet) -> P
+pub fn point<P: Shape>(course: &Course<P>, left: &P, right: &P, turn: &Meet) -> P
     requires within { IsWithin (2 ^ 34) (value turn.now.time) }
     requires one { IsTrue course.now.alone → course.now.second ≡ course.now.first }
     requires meets { IsTrue turn.now.met → value_at (P.function left.now) (value turn.now.time) ≈ᵉ value_at (P.function right.now) (value turn.now.time) }

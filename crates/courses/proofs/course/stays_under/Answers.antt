@@ -1,6 +1,6 @@
 use Rattle.std.proofs.Common.{◌∙◌, inl, inr, sym}
-use Rattle.until_ops.proofs.CourseLemmas.{equal_of, sinks_of}
-use Rattle.until_ops.proofs.course.stays_under.Goals as goal
+use Rattle.courses.proofs.CourseLemmas.{equal_of, sinks_of}
+use Rattle.courses.proofs.course.stays_under.Goals as goal
 
 pub returns-in-Less : goal.returns-in-Less
 returns-in-Less g c = λ h. (

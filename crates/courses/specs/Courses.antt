@@ -13,9 +13,9 @@ use Rattle.value_laws.specs.Members.{ShapeOf}
 use Rattle.pl_signal.specs.declared.faults.WidePair.TheVariants.{Cross, Value}
 use Rattle.pl_signal.specs.declared.faults.OpFault.{OpFault}
 use Rattle.pl_signal.specs.declared.faults.OpFault.TheVariants as F
-use Rattle.until_ops.specs.declared.course.Course.{Course}
-use Rattle.until_ops.specs.declared.course.Gap.{Gap}
-use Rattle.until_ops.specs.declared.course.Meet.{Meet}
+use Rattle.courses.specs.declared.course.Course.{Course}
+use Rattle.courses.specs.declared.course.Gap.{Gap}
+use Rattle.courses.specs.declared.course.Meet.{Meet}
 use Rattle.pl_signal.specs.declared.joining.Side.{Side}
 use Rattle.pl_signal.specs.Joining.{IsChosen}
 
@@ -97,19 +97,27 @@ module _ {P : Type 0} (shape : ShapeOf P) where
     pub is_top : IsGreatest (value_at (shape.function low) (value gap.from)) (value_at (shape.function gap.right) (value gap.from))
         (value_at (shape.function top) (value gap.from))
 
-  -- want of memory, or the value that one of the three shapes has as the gap begins
+  -- v is the value at t of the since that goes on over the gap
+  abbrev pub IsOnwardIn : Gap P → Rational → Extended → Type 0
+  IsOnwardIn gap t v =
+      IsOnward (value_at (shape.function gap.before) (value gap.from)) (shape.function gap.left) (shape.function gap.right) (value gap.from) t v
+
+  -- one of the three shapes, which has as the gap begins the value with which the since goes on
+  abbrev pub IsBegun : Gap P → P → Type 0
+  IsBegun gap o = IsOfGap gap o × IsOnwardIn gap (value gap.from) (value_at (shape.function o) (value gap.from))
+
+  -- want of memory, or the value that such a shape has as the gap begins
   abbrev pub IsCourseFault : Gap P → OpFault P → Type 0
-  IsCourseFault gap fault = (o : P) × IsOfGap gap o × IsValueFault o gap.from fault
+  IsCourseFault gap fault = (o : P) × IsBegun gap o × IsValueFault o gap.from fault
 
-  -- one of both sides, or a constant with a value that one of the three shapes has as the gap begins
+  -- one of both sides, or a constant with the value that such a shape has as the gap begins
   abbrev pub IsPlayed : Gap P → P → Type 0
-  IsPlayed gap x = (x ≡ gap.left) ⊎ (x ≡ gap.right) ⊎ ((o : P) × IsOfGap gap o × IsFixed o (value gap.from) x × (shape.moves x ≡ false))
+  IsPlayed gap x = (x ≡ gap.left) ⊎ (x ≡ gap.right) ⊎ ((o : P) × IsBegun gap o × IsFixed o (value gap.from) x × (shape.moves x ≡ false))
 
-  -- at each time of the gap, and as it ends, the since is the least or the greatest of the two
+  -- as the gap begins, at each time of it, and as it ends, the since is the least or the greatest of the two
   pub record IsCourse (gap : Gap P) (course : Course P) : Type 0 where
     pub one : IsTrue course.alone → course.second ≡ course.first
     pub first : IsPlayed gap course.first
     pub second : IsPlayed gap course.second
-    pub onward : (t : Rational) (v : Extended) → value gap.from <ʳ t → t ≤ʳ value gap.to
-        → IsChosen course.side (value_at (shape.function course.first) t) (value_at (shape.function course.second) t) v
-        → IsOnward (value_at (shape.function gap.before) (value gap.from)) (shape.function gap.left) (shape.function gap.right) (value gap.from) t v
+    pub onward : (t : Rational) (v : Extended) → value gap.from ≤ʳ t → t ≤ʳ value gap.to
+        → IsChosen course.side (value_at (shape.function course.first) t) (value_at (shape.function course.second) t) v → IsOnwardIn gap t v
