@@ -1,9 +1,10 @@
 -- Times behind and before places.
-use Rattle.std.proofs.Common.{Bool, true, false, refl}
+use Rattle.std.proofs.Common.{◌≡◌, inl, inr, Bool, true, false, refl, sym}
 use Rattle.std.specs.Prelude.{MatchBool}
+use Rattle.std.proofs.lemmas.Bool.{false≢true}
 use Rattle.rational.specs.Time.{Rational, ◌≤ʳ◌, ◌<ʳ◌, ◌≈◌}
 use Rattle.rational.specs.Places.{Place, After, Upto, Before, Same, AtMost}
-use Rattle.rational.proofs.Order.{le_of_lt, le_trans, le_of_same, ge_of_same, lt_of_lt_of_le, lt_of_le_of_lt, same_of_le, same_refl}
+use Rattle.rational.proofs.Order.{le_refl, le_of_lt, le_trans, le_of_same, ge_of_same, lt_of_lt_of_le, lt_of_le_of_lt, same_of_le, same_refl, same_sym}
 use Rattle.rational.proofs.PlaceLemmas.{upto_of_before, upto_same}
 
 -- what lies behind a place is no earlier than its time
@@ -73,3 +74,27 @@ at_most_trans c d e h k t u = k t (h t u)
 -- a place is the same as itself
 pub same_place : (c : Place) → Same c c
 same_place c = (same_refl c.at, refl)
+
+-- the time of a place just before it lies behind it, and that of a place just after it before it
+pub here_after : (c : Place) → c.after ≡ false → After c c.at
+here_after c = by_side c.after
+  where
+    by_side : (b : Bool) → b ≡ false → MatchBool b (c.at <ʳ c.at) (c.at ≤ʳ c.at)
+    by_side true e = absurd (false≢true (sym e))
+    by_side false e = le_refl c.at
+
+pub here_upto : (c : Place) → c.after ≡ true → Upto c c.at
+here_upto c = by_side c.after
+  where
+    by_side : (b : Bool) → b ≡ true → MatchBool b (c.at ≤ʳ c.at) (c.at <ʳ c.at)
+    by_side true e = le_refl c.at
+    by_side false e = absurd (false≢true e)
+
+-- where a later place begins, the time of the earlier one lies before it, unless that is just after its time; and likewise behind
+pub earlier_upto : (c d : Place) → Before c d → Upto d c.at
+earlier_upto c d (inl l) = upto_of_lt d c.at l
+earlier_upto c d (inr (s, e, f)) = upto_time_same d d.at c.at (same_sym s) (here_upto d f)
+
+pub later_after : (c d : Place) → Before c d → After c d.at
+later_after c d (inl l) = after_of_lt c d.at l
+later_after c d (inr (s, e, f)) = after_time_same c c.at d.at s (here_after c e)

@@ -8,3 +8,10 @@ pub mod Standing
 pub mod CombiningLemmas
 pub mod Negating
 pub mod KnotLemmas
+pub mod Walking
+pub mod Infs
+pub mod Breakpoints
+pub mod SincePlaces
+pub mod SinceSteps
+pub mod GoingOver
+pub mod RunningBack

@@ -17,17 +17,12 @@ use Rattle.rational.proofs.PlaceLemmas.{same_places, le_of_at_most, upto_of_befo
 use Rattle.value_laws.specs.Members.{ShapeOf}
 use Rattle.pl_signal.proofs.Values.{some_is}
 use Rattle.pieces.specs.declared.piece.Piece.{Piece}
+pub use Rattle.pieces.specs.Chains.{begin_at}
 use Rattle.pieces.specs.Chains.{Chain, end, stop, stop_from, HasShapeIn, Rise, IsWorth, IsWorthFrom, IsLimited, IsNormal}
 use Rattle.pieces.proofs.Ends.{at_most_of_before, at_most_of_same, at_most_trans}
 use Rattle.pieces.proofs.ChainLemmas.{to_stop}
 
 module _ {P : Type 0} where
-  -- where the piece begins at that place of the list
-  abbrev pub begin_at : Place → List (Piece P) → ℕ → Place
-  begin_at c ps zero = c
-  begin_at c [] (suc i) = c
-  begin_at c (p ∷ ps) (suc i) = begin_at (end p) ps i
-
   -- the next piece begins where this one ends
   pub next_begin : (c : Place) (ps : List (Piece P)) (i : ℕ) (p : Piece P) → slice_get ps i ≡ Some p → begin_at c ps (suc i) ≡ end p
   next_begin c [] i p h = absurd (cc)

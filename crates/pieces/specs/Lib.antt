@@ -3,3 +3,5 @@ pub mod Building
 pub mod Joining
 pub mod Negating
 pub mod Knots
+pub mod Sinces
+pub mod Turning

@@ -11,8 +11,13 @@ mod piece;
 mod pieces;
 mod pointwise;
 mod signals;
+mod since;
+mod turning;
+mod until;
 
 pub use piece::Piece;
 pub use pieces::Pieces;
 pub use pointwise::{lower, upper};
 pub use signals::{pieces_of, signal_of};
+pub use since::since_from_start;
+pub use until::until_to_end;
