@@ -2,7 +2,8 @@
 use Rattle.std.proofs.Common.{◌≡◌, ℕ, zero, suc, ◌+◌, ◌*◌, ◌<◌, ◌≤◌, List, [], ◌∷◌, ◌++◌, length, take}
 use Rattle.std.proofs.Common.{◌-◌, drop, get_or, refl, sym, ap, ◌∙◌, arith, ℤ, nat_abs}
 use Rattle.std.specs.Prelude.{All, pos}
-use Rattle.std.proofs.lemmas.List.{take-append-le, drop-append-le, length-append, length-drop, drop-drop, get_or-take, get_or-drop, get_or-append_right, take_all, nil_from_length}
+use Rattle.std.proofs.lemmas.List.{take-append-le, drop-append-le, length-append, length-drop, drop-drop}
+use Rattle.std.proofs.lemmas.List.{get_or-take, get_or-drop, get_or-append_right, take_all, nil_from_length}
 use Rattle.std.proofs.lemmas.List.Elements.{All-append}
 use Rattle.std.proofs.lemmas.Nat.{mul-add-lt}
 use Rattle.stl_syntax.specs.Trace.{Row, Header, Trace, AreRows, last_time}

@@ -57,7 +57,8 @@ value_of_eight word a b c d e f g h l is =
     let pairs : word * 2561 % 18446744073709551616 / 256
     ≡ word_of ((10 * a + b) ∷ (10 * b + c) ∷ (10 * c + d) ∷ (10 * d + e) ∷ (10 * e + f) ∷ (10 * f + g) ∷ (10 * g + h) ∷ 0 ∷ [])
     = rw is (pairs_are a b c d e f g h l) in
-    let last : Below 256 ((10 * e + f) ∷ (10 * f + g) ∷ (10 * g + h) ∷ 0 ∷ []) = (omega (arith, l), (omega (arith, l), (omega (arith, l), (omega arith, tt)))) in
+    let last : Below 256 ((10 * e + f) ∷ (10 * f + g) ∷ (10 * g + h) ∷ 0 ∷ [])
+    = (omega (arith, l), (omega (arith, l), (omega (arith, l), (omega arith, tt)))) in
     let small : Below 256 ((10 * a + b) ∷ (10 * b + c) ∷ (10 * c + d) ∷ (10 * d + e) ∷ (10 * e + f) ∷ (10 * f + g) ∷ (10 * g + h) ∷ 0 ∷ [])
     = (omega (arith, l), (omega (arith, l), (omega (arith, l), (omega (arith, l), last)))) in
     let m = bytes_left (10 * a + b) (10 * b + c) (10 * c + d) (10 * d + e) (10 * e + f) (10 * f + g) (10 * g + h) 0 small in

@@ -9,8 +9,9 @@ use Rattle.trace_reader.proofs.line_reader.LineReader.take_rows.Goals as goal
 pub take_rows-block-requires : goal.take_rows-block-requires
 take_rows-block-requires c =
     let p = c.args.self.now in
+    let h = c.in-Some.heading.now.heading in
     record {
-      width = so_far_columns p.content.heading p.content.least c.in-Some.heading.now.heading c.args.trace.now.header c.requires.so_far.header c.in-Some.ensures.0;
+      width = so_far_columns p.content.heading p.content.least h c.args.trace.now.header c.requires.so_far.header c.in-Some.ensures.0;
       later = so_far_later (state c.args.limits.now p) c.args.trace.now c.next_time.result c.requires.so_far c.next_time.ensures;
     }
 

@@ -1,5 +1,6 @@
 -- A row more of those that the piece begins with.
-use Rattle.std.proofs.Common.{◌≡◌, ◌≤◌, ◌++◌, ◌∷◌, [], ◌+◌, length, take, drop, refl, subst, sym, ap, ◌∙◌, arith, take-add, length-drop, append_assoc, append-nil}
+use Rattle.std.proofs.Common.{◌≡◌, ◌≤◌, ◌++◌, ◌∷◌, [], ◌+◌, length, take, drop}
+use Rattle.std.proofs.Common.{refl, subst, sym, ap, ◌∙◌, arith, take-add, length-drop, append_assoc, append-nil}
 use Rattle.std.proofs.lemmas.List.{take_rest, length_push}
 use Rattle.stl_syntax.specs.Trace.{Trace, last_time}
 use Rattle.trace_reader.specs.Plain.{IsPlainRow}
