@@ -112,8 +112,8 @@ fn above_limit(coef: i32, value: i32, limit: i32) -> i64
     product(coef, value) - i64::from(limit)
 }
 
-/// The same where the sum is `from` at the first row. A sum of one term stays what it was up to the second row, where that is a step, and
-/// else goes on to what it is there.
+/// The sums of `reaches_of`, where that at the first row is `from`: one term that is a step keeps it up to the second row, and one that is
+/// a ramp comes to what it is there.
 #[inline(always)]
 pub(crate) fn reaches_from<C: Cells>(
     atom: &BoundAtom,

@@ -82,7 +82,8 @@ impl Times {
         requires domain { IsDomain on.now }
         requires own { IsOf on.now self.now }
         requires other { IsOf on.now q.now }
-        ensures none { IfNone result (((t : Rational) → left_from i self.now.turns.items t ≡ false) ⊎ ((t : Rational) → left_from k q.now.turns.items t ≡ false)) }
+        ensures none { IfNone result
+            (((t : Rational) → left_from i self.now.turns.items t ≡ false) ⊎ ((t : Rational) → left_from k q.now.turns.items t ≡ false)) }
         ensures run { IfSome result (λ d. IsPart on.now d.run (left_from i self.now.turns.items) (left_from (i + 2) self.now.turns.items)) }
         ensures part { IfSome result (λ d. IsPart on.now d.part (left_from k q.now.turns.items) (left_from (k + 2) q.now.turns.items)) }
         ensures more { IfSome result (λ d. (i ≤ length self.now.turns.items) × (k ≤ length q.now.turns.items)) }
