@@ -1,5 +1,5 @@
 -- At the end of each piece a chain has a breakpoint.
-use Rattle.std.proofs.Common.{◌≡◌, ◌⊎◌, inl, inr, ℕ, zero, suc, ◌+◌, List, [], ◌∷◌, Some, None, true, false, refl, sym, ◌∙◌, ap, subst, arith}
+use Rattle.std.proofs.Common.{◌≡◌, inl, inr, ℕ, zero, suc, List, [], ◌∷◌, Some, None, true, false, refl, sym, ◌∙◌, ap, subst}
 use Rattle.std.specs.Prelude.{Option, slice_get}
 use Rattle.std.proofs.lemmas.Bool.{false≢true}
 use Rattle.rational.specs.Time.{Rational, Within, ◌≤ʳ◌, ◌<ʳ◌, ◌≈◌}
@@ -7,7 +7,7 @@ use Rattle.rational.specs.Extended.{Extended, Affine, ◌≈ᵉ◌, value_at}
 use Rattle.rational.specs.Affine.{AreSame}
 use Rattle.rational.specs.Places.{Place, Before}
 use Rattle.rational.specs.InPlay.{IsLineOn, IsPart, IsBreakpoint}
-use Rattle.rational.proofs.Order.{le_refl, le_of_lt, le_of_same, ge_of_same, lt_of_lt_of_le, lt_of_le_of_lt, same_refl, same_sym, same_trans}
+use Rattle.rational.proofs.Order.{le_of_lt, le_of_same, ge_of_same, lt_of_lt_of_le, lt_of_le_of_lt, same_refl, same_sym, same_trans}
 use Rattle.rational.proofs.AffineLemmas.{same_reflᵉ, value_same}
 use Rattle.rational.proofs.Sames.{symᵉ, transᵉ}
 use Rattle.rational.proofs.LimitLemmas.{HasOneValue, line_on_part, lines_same, earlier_end, later_end}
@@ -18,7 +18,7 @@ use Rattle.pieces.specs.declared.piece.Piece.{Piece}
 use Rattle.pieces.specs.Chains.{Chain, CanBeLeftOut, Each, IsNormal, IsPiece, IsWorth, end, stop, stop_from}
 use Rattle.pieces.proofs.Ends.{at_most_of_before, at_most_trans}
 use Rattle.pieces.proofs.ChainLemmas.{one_value, worth_same}
-use Rattle.pieces.proofs.Standing.{begin_at, begin_most, end_most, last_begin, next_begin, rises_at}
+use Rattle.pieces.proofs.Standing.{begin_at, begin_most, end_most, next_begin, rises_at}
 use Rattle.pieces.proofs.KnotLemmas.{gap_worth, own_worth}
 
 module _ {P : Type 0} (shape : ShapeOf P) where

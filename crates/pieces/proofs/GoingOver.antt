@@ -1,5 +1,5 @@
 -- How a since goes on over a part of both sides: at one time, over a gap by a course, and in two stretches.
-use Rattle.std.proofs.Common.{◌≡◌, ◌⊎◌, inl, inr, ◌^◌, Bool, true, false, refl, sym, subst}
+use Rattle.std.proofs.Common.{◌≡◌, ◌⊎◌, inl, inr, ◌^◌, true, false, refl, sym, subst}
 use Rattle.std.specs.Prelude.{MatchBool}
 use Rattle.std.specs.declared.cmp.Ordering.{Ordering}
 use Rattle.std.specs.declared.cmp.Ordering.TheVariants.{Less, Equal, Greater}
@@ -8,7 +8,7 @@ use Rattle.rational.specs.Time.{◌≈◌}
 use Rattle.rational.specs.Extended.{Extended, ◌≈ᵉ◌, IsLeast, IsGreatest, Affine, Passes, value_at}
 use Rattle.rational.specs.Affine.{HasBoundedLevel, IsBounded, IsOrderᵉ, MeetAlone}
 use Rattle.rational.specs.Onward.{InOrder, IsBelow}
-use Rattle.rational.specs.Places.{After, Upto, Before}
+use Rattle.rational.specs.Places.{After, Upto}
 use Rattle.rational.proofs.Order.{le_refl, le_of_lt, not_lt_of_le, same_sym, same_trans}
 use Rattle.rational.proofs.AffineLemmas.{bounded_same, value_same}
 use Rattle.rational.proofs.Bounds.{bounded_between, greatest_bounded, least_bounded, level_bounded}

@@ -1,5 +1,5 @@
 -- A chain as a signal of knots, and a signal as a chain.
-use Rattle.std.proofs.Common.{◌≡◌, ◌⊎◌, inl, inr, Bool, ℕ, zero, suc, ap, ◌+◌, ◌<◌, List, [], ◌∷◌, Some, true, false, length, refl, sym, ◌∙◌, subst, arith}
+use Rattle.std.proofs.Common.{◌≡◌, ◌⊎◌, inl, inr, ℕ, zero, suc, ap, ◌+◌, ◌<◌, List, [], ◌∷◌, Some, true, false, length, refl, sym, ◌∙◌, subst, arith}
 use Rattle.std.specs.Prelude.{slice_get}
 use Rattle.std.specs.declared.cmp.Ordering.{Ordering}
 use Rattle.std.specs.declared.cmp.Ordering.TheVariants.{Less, Equal, Greater}
@@ -10,7 +10,7 @@ use Rattle.rational.specs.Time.{Rational, ◌≤ʳ◌, ◌<ʳ◌, ◌≈◌}
 use Rattle.rational.specs.Extended.{value_at}
 use Rattle.rational.specs.Windows.{Function}
 use Rattle.rational.specs.Places.{Place, After, Upto, Before, Same}
-use Rattle.rational.proofs.Order.{le_refl, le_of_same, ge_of_same, same_of_le, same_refl, same_sym, same_trans, lt_or_same_or_gt, not_lt_of_le, le_of_lt}
+use Rattle.rational.proofs.Order.{le_of_same, ge_of_same, same_of_le, same_refl, same_sym, same_trans, lt_or_same_or_gt, not_lt_of_le, le_of_lt}
 use Rattle.rational.proofs.Order.{lt_of_le_of_lt}
 use Rattle.rational.proofs.AffineLemmas.{value_same}
 use Rattle.rational.proofs.Sames.{transᵉ}

@@ -15,3 +15,5 @@ pub mod SincePlaces
 pub mod SinceSteps
 pub mod GoingOver
 pub mod RunningBack
+pub mod Composition
+pub mod Existence

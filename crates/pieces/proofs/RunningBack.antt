@@ -7,7 +7,7 @@ use Rattle.rational.specs.Rational.{Rational, negate, subtract, whole, IsWithin,
 use Rattle.rational.specs.Extended.{Extended, ◌≈ᵉ◌, value_at}
 use Rattle.rational.specs.Places.{Place, After, Upto, Before, Same}
 use Rattle.rational.specs.Windows.{Function}
-use Rattle.rational.proofs.Order.{le_trans, le_of_same, ge_of_same, lt_of_lt_of_le, lt_of_le_of_lt, same_refl, same_sym, same_trans}
+use Rattle.rational.proofs.Order.{same_refl, same_sym}
 use Rattle.rational.proofs.Field.{le_negate, lt_negate, same_negate}
 use Rattle.rational.proofs.Mixed.{within_between, within_negate, within_same}
 use Rattle.rational.proofs.AffineLemmas.{same_reflᵉ}

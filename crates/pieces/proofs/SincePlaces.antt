@@ -1,15 +1,14 @@
 -- The since up to a place, and how it goes on from there.
-use Rattle.std.proofs.Common.{◌≡◌, ◌⊎◌, inl, inr, Bool, true, false, sym, subst}
+use Rattle.std.proofs.Common.{inl, inr, Bool, true, false, sym, subst}
 use Rattle.std.proofs.lemmas.Bool.{false≢true}
 use Rattle.rational.specs.Time.{Rational, Interval, IsIn, ◌≤ʳ◌, ◌<ʳ◌, ◌≈◌}
 use Rattle.rational.specs.Extended.{Extended, ◌≤ᵉ◌, ◌≈ᵉ◌, IsLeast, IsGreatest, Affine, value_at}
 use Rattle.rational.specs.Places.{Place, After, Upto, Before}
 use Rattle.rational.specs.Windows.{Function, IsInfOver}
 use Rattle.rational.specs.Onward.{InOrder, IsOnward}
-use Rattle.rational.proofs.Order.{le_refl, le_of_lt, same_sym}
+use Rattle.rational.proofs.Order.{le_refl, le_of_lt}
 use Rattle.rational.proofs.ExtendedLemmas.{le_reflᵉ, le_transᵉ, greatest_of, least_of}
 use Rattle.rational.proofs.AffineLemmas.{same_reflᵉ, value_same}
-use Rattle.rational.proofs.Sames.{symᵉ}
 use Rattle.rational.proofs.PlaceLemmas.{not_both}
 use Rattle.rational.proofs.Sups.{sup_of_none}
 use Rattle.rational.proofs.TimeFunctions.{IsFunction, since_is_function}

@@ -6,13 +6,13 @@ use Rattle.rational.specs.Extended.{Extended, ◌≈ᵉ◌, Affine, value_at}
 use Rattle.rational.specs.Affine.{IsBounded, MeetAlone}
 use Rattle.rational.specs.InPlay.{IsBreakpoint, IsCrossing}
 use Rattle.rational.specs.Onward.{InOrder}
-use Rattle.rational.specs.Places.{Place, After, Upto, Before, AtMost, Same}
+use Rattle.rational.specs.Places.{Place, After, Upto, Before, AtMost}
 use Rattle.rational.proofs.Order.{le_refl, le_of_lt, le_trans, le_of_same, not_lt_of_le, same_sym}
 use Rattle.rational.proofs.AffineLemmas.{same_reflᵉ}
 use Rattle.rational.proofs.ExtendedLemmas.{le_totalᵉ, le_of_ltᵉ}
 use Rattle.rational.proofs.Bounds.{bounded_start, bounded_stop, sup_bounded, least_bounded, inf_bounded}
-use Rattle.rational.proofs.PlaceLemmas.{before_through, upto_earlier, after_of_before, upto_of_before, le_of_at_most, before_at_most}
-use Rattle.rational.proofs.SinceForward.{upto, Reach, Since}
+use Rattle.rational.proofs.PlaceLemmas.{before_through, upto_earlier, after_of_before, upto_of_before, le_of_at_most}
+use Rattle.rational.proofs.SinceForward.{upto, Reach}
 use Rattle.rational.proofs.SinceOnward.{of_since}
 use Rattle.rational.proofs.TimeFunctions.{IsFunction, since_is_function}
 use Rattle.frac128.specs.Value.{value}

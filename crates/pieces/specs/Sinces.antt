@@ -1,11 +1,11 @@
 -- Since from the start and until to the end of two chains, what their results are made of, and how a since goes on over a part of both.
-use Rattle.std.specs.Prelude.{◌≡◌, ◌⊎◌, ◌^◌, IsTrue}
+use Rattle.std.specs.Prelude.{◌≡◌, ◌⊎◌, ◌^◌, true, false, IsTrue}
 use Rattle.rational.specs.Rational.{Rational, IsWithin}
 use Rattle.rational.specs.Extended.{Extended, value_at}
 use Rattle.rational.specs.Affine.{IsBounded, MeetAlone}
 use Rattle.rational.specs.Onward.{InOrder}
 use Rattle.rational.specs.InPlay.{Step, since_start, until_end}
-use Rattle.rational.specs.Places.{After, Upto}
+use Rattle.rational.specs.Places.{After, Upto, Same}
 use Rattle.rational.specs.Windows.{Function, SinceFromStart, UntilToEnd}
 use Rattle.frac128.specs.Value.{value}
 use Rattle.frac128.specs.Cuts.{place}
@@ -39,6 +39,15 @@ module _ {P : Type 0} (shape : ShapeOf P) (a b : Chain P) where
   -- and the step that makes the other
   abbrev pub UntilStep : Step
   UntilStep = until_end (IsWorth shape a) (IsWorth shape b) UntilOf
+
+-- two chains from just before one time up to just after one
+pub record AreOver {P : Type 0} (shape : ShapeOf P) (a b : Chain P) : Type 0 where
+  pub left : IsNormal shape a
+  pub right : IsNormal shape b
+  pub begins : Same a.from b.from
+  pub ends : Same (stop a) (stop b)
+  pub first : a.from.after ≡ false
+  pub last : (stop a).after ≡ true
 
 -- the part up to a time, and the part from there on, before which the since has the value of `middle`
 abbrev pub up_to : {P : Type 0} → Gap P → Frac → Gap P

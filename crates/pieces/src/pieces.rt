@@ -79,6 +79,23 @@ impl<P: Shape> Pieces<P> {
         self.alloc
     }
 
+    /// The same chain again, in memory of its own.
+    ///
+    /// # Errors
+    ///
+    /// `Memory` where memory is wanting.
+    pub fn copy(&self) -> Result<Pieces<P>, Memory>
+        ensures { IfOk result (λ r. r ≡ self.now) }
+    {
+        let mut items = Vec::with_capacity(self.alloc, self.items.len())?;
+        items.extend_from_slice(&self.items)?;
+        Ok(Pieces {
+            alloc: self.alloc,
+            from: self.from,
+            items,
+        })
+    }
+
     /// Where the first piece begins.
     pub fn from(&self) -> Cut
         ensures { place result ≡ self.now.from }

@@ -1,9 +1,8 @@
 -- A signal that is mirrored about 0 runs back, and stays limited; the until of two signals is the since of the mirrored ones, mirrored.
-use Rattle.std.proofs.Common.{◌≡◌, ◌≤◌, ◌^◌, ◌⊎◌, inl, inr, List, IsTrue, ℤ, pos, ◌-ℤ◌, arith}
+use Rattle.std.proofs.Common.{◌≡◌, ◌^◌, ◌⊎◌, inl, inr, List, IsTrue, ℤ, pos, ◌-ℤ◌, arith}
 use Rattle.value_laws.specs.Members.{ShapeOf, ShapeLaws}
 use Rattle.std.proofs.lemmas.Int.{ints}
-use Rattle.rational.specs.Rational.{Rational, negate, subtract, whole, IsWithin, ◌≈◌}
-use Rattle.rational.specs.Time.{Within}
+use Rattle.rational.specs.Rational.{negate, subtract, whole, ◌≈◌}
 use Rattle.rational.proofs.Order.{le_of_same, ge_of_same, le_trans, same_sym, same_trans}
 use Rattle.rational.proofs.Field.{le_negate, same_negate}
 use Rattle.rational.proofs.Mixed.{within_negate, within_same}

@@ -1,6 +1,5 @@
 use Rattle.std.proofs.Common.{inl, inr, sym, subst, ap}
 use Rattle.std.specs.Prelude.{MatchBool}
-use Rattle.std.specs.declared.cmp.Ordering.TheVariants.{Equal}
 use Rattle.std.proofs.lemmas.Option.{IfSome_then}
 use Rattle.std.proofs.lemmas.Result.{IfOk-weaker, on_err_weaker}
 use Rattle.rational.specs.Onward.{IsBelow}

@@ -16,7 +16,7 @@ use Rattle.pl_signal.specs.Wide.{HasCause}
 use Rattle.pl_signal.specs.declared.faults.OpFault.TheVariants as F
 use Rattle.pl_signal.proofs.Kept.{fault_kept}
 use Rattle.courses.specs.Pairs.{IsPairWithin}
-use Rattle.pieces.specs.Chains.{IsWorth, HasShape, end, stop}
+use Rattle.pieces.specs.Chains.{IsWorth, HasShape, stop}
 use Rattle.pieces.specs.Sinces.{SinceOf, SinceStep}
 use Rattle.pieces.proofs.Ends.{at_most_itself, at_most_of_before, at_most_trans, same_place}
 use Rattle.pieces.proofs.BuildingLemmas.{chain_of}
@@ -26,7 +26,7 @@ use Rattle.pieces.proofs.Standing.{StandsAt, stands_first, stands_last, shape_at
 use Rattle.pieces.proofs.Walking.{IsStep, has_other, step_below, step_later, step_left, step_left_on, step_nearer, step_right, step_right_on, step_within}
 use Rattle.pieces.proofs.Breakpoints.{breakpoint_at}
 use Rattle.pieces.proofs.SincePlaces.{since_begins}
-use Rattle.pieces.proofs.SinceSteps.{AreOperands, Breaks, IsPart, SinceAt, bases_of_stand, begin_of, is_fit, refused, since_is, through}
+use Rattle.pieces.proofs.SinceSteps.{AreOperands, Breaks, IsPart, SinceAt, bases_of_stand, is_fit, refused, since_is, through}
 use Rattle.pieces.proofs.since.since_from_start.Given.{Over}
 use Rattle.pieces.proofs.since.since_from_start.Goals.{After-of-next, After-until}
 use Rattle.pieces.proofs.since.since_from_start.Goals as goal

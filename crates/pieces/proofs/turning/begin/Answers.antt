@@ -1,4 +1,4 @@
-use Rattle.std.proofs.Common.{◌≡◌, ◌+◌, ◌-◌, ◌∙◌, suc, sym, subst, arith}
+use Rattle.std.proofs.Common.{◌≡◌, ◌-◌, suc, sym, subst, arith}
 use Rattle.frac128.specs.Cuts.{place}
 use Rattle.pieces.specs.Chains.{begin_at}
 use Rattle.pieces.proofs.Standing.{next_begin}

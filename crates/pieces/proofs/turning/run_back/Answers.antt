@@ -1,11 +1,9 @@
-use Rattle.std.proofs.Common.{◌≡◌, ◌+◌, ◌-◌, ◌≤◌, ◌^◌, ◌∙◌, [], suc, length, Some, sym, ap, subst, arith}
-use Rattle.std.specs.Prelude.{slice_get}
-use Rattle.rational.specs.Rational.{IsWithin, negate}
+use Rattle.std.proofs.Common.{◌≡◌, ◌-◌, ◌^◌, ◌∙◌, [], suc, sym, ap, subst, arith}
+use Rattle.rational.specs.Rational.{IsWithin}
 use Rattle.rational.specs.Places.{Before, Same}
 use Rattle.rational.proofs.Order.{same_sym}
 use Rattle.rational.proofs.Mixed.{within_negate, within_same}
 use Rattle.rational.proofs.PlaceLemmas.{before_same, same_before, same_places}
-use Rattle.frac128.specs.Value.{value}
 use Rattle.frac128.specs.Cuts.{place}
 use Rattle.pieces.specs.Chains.{HasShape, IsWorth, begin_at, end, stop}
 use Rattle.pieces.specs.Turning.{RunBack, turned}

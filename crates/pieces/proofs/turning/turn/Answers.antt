@@ -1,5 +1,4 @@
-use Rattle.std.proofs.Common.{◌^◌, refl, sym, subst, not, ap, ◌∙◌, lit<, w64}
-use Rattle.rational.specs.Rational.{negate, subtract, whole, FitsFloor}
+use Rattle.std.proofs.Common.{◌^◌, sym, not, ap, lit<, w64}
 use Rattle.rational.proofs.Order.{same_trans}
 use Rattle.rational.proofs.Mixed.{fits_of_within}
 use Rattle.frac128.specs.Value.{value}
