@@ -47,6 +47,7 @@ pub side_after : (n : ℕ) → (n ≡ 0 → ⊥) → is_after n ≡ true
 side_after zero h = absurd (h refl)
 side_after (suc n) h = refl
 
+-- the side 0 is just before a time
 pub side_before : (n : ℕ) → n ≡ 0 → is_after n ≡ false
 side_before zero h = refl
 side_before (suc n) h = absurd (omega (arith, h))
@@ -71,6 +72,7 @@ pub earlier_upto : (c d : Place) → Before c d → Upto d c.at
 earlier_upto c d (inl l) = upto_of_lt d c.at l
 earlier_upto c d (inr (s, e, f)) = upto_time_same d d.at c.at (same_sym s) (here_upto d f)
 
+-- the time of a later place lies behind the place
 pub later_after : (c d : Place) → Before c d → After c d.at
 later_after c d (inl l) = after_of_lt c d.at l
 later_after c d (inr (s, e, f)) = after_time_same c c.at d.at s (here_after c e)
@@ -164,6 +166,7 @@ module _ {P : Type 0} (shape : ShapeOf P) where
   added_begins chain at p old new (inl h) = ap (λ ks. knots.start ks) h.1
   added_begins chain at p old new (inr h) = h.4.begins
 
+  -- where a signal ends to which a piece was added
   pub added_ends : (chain : Chain P) (at : Rational) (p : Piece P) (old new : List (Knot P)) → IsAdded shape chain at p old new
       → at ≈ knots.stop old → at ≤ʳ (end p).at → knots.stop new ≈ (end p).at
   added_ends chain at p old new (inl h) here le = subst (λ ks. knots.stop ks ≈ (end p).at) (sym h.1)
@@ -184,6 +187,7 @@ module _ {P : Type 0} (shape : ShapeOf P) where
   added_tells chain at p old new s tells here gap (inr h) = so_far.tells_on shape (IsWorth shape chain) old new p.shape h.1 p.until.time
       (worth_is_function shape chain s) tells h.4 (λ t a u. gap t (lt_of_le_of_lt (le_of_same here) a) u) h.3
 
+  -- and the shapes that it then has
   pub added_shapes : (chain : Chain P) (at : Rational) (p : Piece P) (old new : List (Knot P)) → HasShape chain p.shape
       → ((r : P) → knots.HasShape old r → HasShape chain r) → IsAdded shape chain at p old new → (r : P) → knots.HasShape new r → HasShape chain r
   added_shapes chain at p old new has is (inl h) r m = is r (subst (λ ks. knots.HasShape ks r) h.1 m)
@@ -214,6 +218,7 @@ module _ {P : Type 0} (shape : ShapeOf P) where
   signal_first chain p at built s e before is made = so_far.tells_first shape (IsWorth shape chain) built p.shape at (worth_is_function shape chain s)
       (subst (λ t. IsWorth shape chain t (value_at (shape.function p.shape) t)) (sym is) (first_worth chain p s e before)) made
 
+  -- a signal begun with the first piece of a chain has shapes of the chain alone
   pub signal_first_shapes : (chain : Chain P) (p : Piece P) (at : Frac) (built : List (Knot P)) → slice_get chain.pieces 0 ≡ Some p
       → built ≡ record { time = at; point = p.shape; after = p.shape } ∷ [] → (r : P) → knots.HasShape built r → HasShape chain r
   signal_first_shapes chain p at built e made r h = by_part (subst (λ ks. knots.HasShape ks r) made h)
