@@ -47,6 +47,7 @@ after_time_same c t u e = by_side c.after
     by_side true h = lt_of_lt_of_le h (le_of_same e)
     by_side false h = le_trans h (le_of_same e)
 
+-- the same of a time that lies before the place
 pub upto_time_same : (c : Place) (t u : Rational) → t ≈ u → Upto c t → Upto c u
 upto_time_same c t u e = by_side c.after
   where
@@ -62,12 +63,15 @@ only_time c d t e a u = same_of_le (upto_le d t u) (le_trans (ge_of_same e) (aft
 pub at_most_itself : (c : Place) → AtMost c c
 at_most_itself c t u = u
 
+-- a place is at most each that it comes before
 pub at_most_of_before : (c d : Place) → Before c d → AtMost c d
 at_most_of_before c d h t u = upto_of_before c d t h u
 
+-- and at most each that is the same
 pub at_most_of_same : (c d : Place) → Same c d → AtMost c d
 at_most_of_same c d h t u = upto_same c d t h u
 
+-- a place that is at most one that is at most a third is at most that
 pub at_most_trans : (c d e : Place) → AtMost c d → AtMost d e → AtMost c e
 at_most_trans c d e h k t u = k t (h t u)
 
