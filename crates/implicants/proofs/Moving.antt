@@ -6,14 +6,14 @@ use Rattle.std.proofs.lemmas.Option.{slice_get_within, get_or_from_slice_get}
 use Rattle.pl_signal.specs.declared.knot.Knot.{Knot}
 use Rattle.value_laws.specs.declared.truth.Truth.{Truth}
 use Rattle.std.proofs.lemmas.List.{map_more, map-append, take_more}
-use Rattle.std.proofs.lemmas.List.Elements.{Contains-append_left, Contains-push, Contains-push_cases}
+use Rattle.std.proofs.lemmas.List.Elements.{All-push, Contains-append_left, Contains-push, Contains-push_cases}
 use Rattle.rational.specs.Time.{Rational, Within, shifted, add, whole, ◌≤ʳ◌, ◌<ʳ◌, ◌≈◌}
 use Rattle.rational.proofs.Order.{le_or_lt, le_of_same, ge_of_same, le_trans, not_lt_of_le, same_refl, same_sym, same_trans}
 use Rattle.rational.proofs.TimeLemmas.{same_shifted, shifted-add}
 use Rattle.frac128.specs.Value.{value}
 use Rattle.frac128.specs.declared.frac.Frac.{Frac}
 use Rattle.stl_syntax.specs.Cells.{IsAmong}
-use Rattle.implicants.specs.Cuts.{times_of, Adds, IsMoved, IsMovedBy}
+use Rattle.implicants.specs.Cuts.{times_of, Adds, IsMoved, IsMovedBy, IsNearMove, AreNearMoves}
 
 -- what is among two lists is among the first or the second
 pub among_in : (xs ys : List Rational) (t : Rational) → IsAmong (xs ++ ys) t → IsAmong xs t ⊎ IsAmong ys t
@@ -108,6 +108,10 @@ module _ (from to : Rational) (k : ℤ) (old : List Rational) where
       by_order (inl a) (inl b) = put (record { above = a; below = b })
       by_order (inr a) o = skip (λ x. not_lt_of_le x.above a)
       by_order (inl a) (inr b) = skip (λ x. not_lt_of_le x.below b)
+
+-- one more move
+pub near_more : (ks : List ℤ) (k : ℤ) → AreNearMoves ks → IsNearMove k → AreNearMoves (ks ++ k ∷ [])
+near_more ks k h n = All-push IsNearMove ks k h n
 
 -- the times of one more
 pub times_more : (xs : List Frac) (i : ℕ) (d : Frac) → i < length xs → times_of (take (i + 1) xs) ≡ times_of (take i xs) ++ value (get_or xs i d) ∷ []
