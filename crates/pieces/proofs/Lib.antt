@@ -17,3 +17,11 @@ pub mod GoingOver
 pub mod RunningBack
 pub mod Composition
 pub mod Existence
+pub mod Bests
+pub mod StepLemmas
+pub mod SlidingLemmas
+pub mod Shifts
+pub mod WindowEnds
+pub mod Seeing
+pub mod Moving
+pub mod Reaching

@@ -5,3 +5,7 @@ pub mod Negating
 pub mod Knots
 pub mod Sinces
 pub mod Turning
+pub mod Best
+pub mod Steps
+pub mod Sliding
+pub mod Windows

@@ -11,10 +11,14 @@ mod next;
 mod piece;
 mod pieces;
 mod pointwise;
+mod reach;
 mod signals;
 mod since;
+mod sliding;
+mod steps;
 mod turning;
 mod until;
+mod window;
 
 pub use piece::Piece;
 pub use pieces::Pieces;
