@@ -506,8 +506,12 @@ module _ {P : Type 0} (shape : ShapeOf P) (side : Side) where
         by_part : (t : Rational) (v : Extended) → StepsGive shape side b old t v ⊎ StepsGive shape side (steps_end b old) (s ∷ []) t v
             → StepsGive shape side b old t v ⊎ (After (steps_end b old) t × Upto e t × Passes (shape.function p) t v)
         by_part t v (inl g) = inl g
-        by_part t v (inr (inl g)) = inr (g.0, subst (λ x. Upto x t) until g.1, subst (λ q. Passes (shape.function q) t v) is
-            (subst (λ o. IsWorthWith shape side s.shape o t v) none g.2))
+        by_part t v (inr (inl g)) = inr (
+          g.0,
+          subst (λ x. Upto x t) until g.1,
+          subst (λ q. Passes (shape.function q) t v) is
+              (subst (λ o. IsWorthWith shape side s.shape o t v) none g.2),
+        )
         by_part t v (inr (inr g)) = absurd g
 
         by_count : (tau : Rational) (q : P) → CountsInside b old tau q ⊎ CountsInside (steps_end b old) (s ∷ []) tau q
