@@ -13,15 +13,15 @@ use Rattle.value_laws.specs.Members.{ShapeOf, ShapeLaws}
 use Rattle.pieces.specs.declared.piece.Piece.{Piece}
 use Rattle.pieces.specs.declared.reach.Way.{Way}
 use Rattle.pieces.specs.declared.sliding.Sliding.{Sliding}
-use Rattle.pieces.specs.Best.{IsNoWorse, IsBetter}
+use Rattle.pieces.specs.Best.{IsNoWorse, IsBetter, GetsNoBetter}
 use Rattle.pieces.specs.Chains.{Chain, end, stop, IsNormal, IsWorth}
-use Rattle.pieces.specs.Steps.{AreSteps, FallOff, HasCounted, StepsGive, steps_end}
+use Rattle.pieces.specs.Steps.{AreSteps, FallOff, HasCounted, HasSlid, StepsGive, steps_end}
 use Rattle.pieces.specs.Sliding.{HasTold, IsBestWith, last_end}
 use Rattle.pieces.specs.Windows.{Sees, IsNonEmpty, IsPieceFrom, Best, BestTo, Stands, HasEntered}
 use Rattle.pieces.proofs.Bests.{Values, nw_trans, nw_back, better_is_second, better_alike, same_of_nw, best_value, best_of_fewer, best_over, over_best}
 use Rattle.pieces.proofs.Ends.{at_most_trans}
 use Rattle.pieces.proofs.StepLemmas.{give_after, give_upto, to_end}
-use Rattle.pieces.proofs.Seeing.{low, high, none, BestOf, floor, OfPiece, met_more, all_seen, none_seen}
+use Rattle.pieces.proofs.Seeing.{low, high, none, BestOf, floor, OfPiece, falling_within, met_more, all_seen, none_seen}
 
 module _ {P : Type 0} (shape : ShapeOf P) (laws : ShapeLaws shape) (chain : Chain P) (way : Way) (normal : IsNormal shape chain) where
   -- what is best of what is seen up to a place, as a best and as a Sup or an Inf
@@ -174,3 +174,53 @@ module _ {P : Type 0} (shape : ShapeOf P) (laws : ShapeLaws shape) (chain : Chai
         no_step : (t : Rational) (v : Extended) → StepsGive shape way.side (stop old.out) old.steps.items t v → ⊥
         no_step t v g = past t (behind t (give_after shape way.side (stop old.out) old.steps.items t v st.steps g)) (st.sees t v g).1
             (before_at_most (low shape laws chain way normal t) c left (st.sees t v g).0 most)
+
+  module _ (some : IsNonEmpty way.over) (c : Place) (p : Piece P) (is : IsPieceFrom shape chain c p) (old new : Sliding P)
+      (st : Stands shape chain way (end p) c old) (out : new.out ≡ old.out) (entered : HasEntered shape chain way c old)
+      (left_c : (t : Rational) → After (last_end old) t → Upto (stop chain) t → ¬ Before (low shape laws chain way normal t) c) where
+    -- a piece that gets worse counts as itself, once the window has left the place where it begins
+    pub stands_slid : (slope : P) (e : Place) → GetsNoBetter way.side (shape.function p.shape)
+        → ((t : Rational) → value_at (shape.function slope) t ≈ᵉ value_at (shape.function p.shape) (low shape laws chain way normal t).at)
+        → HasSlid shape way.side (stop old.out) old.steps.items slope e new.steps.items
+        → ((t : Rational) → Upto e t → Before (low shape laws chain way normal t) (end p) × Upto (stop chain) t)
+        → ((t : Rational) → After e t → Upto (stop chain) t → ¬ Before (low shape laws chain way normal t) (end p))
+        → Stands shape chain way (end p) (end p) new
+    stands_slid slope e falls moved slid sees past = record {
+      normal = subst (λ o. IsNormal shape o) (sym out) st.normal;
+      begins = subst (λ o. o.from ≡ chain.from) (sym out) st.begins;
+      on = subst (λ o. AtMost chain.from (stop o)) (sym out) st.on;
+      upto = subst (λ o. AtMost (stop o) (stop chain)) (sym out) st.upto;
+      told = λ t v w. st.told t v (subst (λ o. IsWorth shape o t v) out w);
+      steps = subst (λ o. AreSteps shape way.side (stop o) new.steps.items) (sym out) slid.steps;
+      gives = λ t v g. by_part t v (slid.gives t v (in_old t v g));
+      sees = λ t v g. sees_part t v (slid.gives t v (in_old t v g));
+      none = λ t a u x y s h. absurd (past t (slid.past t (subst (λ o. After (steps_end (stop o) new.steps.items) t) out a)).0 u
+          (before_through (low shape laws chain way normal t) (end p) x s.0 h));
+      reached = subst (λ o. AtMost (stop o) chain.from ⊎ ((t : Rational) → Upto (stop o) t → ¬ Before (end p) (high shape laws chain way normal t)))
+          (sym out) st.reached;
+    }
+      where
+        in_old : (t : Rational) (v : Extended) → StepsGive shape way.side (stop new.out) new.steps.items t v
+            → StepsGive shape way.side (stop old.out) new.steps.items t v
+        in_old t v g = subst (λ o. StepsGive shape way.side (stop o) new.steps.items t v) out g
+
+        sees_part : (t : Rational) (v : Extended)
+            → StepsGive shape way.side (stop old.out) old.steps.items t v ⊎ (After (last_end old) t × Upto e t × Passes (shape.function slope) t v)
+            → Before (low shape laws chain way normal t) (end p) × Upto (stop chain) t
+        sees_part t v (inl g) = let s = st.sees t v g in (before_trans (low shape laws chain way normal t) c (end p) s.0 is.order, s.1)
+        sees_part t v (inr (a, u, w)) = sees t u
+
+        by_part : (t : Rational) (v : Extended)
+            → StepsGive shape way.side (stop old.out) old.steps.items t v ⊎ (After (last_end old) t × Upto e t × Passes (shape.function slope) t v)
+            → BestTo shape chain way (end p) t v
+        by_part t v (inl g) = st.gives t v g
+        by_part t v (inr (a, u, w)) =
+            let in_domain = (sees t u).1 in
+            let begun = entered t (after_at_most (stop old.out) (last_end old) t (to_end shape way.side (stop old.out) old.steps.items st.steps) a) in_domain in
+            let value = value_at (shape.function p.shape) (low shape laws chain way normal t).at in
+            of_best (end p) t v (met_more shape laws chain way normal some c p is t
+            (none_seen shape laws chain way normal c t (λ x y s h. st.none t a in_domain x y s h))
+            (falling_within shape laws chain way normal some c p is t falls begun (left_c t a in_domain) (sees t u).0)
+            (better_alike (same_reflᵉ (none shape laws chain way normal)) (same_reflᵉ value) (symᵉ (transᵉ w (moved t)))
+            (better_is_second way.side (none shape laws chain way normal) value
+            (floor shape laws chain way normal p.shape (low shape laws chain way normal t).at))))

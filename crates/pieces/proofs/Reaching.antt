@@ -1,5 +1,5 @@
 -- The places at which a window comes to a place and leaves it, in a domain.
-use Rattle.std.proofs.Common.{arith, ◌≡◌, ◌⊎◌, inl, inr, ◌^◌, ℤ, pos, neg_ℤ, Bool, sym, subst}
+use Rattle.std.proofs.Common.{arith, ◌≡◌, ◌⊎◌, inl, inr, ◌^◌, ℤ, pos, neg_ℤ, sym, subst}
 use Rattle.std.specs.Prelude.{◌≤ℤ◌}
 use Rattle.rational.specs.Rational.{IsWithin}
 use Rattle.rational.specs.Time.{Rational, ◌≤ʳ◌, ◌≈◌, add, whole}

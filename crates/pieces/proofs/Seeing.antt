@@ -1,21 +1,20 @@
 -- What a window sees of a chain: the best of a piece, and the best when one more piece is met.
-use Rattle.std.proofs.Common.{◌≡◌, ◌⊎◌, inl, inr}
-use Rattle.rational.specs.Time.{Rational, ◌≤ʳ◌}
-use Rattle.rational.specs.Extended.{Extended, ◌≈ᵉ◌, value_at, Passes}
+use Rattle.std.proofs.Common.{◌⊎◌, inl, inr}
+use Rattle.rational.specs.Time.{Rational}
+use Rattle.rational.specs.Extended.{Extended, value_at, Passes}
 use Rattle.rational.specs.Affine.{IsSteady}
-use Rattle.rational.specs.Places.{Place, After, Upto, Before, AtMost, Same}
-use Rattle.rational.specs.Windows.{Function, Window}
-use Rattle.rational.proofs.PlaceLemmas.{sides, not_both, place_order, upto_of_before, after_of_before, after_same, upto_same, same_places, same_before}
-use Rattle.rational.proofs.PlaceLemmas.{before_same, before_through, at_most_of_not_before, after_at_most}
+use Rattle.rational.specs.Places.{Place, After, Upto, Before}
+use Rattle.rational.specs.Windows.{Window}
+use Rattle.rational.proofs.PlaceLemmas.{sides, place_order, upto_of_before, after_of_before, after_same, upto_same}
+use Rattle.rational.proofs.PlaceLemmas.{before_through, at_most_of_not_before, after_at_most}
 use Rattle.value_laws.specs.Members.{ShapeOf, ShapeLaws}
 use Rattle.pl_signal.specs.declared.joining.Side.{Side}
 use Rattle.pl_signal.specs.declared.joining.Side.TheVariants.{Least, Greatest}
 use Rattle.pieces.proofs.WindowEnds.{room_in}
 use Rattle.pieces.specs.declared.piece.Piece.{Piece}
-use Rattle.pieces.specs.declared.reach.Reach.{Reach}
 use Rattle.pieces.specs.declared.reach.Way.{Way}
 use Rattle.pieces.specs.Best.{IsNoWorse, IsBetter, none_of, GetsNoWorse, GetsNoBetter}
-use Rattle.pieces.specs.Chains.{Chain, end, stop, IsNormal, IsWorth}
+use Rattle.pieces.specs.Chains.{Chain, end, IsNormal, IsWorth}
 use Rattle.pieces.specs.Windows.{low_place, high_place, Sees, IsNonEmpty, IsPieceFrom, Best, BestTo}
 use Rattle.pieces.proofs.Bests.{IsBest, Values, nw_same, best_alike, best_value, best_union, best_at_end, best_at_begin, best_none, best_over, over_best}
 use Rattle.pieces.proofs.Telling.{worth_is_function}

@@ -1,5 +1,5 @@
 -- Times and shapes moved by an offset.
-use Rattle.std.proofs.Common.{arith, ◌≡◌, ◌≤◌, ℤ, pos, ◌^◌, ◌∙◌, ap, sym, to_z, of_z, w64, lit<}
+use Rattle.std.proofs.Common.{arith, ◌≡◌, ◌≤◌, ℤ, pos, ◌^◌, ◌∙◌, ap, to_z, of_z, w64, lit<}
 use Rattle.std.specs.Prelude.{◌-ℤ◌, neg_ℤ, ◌≤ℤ◌}
 use Rattle.std.specs.Int.RustNames.{unsigned_abs}
 use Rattle.std.proofs.lemmas.Int.{to_z-of_z, ints}

@@ -1,12 +1,12 @@
 -- A chain that goes on with the better of what a step gives and of a shape, and a window that tells more.
-use Rattle.std.proofs.Common.{◌≡◌, ◌⊎◌, ◌^◌, inl, inr, ℕ, List, [], ◌∷◌, Option, Some, None, Result, Ok, refl, sym, ap, ◌∙◌, subst}
+use Rattle.std.proofs.Common.{◌≡◌, ◌⊎◌, inl, inr, List, [], ◌∷◌, Option, Some, None, Result, Ok, refl, sym, ap, ◌∙◌, subst}
 use Rattle.std.specs.Prelude.{IfSome, MatchResult}
 use Rattle.std.proofs.lemmas.Option.{IfSome_then}
-use Rattle.rational.specs.Time.{Rational, ◌≤ʳ◌, ◌<ʳ◌, HasDenominator}
+use Rattle.rational.specs.Time.{Rational, ◌≤ʳ◌, ◌<ʳ◌}
 use Rattle.rational.specs.Extended.{Extended, value_at, Passes}
 use Rattle.rational.specs.Affine.{MeetAlone}
 use Rattle.rational.specs.Places.{Place, After, Upto, Before, AtMost}
-use Rattle.rational.proofs.Order.{le_refl, le_trans, le_of_lt, lt_of_le_of_lt, lt_of_lt_of_le}
+use Rattle.rational.proofs.Order.{le_refl, le_trans, lt_of_le_of_lt, lt_of_lt_of_le}
 use Rattle.rational.proofs.AffineLemmas.{same_reflᵉ}
 use Rattle.rational.proofs.PlaceLemmas.{upto_of_before, after_of_before, after_at_most, le_of_before, le_of_at_most}
 use Rattle.frac128.specs.Value.{value}
@@ -27,7 +27,7 @@ use Rattle.pieces.specs.Best.{IsNoWorse, IsBetter, FallsFrom, RisesFrom}
 use Rattle.pieces.specs.Chains.{Chain, stop, HasShape, IsNormal, IsWorth}
 use Rattle.pieces.specs.Building.{GoesOn}
 use Rattle.pieces.specs.Joining.{Joins}
-use Rattle.pieces.specs.Steps.{step_end, steps_end, IsOfStep, IsWorthWith, CountsInside, Gives, StepsGive, AreSteps, IsOther, IsStep}
+use Rattle.pieces.specs.Steps.{step_end, steps_end, IsOfStep, IsWorthWith, CountsInside, Gives, StepsGive, AreSteps, IsOther}
 use Rattle.pieces.specs.Sliding.{IsOfSteps, last_end, IsCross, IsCrossFault, IsWritten, IsBestWith, HasTold, IsToldFault}
 use Rattle.pieces.proofs.Bests.{nw_trans, better_of_chosen, better_some, better_is_first}
 use Rattle.pieces.proofs.Ends.{after_le, upto_le, at_most_of_before, at_most_itself, at_most_trans}

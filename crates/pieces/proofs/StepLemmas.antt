@@ -3,20 +3,21 @@ use Rattle.std.proofs.Common.{◌≡◌, ◌⊎◌, inl, inr, List, [], ◌∷�
 use Rattle.rational.specs.Rational.{IsWithin}
 use Rattle.rational.specs.Time.{Rational, ◌≤ʳ◌, ◌<ʳ◌}
 use Rattle.rational.specs.Extended.{Extended, value_at, Passes}
+use Rattle.rational.specs.Affine.{HasBoundedLevel}
 use Rattle.rational.specs.Places.{Place, After, Upto, Before, AtMost, Same}
 use Rattle.rational.proofs.Order.{le_refl, le_trans, lt_of_le_of_lt, lt_of_lt_of_le}
 use Rattle.rational.proofs.AffineLemmas.{same_reflᵉ}
 use Rattle.rational.proofs.Sames.{symᵉ}
 use Rattle.rational.proofs.PlaceLemmas.{between, sides, not_both, upto_of_before, after_of_before, after_at_most, le_through, le_of_at_most, place_order}
-use Rattle.rational.proofs.PlaceLemmas.{not_before_itself, before_at_most, le_of_before}
+use Rattle.rational.proofs.PlaceLemmas.{not_before_itself, before_at_most, le_of_before, at_most_of_not_before}
 use Rattle.frac128.specs.Cuts.{place}
 use Rattle.frac128.specs.declared.cut.Cut.{Cut}
 use Rattle.value_laws.specs.Members.{ShapeOf}
 use Rattle.pl_signal.specs.declared.joining.Side.{Side}
 use Rattle.pieces.specs.declared.steps.Step.{Step}
-use Rattle.pieces.specs.Best.{IsNoWorse, IsWorse, IsBetter}
+use Rattle.pieces.specs.Best.{IsNoWorse, IsWorse, IsBetter, FallsFrom}
 use Rattle.pieces.specs.Steps.{step_end, steps_end, IsOfStep, CountsInside, IsWorthWith, Gives, StepsGive, IsLevel, IsOther, IsStep, AreSteps}
-use Rattle.pieces.specs.Steps.{FallOff, IsHidden, Outlasts, IsCapped, HasCounted}
+use Rattle.pieces.specs.Steps.{FallOff, IsHidden, Outlasts, IsCapped, HasCounted, HasSlid}
 use Rattle.pieces.proofs.Bests.{nw_trans, nw_same, nw_back, nw_of_worse, near_place}
 use Rattle.pieces.proofs.Bests.{better_some, better_is_first, better_is_second, better_alike}
 use Rattle.pieces.proofs.Ends.{after_le, upto_le, at_most_trans, same_place}
@@ -468,3 +469,57 @@ module _ {P : Type 0} (shape : ShapeOf P) (side : Side) where
               of_two : (q ≡ s.shape) ⊎ (s.other ≡ Some q) → q ≡ p
               of_two (inl m) = subst (λ x. q ≡ x) is m
               of_two (inr m) = absurd (cc)
+
+  -- a shape that gets no better as a step of its own
+  pub slope_step : (b c : Place) (until : Cut) (p : P) → AtMost b c → Before c (place until) → IsWithin (2 ^ 34) (place until).at
+      → FallsFrom side b.at (place until).at (shape.function p) → HasBoundedLevel (2 ^ 31) (shape.function p)
+      → IsStep shape side c (record { until = until; shape = p; other = None })
+  slope_step b c until p on later within falls level = record {
+    later = later;
+    within = within;
+    falls = λ t u a k m. falls t u (le_trans (le_of_at_most b c on) a) k m;
+    level = level;
+    other = tt;
+  }
+
+  module _ (b : Place) (old : List (Step P)) (p : P) (e : Place) (steps : AreSteps shape side b old) where
+    -- nothing follows steps that end no earlier
+    pub slid_none : ¬ Before (steps_end b old) e → HasSlid shape side b old p e old
+    slid_none n = record {
+      steps = steps;
+      gives = λ t v g. inl g;
+      past = λ t a. (after_at_most e (steps_end b old) t (at_most_of_not_before e (steps_end b old) n) a, a);
+      shapes = λ tau q h. inl h;
+    }
+
+    -- a step follows
+    pub slid_on : (s : Step P) → s.shape ≡ p → s.other ≡ None → step_end s ≡ e → IsStep shape side (steps_end b old) s
+        → HasSlid shape side b old p e (old ++ s ∷ [])
+    slid_on s is none until step = record {
+      steps = steps_append b old (s ∷ []) steps (step, tt);
+      gives = λ t v g. by_part t v (give_in b old (s ∷ []) t v g);
+      past = λ t a. let k = subst (λ x. After x t) (steps_end_append b old (s ∷ [])) a in
+          (subst (λ x. After x t) until k, after_of_before (steps_end b old) (step_end s) t step.later k);
+      shapes = λ tau q h. by_count tau q (counts_in b old (s ∷ []) tau q h);
+    }
+      where
+        by_part : (t : Rational) (v : Extended) → StepsGive shape side b old t v ⊎ StepsGive shape side (steps_end b old) (s ∷ []) t v
+            → StepsGive shape side b old t v ⊎ (After (steps_end b old) t × Upto e t × Passes (shape.function p) t v)
+        by_part t v (inl g) = inl g
+        by_part t v (inr (inl g)) = inr (
+          g.0,
+          subst (λ x. Upto x t) until g.1,
+          subst (λ q. Passes (shape.function q) t v) is
+              (subst (λ o. IsWorthWith shape side s.shape o t v) none g.2),
+        )
+        by_part t v (inr (inr g)) = absurd g
+
+        by_count : (tau : Rational) (q : P) → CountsInside b old tau q ⊎ CountsInside (steps_end b old) (s ∷ []) tau q
+            → CountsInside b old tau q ⊎ ((q ≡ p) × ((steps_end b old).at <ʳ tau) × (tau <ʳ e.at))
+        by_count tau q (inl h) = inl h
+        by_count tau q (inr (inr h)) = absurd h
+        by_count tau q (inr (inl h)) = inr (of_two h.2, h.0, subst (λ x. tau <ʳ x.at) until h.1)
+          where
+            of_two : (q ≡ s.shape) ⊎ (s.other ≡ Some q) → q ≡ p
+            of_two (inl m) = subst (λ x. q ≡ x) is m
+            of_two (inr m) = absurd (cc)

@@ -1,6 +1,6 @@
 -- A window on its way: what it has told, and the steps that it will give; how it goes on under a shape that gets no worse.
 use Rattle.std.specs.Prelude.{◌≡◌, ◌⊎◌, ◌≤◌, ◌^◌, ℕ, List, [], ◌∷◌}
-use Rattle.rational.specs.Time.{Rational, ◌≤ʳ◌, ◌<ʳ◌, HasDenominator}
+use Rattle.rational.specs.Time.{Rational, ◌≤ʳ◌, HasDenominator}
 use Rattle.rational.specs.Extended.{Extended, value_at, Passes}
 use Rattle.rational.specs.Affine.{MeetAlone}
 use Rattle.rational.specs.Places.{Place, After, Upto, AtMost}

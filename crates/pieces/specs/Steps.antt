@@ -102,3 +102,11 @@ module _ {P : Type 0} (shape : ShapeOf P) (side : Side) where
         → ((x : Extended) × StepsGive b old t x × IsBetter side x (value_at (shape.function p) t) v)
         ⊎ (After (steps_end b old) t × Upto e t × Passes (shape.function p) t v)
     pub shapes : (tau : Rational) (q : P) → CountsInside b new tau q → CountsInside b old tau q ⊎ ((q ≡ p) × (b.at <ʳ tau) × (tau <ʳ e.at))
+
+  -- the new steps give what the old ones give, and behind them the shape, up to the place e
+  pub record HasSlid (b : Place) (old : List (Step P)) (p : P) (e : Place) (new : List (Step P)) : Type 0 where
+    pub steps : AreSteps b new
+    pub gives : (t : Rational) (v : Extended) → StepsGive b new t v
+        → StepsGive b old t v ⊎ (After (steps_end b old) t × Upto e t × Passes (shape.function p) t v)
+    pub past : (t : Rational) → After (steps_end b new) t → After e t × After (steps_end b old) t
+    pub shapes : (tau : Rational) (q : P) → CountsInside b new tau q → CountsInside b old tau q ⊎ ((q ≡ p) × ((steps_end b old).at <ʳ tau) × (tau <ʳ e.at))

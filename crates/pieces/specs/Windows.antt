@@ -5,9 +5,7 @@ use Rattle.rational.specs.Time.{Rational, ◌≤ʳ◌}
 use Rattle.rational.specs.Extended.{Extended, value_at}
 use Rattle.rational.specs.Places.{Place, After, Upto, Before, AtMost}
 use Rattle.rational.specs.Windows.{Function, Ahead, Behind, IsSupOver, IsInfOver}
-use Rattle.frac128.specs.Cuts.{place}
 use Rattle.value_laws.specs.Members.{ShapeOf}
-use Rattle.pl_signal.specs.declared.joining.Side.{Side}
 use Rattle.pieces.specs.declared.piece.Piece.{Piece}
 use Rattle.pieces.specs.declared.reach.Reach.{Reach}
 use Rattle.pieces.specs.declared.reach.Way.{Way}

@@ -2,10 +2,12 @@
 ghost use Rattle.std.specs.Prelude.{◌≡◌, ◌<◌, ◌^◌, MatchOption, OnOk};
 ghost use Rattle.std.specs.VecDeque.{deque_len, deque_capacity};
 ghost use Rattle.rational.specs.Rational.{IsWithin};
+ghost use Rattle.rational.specs.Affine.{HasBoundedLevel};
 ghost use Rattle.rational.specs.Places.{AtMost, Before};
 ghost use Rattle.frac128.specs.Value.{value as value_of};
 ghost use Rattle.frac128.specs.Cuts.{place};
-ghost use Rattle.pieces.specs.Steps.{AreSteps, FallOff, HasCounted, IsCapped, IsHidden, IsLevel, IsStep, Outlasts, steps_end};
+ghost use Rattle.pieces.specs.Best.{FallsFrom};
+ghost use Rattle.pieces.specs.Steps.{AreSteps, FallOff, HasCounted, HasSlid, IsCapped, IsHidden, IsLevel, IsStep, Outlasts, steps_end};
 
 use frac128::{Cut, Memory};
 use pl_signal::{Side, favour};
@@ -54,6 +56,41 @@ pub(crate) fn count<P: Shape>(
             other: None,
         });
     }
+    Ok(())
+}
+
+/// Lets a shape that gets no better follow the steps, up to a place; where they end no earlier nothing follows.
+///
+/// # Errors
+///
+/// `Memory` where memory is wanting.
+pub(crate) fn slide<P: Shape>(
+    side: Side,
+    from: &Cut,
+    steps: &mut VecDeque<Step<P>>,
+    slope: &P,
+    until: &Cut,
+) -> Result<(), Memory>
+    requires steps { AreSteps P.Shape side (place from.now) steps.old.items }
+    requires until_within { IsWithin (2 ^ 34) (value_of until.now.time) }
+    requires falls { FallsFrom side (value_of from.now.time) (value_of until.now.time) (P.function slope.now) }
+    requires level { HasBoundedLevel (2 ^ 31) (P.function slope.now) }
+    ensures { OnOk result (HasSlid P.Shape side (place from.now) steps.old.items slope.now (place until.now) steps.new.items) }
+{
+    // For the proof alone: which values are better.
+    let _ = side;
+    let begin = end_of(from, steps);
+    if !begin.precedes(until) {
+        return Ok(());
+    }
+    if steps.reserve(1).is_err() {
+        return Err(Memory);
+    }
+    steps.push_back_reserved(Step {
+        until: *until,
+        shape: *slope,
+        other: None,
+    });
     Ok(())
 }
 

@@ -1,14 +1,13 @@
-use Rattle.std.proofs.Common.{◌≡◌, ◌⊎◌, ◌^◌, inl, inr, Result, Ok, Err, sym, subst}
+use Rattle.std.proofs.Common.{◌≡◌, ◌^◌, inl, inr, Result, Ok, Err, sym, subst}
 use Rattle.std.specs.Prelude.{OnOk}
 use Rattle.rational.specs.Rational.{IsWithin}
-use Rattle.rational.specs.Time.{Rational}
 use Rattle.rational.specs.Extended.{value_at}
 use Rattle.rational.specs.Affine.{IsBounded}
-use Rattle.rational.specs.Places.{After, Upto, AtMost, Same}
+use Rattle.rational.specs.Places.{After, Upto, AtMost}
 use Rattle.rational.proofs.AffineLemmas.{bounded_same}
 use Rattle.rational.proofs.Mixed.{within_between}
 use Rattle.rational.proofs.Order.{le_trans}
-use Rattle.rational.proofs.PlaceLemmas.{after_same, upto_same, le_of_at_most}
+use Rattle.rational.proofs.PlaceLemmas.{after_same, le_of_at_most}
 use Rattle.rational.proofs.Sames.{symᵉ, transᵉ}
 use Rattle.frac128.specs.Cuts.{place}
 use Rattle.value_laws.specs.Members.{ShapeLaws}

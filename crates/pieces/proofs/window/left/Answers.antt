@@ -1,5 +1,4 @@
 use Rattle.std.proofs.Common.{◌≡◌, ◌⊎◌, inl, inr, ap}
-use Rattle.rational.specs.Places.{Place}
 use Rattle.frac128.specs.Cuts.{place}
 use Rattle.frac128.specs.declared.cut.Cut.{Cut}
 use Rattle.pieces.proofs.Reaching.{left_upto, left_after, left_within}

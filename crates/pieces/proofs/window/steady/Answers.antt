@@ -1,10 +1,10 @@
-use Rattle.std.proofs.Common.{◌≡◌, ◌^◌, inl, inr, refl, sym, ◌∙◌, subst}
+use Rattle.std.proofs.Common.{◌^◌, inl, inr, refl, sym, ◌∙◌, subst}
 use Rattle.std.proofs.lemmas.Bool.{false≢true}
 use Rattle.std.proofs.lemmas.Result.{on_ok_weaker}
 use Rattle.rational.specs.Rational.{IsWithin}
 use Rattle.rational.specs.Time.{Rational, add, whole}
-use Rattle.rational.specs.Extended.{value_at, ◌≈ᵉ◌}
-use Rattle.rational.specs.Places.{After, Upto, AtMost, Before}
+use Rattle.rational.specs.Extended.{value_at}
+use Rattle.rational.specs.Places.{Upto, AtMost, Before}
 use Rattle.rational.proofs.AffineLemmas.{bounded_same}
 use Rattle.rational.proofs.Mixed.{within_between}
 use Rattle.rational.proofs.Order.{le_trans}
@@ -13,7 +13,7 @@ use Rattle.rational.proofs.Sames.{symᵉ, transᵉ}
 use Rattle.frac128.specs.Cuts.{place}
 use Rattle.value_laws.specs.Members.{ShapeLaws}
 use Rattle.pieces.specs.Chains.{end, stop}
-use Rattle.pieces.specs.Steps.{FallOff, HasCounted, StepsGive, steps_end}
+use Rattle.pieces.specs.Steps.{FallOff, HasCounted, StepsGive}
 use Rattle.pieces.specs.Windows.{low_place}
 use Rattle.pieces.proofs.Bests.{best_value}
 use Rattle.pieces.proofs.Ends.{at_most_of_before, at_most_trans}
