@@ -87,6 +87,7 @@ here_after c = by_side c.after
     by_side true e = absurd (false≢true (sym e))
     by_side false e = le_refl c.at
 
+-- a place just after a time has that time before it
 pub here_upto : (c : Place) → c.after ≡ true → Upto c c.at
 here_upto c = by_side c.after
   where
@@ -99,6 +100,7 @@ pub earlier_upto : (c d : Place) → Before c d → Upto d c.at
 earlier_upto c d (inl l) = upto_of_lt d c.at l
 earlier_upto c d (inr (s, e, f)) = upto_time_same d d.at c.at (same_sym s) (here_upto d f)
 
+-- the time of a later place lies behind the earlier one
 pub later_after : (c d : Place) → Before c d → After c d.at
 later_after c d (inl l) = after_of_lt c d.at l
 later_after c d (inr (s, e, f)) = after_time_same c c.at d.at s (here_after c e)

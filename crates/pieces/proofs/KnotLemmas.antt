@@ -47,6 +47,7 @@ pub side_after : (n : ℕ) → (n ≡ 0 → ⊥) → is_after n ≡ true
 side_after zero h = absurd (h refl)
 side_after (suc n) h = refl
 
+-- the side 0 is that just before the time
 pub side_before : (n : ℕ) → n ≡ 0 → is_after n ≡ false
 side_before zero h = refl
 side_before (suc n) h = absurd (omega (arith, h))

@@ -92,6 +92,7 @@ pub turned_before : (c d : Place) → Before c d → Before (turned d) (turned c
 turned_before c d (inl l) = inl (lt_negate l)
 turned_before c d (inr (s, e, f)) = inr (same_negate (same_sym s), ap not f, ap not e)
 
+-- places of one time and side are so too once time runs back
 pub turned_same : {c d : Place} → Same c d → Same (turned c) (turned d)
 turned_same (s, e) = (same_negate s, ap not e)
 

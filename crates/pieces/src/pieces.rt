@@ -50,7 +50,7 @@ impl<P: Shape> Pieces<P> {
         }
     }
 
-    /// No piece yet, with memory at once for as many as `room` says: that many ask for no more.
+    /// No piece yet. It asks at once for the memory of as many as `room` says; no clause speaks of how much there is.
     ///
     /// # Errors
     ///

@@ -133,7 +133,8 @@ module _ {T : Type 0} (AreLines : List T → List ℕ → Type 0) (AreTold : Tra
   -- what a kind of lines has
   pub record IsKind (p : Subformula) (New : NewText) : Type 0 where
     -- a new text is lines
-    pub new_lines : (rows : List Row) (old new : Option ℤ) (text : List ℕ) → Low (first_time rows) old → New (record { header = header; rows = rows }) old new text
+    pub new_lines : (rows : List Row) (old new : Option ℤ) (text : List ℕ) → Low (first_time rows) old
+        → New (record { header = header; rows = rows }) old new text
         → Lines rows old new text
     -- what is settled stays
     pub stays : (r : Row) (rows : List Row) (tr : Trace) (t : Rational) → IsTrace tr → Continues tr header (r ∷ rows) false
@@ -248,7 +249,8 @@ module _ {T : Type 0} {AreLines : List T → List ℕ → Type 0} {AreTold : Tra
   -- the lines of the rows and those of the end lead over the trace
   pub whole_passage : (rows : List Row) (during rest : List ℕ) → AreRows (length header.columns) rows → IsRowsText New p header [] None rows during
       → IsRestText New p (record { header = header; rows = rows }) rest
-      → Passage AreLines AreTold Agree Led header (first_time rows) None (Some (pos (last_time 0 rows))) (record { header = header; rows = rows }) (during ++ rest)
+      → Passage AreLines AreTold Agree Led header (first_time rows) None (Some (pos (last_time 0 rows))) (record { header = header; rows = rows })
+      (during ++ rest)
   whole_passage rows during rest are t at_end =
       let tr : Trace = record { header = header; rows = rows } in
       let c = course tr (record { rows = are }) (first_time rows) refl [] None rows during refl refl are refl t in

@@ -95,6 +95,7 @@ pub record NeededOf (start : ℕ) (shown reader : Front) (k : ℤ) (parts held :
   -- and the others are they, merged
   pub merged : AreMergedFor start shown reader k some held
 
+-- what a reader needs of verdicts that are parts merged is what it needs of the parts, merged
 pub needed_of : (start : ℕ) (shown reader : Front) (k : ℤ) (parts vs held : List Verdict) → IsWhole start shown parts → IsWhole start shown vs
     → AreMerged parts vs → AreNeeded start shown reader k vs held → NeededOf start shown reader k parts held
 needed_of start None reader k parts vs held tiles others merged h = record { some = []; needed_is = refl; merged = (refl, h) }

@@ -348,6 +348,7 @@ module _ (nodes : List Node) (header : Header) (order : IsPostOrder nodes) (one 
             (subst (λ o. P (first_time (at b.each).rows) o ((at events).fronts edge.reader)) (sym (same_shown driven by_rows_driven i l))
             (subst (λ r. P (first_time r) (shown (at events) i) ((at events).fronts edge.reader)) (sym (same_rows driven by_rows_driven)) h))
 
+-- each run that a stream drives stands for the one row by row
 pub runs_stand_for_rows : RunsStandForRows
 unfolding state
 runs_stand_for_rows nodes header order one rows ended events run driven =
@@ -381,6 +382,7 @@ root_edge nodes header events each held edge all other =
       is = edge.is ∙ drop_all edge.taken edge.emitted (omega (arith, same, alike, end)) ∙ sym (drop_all other.taken other.emitted (omega (arith, last)));
     }
 
+-- and so does each watch whose nodes have stepped
 pub watches_stand_for_rows : WatchesStandForRows
 watches_stand_for_rows v c ended w =
     let nodes = c.formula.nodes in
