@@ -19,7 +19,7 @@ use Rattle.stl_syntax.specs.declared.atom.Atom.{Atom}
 use Rattle.stl_syntax.specs.declared.items.Verdict.{Verdict}
 use Rattle.rational.specs.Places.{Place, begins, ends, Upto, AtMost, Before, Same}
 use Rattle.frac128.specs.Cuts.{place}
-use Rattle.online_nodes.specs.Held.{Held, edge_at, no_edge, with_edge, with_more, with_number}
+use Rattle.online_nodes.specs.Held.{Held, edge_at, no_edge, with_edge, with_number}
 use Rattle.frac128.specs.Value.{value}
 use Rattle.frac128.specs.declared.frac.Frac.{Frac}
 use Rattle.stl_syntax.specs.Verdicts.{Describes}
@@ -32,7 +32,7 @@ use Rattle.value_laws.specs.declared.truth.Truth.{Truth as ATruth}
 use Rattle.online_nodes.specs.Truths.{AllAre}
 use Rattle.frac128.specs.Spans.{interval}
 use Rattle.online_nodes.specs.Written.{HasAnswer, HasFinished, HasGot, HasTold, Lead, Reaches}
-use Rattle.online_nodes.proofs.GotLemmas.{got_both, got_none, got-here, got-other, got-length}
+use Rattle.online_nodes.proofs.GotLemmas.{got_both, got_none, got-other, got-length}
 use Rattle.online_net.specs.Atoms.{HasSaidThree, HasBegun, IsThrough, IsPut, HasPutAtom, HasPutAtoms, StandsNext, row_stretch, before_row, after_row}
 use Rattle.frac128.specs.declared.cut.Cut.{Cut}
 use Rattle.online_nodes.specs.declared.writer.Out.{Out}
@@ -61,7 +61,7 @@ pub said_three : {e0 e1 e2 e3 : Held} {o0 o1 o2 o3 : Out} {h1 h2 h3 : Bool} (c1 
     → HasSaidThree e0 e3 o0 h1 (place c1) h2 (place c2) h3 (place c3) o3
 said_three {e0} {e1} {e2} {e3} {o0} {o1} {o2} {o3} {h1} {h2} {h3} c1 c2 c3 within a1 r1 a2 r2 a3 r3 = record {
   more = a1.more ++ a2.more ++ a3.more;
-  got = got_both within (got_both within a1.got (subst (λ i. HasGot e1 e2 i a2.more) a1.edge a2.got))
+  got = got_both (got_both a1.got (subst (λ i. HasGot e1 e2 i a2.more) a1.edge a2.got))
       (subst (λ i. HasGot e2 e3 i a3.more) (a2.edge ∙ a1.edge) a3.got);
   edge = a3.edge ∙ a2.edge ∙ a1.edge;
   to = a3.end ∙ a2.end ∙ a1.end;
@@ -288,7 +288,7 @@ pub atom_put : {b : Binding} {i : ℕ} (before : Option Row) (r : Row) {e0 e1 e2
     → HasAnswer e1 e2 out1 holds out2 → Reaches out1 end out2 → HasFinished e2 e3 out2
     → HasNoted e3 e4 i r.time → IsTruthAt b i r holds → HasPutAtom b before r i e0 e4
 atom_put {b} {i} before r {e0} {e1} {e2} {e3} {e4} {out1} {out2} {end} {holds} within later ends_so begun answer reaches finished noted truth = record {
-  here = record { more = all; is = here; describes = describes };
+  here = record { more = all; put = edge_at e3 i; got = got.here; is = here; describes = describes };
   others = λ j other. ap (λ es. get_or es j no_edge) noted.edges ∙ get_or-set_other e3.edges i j _ no_edge other ∙ got-other got j other;
   count = ap length noted.edges ∙ length-set e3.edges i _ ∙ got-length got;
   start = noted.start ∙ got.start;
@@ -301,12 +301,11 @@ atom_put {b} {i} before r {e0} {e1} {e2} {e3} {e4} {out1} {out2} {end} {holds} w
     edge2 = answer.edge ∙ begun.edge
 
     got : HasGot e0 e3 i ((begun.more ++ answer.more) ++ finished.more)
-    got = got_both within (got_both within begun.got (subst (λ k. HasGot e1 e2 k answer.more) begun.edge answer.got))
+    got = got_both (got_both begun.got (subst (λ k. HasGot e1 e2 k answer.more) begun.edge answer.got))
         (subst (λ k. HasGot e2 e3 k finished.more) edge2 finished.got)
 
-    here : edge_at e4 i ≡ with_number (with_more (edge_at e0 i) all) (pos r.time)
+    here : edge_at e4 i ≡ with_number (edge_at e3 i) (pos r.time)
     here = ap (λ es. get_or es i no_edge) noted.edges ∙ get_or-set_same e3.edges i _ no_edge (subst (λ n. i < n) (sym (got-length got)) within)
-        ∙ ap (λ x. with_number x (pos r.time)) (got-here got within)
 
     there : Same (place out1.at) (before_row r) → Same (place out2.at) (after_row r)
     there begins_so = same_trans_places (stands_at out1 out2 end reaches
@@ -350,15 +349,14 @@ pub even_put : (b : Binding) (i : ℕ) (first r : Row) {e0 e1 e2 : Held} (v : Ve
     → Same (after_row first) (begins (interval v.on)) → Same (ends (interval v.on)) (after_row r) → HasGot e0 e1 i (v ∷ [])
     → HasNoted e1 e2 i r.time → IsThrough b i first r v.holds → HasPutAtom b (Some first) r i e0 e2
 even_put b i first r {e0} {e1} {e2} v within later from to got noted truth = record {
-  here = record { more = v ∷ []; is = here; describes = describes };
+  here = record { more = v ∷ []; put = edge_at e1 i; got = got.here; is = here; describes = describes };
   others = λ j other. ap (λ es. get_or es j no_edge) noted.edges ∙ get_or-set_other e1.edges i j _ no_edge other ∙ got-other got j other;
   count = ap length noted.edges ∙ length-set e1.edges i _ ∙ got-length got;
   start = noted.start ∙ got.start;
 }
   where
-    here : edge_at e2 i ≡ with_number (with_more (edge_at e0 i) (v ∷ [])) (pos r.time)
+    here : edge_at e2 i ≡ with_number (edge_at e1 i) (pos r.time)
     here = ap (λ es. get_or es i no_edge) noted.edges ∙ get_or-set_same e1.edges i _ no_edge (subst (λ n. i < n) (sym (got-length got)) within)
-        ∙ ap (λ x. with_number x (pos r.time)) (got-here got within)
 
     some : Before (after_row first) (after_row r)
     some = before_trans (after_row first) (before_row r) (after_row r) (rows_order first r later) (row_order r)

@@ -24,7 +24,8 @@ use Rattle.online_nodes.specs.declared.operator.Operator.{Operator}
 use Rattle.online_nodes.proofs.RunLaw.{none_is_none, allowed_bound}
 use Rattle.online_nodes.proofs.DroppingLemmas.{slice_get-drop, held_of-without}
 use Rattle.online_nodes.proofs.RisingLaw.{IsSound, sound_of, same_is, same_of}
-use Rattle.online_nodes.proofs.EdgeLaw.{edge_stays, root_stays}
+use Rattle.online_nodes.proofs.EdgeLaw.{root_stays}
+use Rattle.online_nodes.proofs.StretchLaw.{joined_stays}
 use Rattle.online_net.specs.Nets.{Parts, Stands, IsNext, first_row, last_row_of, last_row_after}
 use Rattle.online_net.specs.Steps.{IsStep}
 use Rattle.online_net.proofs.Events.{stand, keep, operator_stays, input_same, read_place, root_here, stepped_stands, taken_stands}
@@ -180,12 +181,12 @@ module _ (nodes : List Node) (header : Header) (events : List Event) (net : Part
   -- a step of a node that is not ready changes nothing
   pub idle_stands : (i : ℕ) → i < length nodes → node_is_atom nodes i ≡ false → ¬ IsReady nodes s i → Stands nodes header net (events ++ step i ∷ [])
   idle_stands i l other unready = stand nodes header events net st (step i) may net (λ j h. st.shows.fronts j h ∙ sym (stays j))
-      (λ j h. edge_stays nodes header formed events (step i) st.run may j (omega (arith, h)) (held_at net.edges j) (st.shows.edges j h)
+      (λ j h. joined_stays nodes header formed events (step i) st.run may j (omega (arith, h)) (held_at net.edges j) (st.shows.edges j h)
       (slice_get_within nodes (st.shows.edges j h).reader (st.shows.edges j h).reading (st.shows.edges j h).at_reader)
       (stays (st.shows.edges j h).reader) (stays j))
       (root_stays nodes header formed events (step i) (λ e. let z : step i ≡ take = e in cc) st.run (root_here nodes header events net st)
       (held_at net.edges (length nodes - 1)) st.shows.root (stays (length nodes - 1)))
-      (keep nodes header events net st (step i) may net refl refl refl st.holds.start st.holds.last st.holds.closed st.holds.running st.holds.at_atom
+      (keep nodes header events net st (step i) may net refl refl refl st.holds.plain st.holds.start st.holds.last st.holds.closed st.holds.running st.holds.at_atom
       (λ j n at a. operator_stays nodes header events net st (step i) may net.edges j n at a (stays j)
       (λ left k r. input_same nodes header events net st (step i) may k (read_place nodes header events net st j n left k at r) net.edges (stays k) refl)))
     where
@@ -322,7 +323,7 @@ module _ (nodes : List Node) (header : Header) (events : List Event) (net : Part
   -- the root's first verdict is taken
   pub took_stands : (e' : Held) (k : ℕ) → k ≡ length nodes - 1 → e'.edges ≡ with_edge net.edges k (without 1 (edge_at net.edges k)) → e'.start ≡ net.edges.start
       → Stands nodes header (record net { edges = e' }) (events ++ take ∷ [])
-  took_stands e' k is x y = taken_stands nodes header events net st e' others held number count y
+  took_stands e' k is x y = taken_stands nodes header events net st e' others joins held number count y
     where
       root_l : length nodes - 1 < length net.edges.edges
       root_l = let h = root_here nodes header events net st in let d = st.holds.edges in omega (arith, h, d)
@@ -339,6 +340,9 @@ module _ (nodes : List Node) (header : Header) (events : List Event) (net : Part
       held : held_at e' (length nodes - 1) ≡ drop 1 (held_at net.edges (length nodes - 1))
       held = ap held_of here ∙ held_of-without 1 (edge_at net.edges (length nodes - 1))
 
+      joins : (edge_at e' (length nodes - 1)).joins ≡ (edge_at net.edges (length nodes - 1)).joins
+      joins = ap (λ (z : Edge). z.joins) here
+
       number : number_at e' (length nodes - 1) ≡ number_at net.edges (length nodes - 1)
       number = ap (λ (z : Edge). z.number) here
 
@@ -350,7 +354,7 @@ module _ (nodes : List Node) (header : Header) (events : List Event) (net : Part
       → IsNext nodes header events None × Stands nodes header net (events ++ take ∷ [])
   none_took k is none = (
     next_is None (sym (ap (λ l. slice_get l 0) empty)),
-    taken_stands nodes header events net st net.edges (λ j d. refl) (empty ∙ sym (ap (drop 1) empty)) refl refl refl,
+    taken_stands nodes header events net st net.edges (λ j d. refl) refl (empty ∙ sym (ap (drop 1) empty)) refl refl refl,
   )
     where
       nothing : (l : List Verdict) → length l ≡ 0 → l ≡ []

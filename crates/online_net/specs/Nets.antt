@@ -8,7 +8,7 @@ use Rattle.stl_syntax.specs.declared.scale.Scale.{Scale}
 use Rattle.atom_lines.specs.Binding.{Binding, IsBound}
 use Rattle.online_nodes.specs.Network.{Event, is_atom, state, Emitted}
 use Rattle.online_nodes.specs.Needed.{Shown, StandsFor, IsTaken}
-use Rattle.online_nodes.specs.Held.{Held, held_at, number_at}
+use Rattle.online_nodes.specs.Held.{Held, edge_at, held_at, number_at}
 use Rattle.online_nodes.specs.Belonging.{StandsForSteps}
 use Rattle.online_nodes.specs.declared.operator.Operator.{Operator}
 use Rattle.online_net.specs.declared.net.NetFault.{NetFault}
@@ -55,6 +55,8 @@ pub record Keeps (nodes : List Node) (header : Header) (net : Parts) (events : L
   pub scale : Scale
   pub bound : IsBound net.bound (record { nodes = nodes; scale = scale }) header
   pub edges : length net.edges.edges ≡ length nodes
+  -- on the root's edge no neighbours are joined
+  pub plain : (edge_at net.edges (length nodes - 1)).joins ≡ false
   pub operators : length net.operators ≡ length nodes
   pub start : net.edges.start ≡ option_map (λ (r : Row). r.time) (first_row (state nodes events).rows)
   pub last : net.last ≡ last_row_of (state nodes events).rows

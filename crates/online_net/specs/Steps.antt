@@ -1,9 +1,9 @@
 -- What the network's own calls leave: the operators of a new network, and a step of one.
-use Rattle.std.specs.Prelude.{◌≡◌, ℕ, ◌<◌, Bool, true, false, List, [], ◌∷◌, ◌++◌, length, Option, Some, None, slice_index_or}
+use Rattle.std.specs.Prelude.{◌≡◌, ℕ, ◌-◌, ◌<◌, Bool, true, false, List, [], ◌∷◌, ◌++◌, length, Option, Some, None, slice_index_or}
 use Rattle.stl_syntax.specs.Trace.{Header}
 use Rattle.stl_syntax.specs.declared.node.Node.{Node}
 use Rattle.online_nodes.specs.Network.{Event, step, state, node_is_atom, IsReady}
-use Rattle.online_nodes.specs.Held.{Held, edge_at}
+use Rattle.online_nodes.specs.Held.{Edge, Held, edge_at}
 use Rattle.online_nodes.specs.Belonging.{Belongs, HasStepped, StandsForSteps}
 use Rattle.online_nodes.specs.declared.operator.Operator.{Operator}
 
@@ -18,6 +18,19 @@ IsFirstOperator nodes i (Some op) =
 pub record AreFirstOperators (nodes : List Node) (operators : List (Option Operator)) (n : ℕ) : Type 0 where
   pub count : length operators ≡ n
   pub first : (i : ℕ) → i < n → IsFirstOperator nodes i (slice_index_or operators i None)
+
+-- the edge of a node that gave out nothing
+pub record IsNewEdge (x : Edge) : Type 0 where
+  pub seen : x.seen ≡ []
+  pub fresh : x.fresh ≡ []
+  pub number : x.number ≡ None
+
+-- the edges of n nodes that gave out nothing; on the last one no neighbours are joined
+pub record AreNewEdges (n : ℕ) (e : Held) : Type 0 where
+  pub count : length e.edges ≡ n
+  pub new : (i : ℕ) → IsNewEdge (edge_at e i)
+  pub plain : (edge_at e (n - 1)).joins ≡ false
+  pub start : e.start ≡ None
 
 -- one step of an operator that was ready
 pub record IsStep (nodes : List Node) (header : Header) (events : List Event) (operator : Operator) (old new : Held) (now : ℕ) (ended : Bool)

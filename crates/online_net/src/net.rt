@@ -11,7 +11,7 @@ ghost use Rattle.atom_lines.specs.Binding.{IsBound};
 ghost use Rattle.online_nodes.specs.Network.{Event, row as came, step as stepped, close as ended, take as taken, state, shown, node_is_atom, IsReady};
 ghost use Rattle.online_nodes.specs.Held.{held_at};
 ghost use Rattle.online_nodes.specs.Belonging.{Belongs, BelongsSomewhere};
-ghost use Rattle.online_net.specs.Steps.{AreFirstOperators, IsFirstOperator, IsStep};
+ghost use Rattle.online_net.specs.Steps.{AreFirstOperators, AreNewEdges, IsFirstOperator, IsStep};
 ghost use Rattle.stl_syntax.specs.Trace.{Row as ARow};
 
 use crate::atom::put_row;
@@ -91,6 +91,18 @@ fn operators_of(alloc: Global, formula: &Formula) -> Result<Vec<Option<Operator>
     Ok(operators)
 }
 
+/// The edges of so many nodes. Each but the last one, the root's, joins neighbours of one truth.
+fn edges_of(alloc: Global, count: u32) -> Result<Edges, Memory>
+    requires { 0 < count }
+    ensures { IfOk result (AreNewEdges count) }
+{
+    let mut edges = Edges::new(alloc, count)?;
+    for i in 0..count - 1 {
+        edges.join(i);
+    }
+    Ok(edges)
+}
+
 /// The time of a row, if there is one.
 fn time_of(row: &Option<Row>) -> Option<u32>
     ensures { result ≡ option_map (λ (r : ARow). r.time) row.now }
@@ -151,7 +163,7 @@ impl Net {
         ensures no_row { IfOk result (λ net. net.last ≡ None) }
     {
         let operators = operators_of(alloc, formula)?;
-        let edges = Edges::new(alloc, formula.len())?;
+        let edges = edges_of(alloc, formula.len())?;
         Ok(Net {
             edges,
             operators,
@@ -318,7 +330,7 @@ impl Net {
         self.edges.take(root)
     }
 
-    /// How many verdicts stand on the node's edge; 0 where the network is stopped.
+    /// How many verdicts stand on the node's edge, where neighbours that were joined are one; 0 where the network is stopped.
     pub fn held(&self, node: u32) -> usize
         requires { node < length self.now.operators }
         ensures stopped { self.now.stopped ≡ true → result ≡ 0 }

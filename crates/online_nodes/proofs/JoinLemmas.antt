@@ -199,7 +199,7 @@ module _ {old mid : Held} {join : Join} {inputs : Inputs} {out next : Out} {v w 
   kept_right = ap (λ x. x.fresh) (got-other said.said.got inputs.right said.right_apart)
 
   put_only : HasWorked old mid out.edge inputs.left inputs.right said.said.more
-  put_only = worked_put said.own said.left_apart said.right_apart said.said.got
+  put_only = worked_put said.left_apart said.right_apart said.said.got
 
   module _ {n p q : Subformula} {tr : Trace} {begin : Place} {written : List Verdict} {left right stop_left stop_right : Place}
       (join_of : IsJoinOf join n p q tr)

@@ -1,8 +1,10 @@
--- What a streaming network holds: of each node the verdicts that its reader still needs, and of the root those that were not taken.
+-- What a streaming network holds: of each node the verdicts that its reader still needs, some neighbours of one truth joined, and of the
+-- root those that were not taken.
 use Rattle.std.specs.Prelude.{◌≡◌, ◌≢◌, ◌⊎◌, ℕ, suc, ◌-◌, ◌<◌, Bool, true, false, List, [], ◌∷◌, ◌++◌, length, drop, ℤ, Some, None, slice_get}
 use Rattle.rational.specs.Time.{Rational, Interval, IsIn}
 use Rattle.stl_syntax.specs.Trace.{Header, first_time}
 use Rattle.frac128.specs.Spans.{interval}
+use Rattle.online_nodes.specs.Held.{AreStretches}
 use Rattle.online_nodes.specs.Network.{Event, take, Front, IsRun, shown, state, reach_back, needed, Emitted}
 use Rattle.stl_syntax.specs.declared.items.Verdict.{Verdict}
 use Rattle.stl_syntax.specs.declared.node.Node.{Node}
@@ -43,7 +45,7 @@ abbrev pub AreNeeded : ℕ → Front → Front → ℤ → List Verdict → List
 AreNeeded start None reader k verdicts held = held ≡ []
 AreNeeded start (Some f) reader k verdicts held = AreMeeting (needed start f reader k) verdicts held
 
--- the edge of node i, which is not the root, after a run
+-- the segments of node i, which is not the root, that its reader may still need after a run
 pub record IsEdge (nodes : List Node) (header : Header) (events : List Event) (i : ℕ) (held : List Verdict) : Type 0 where
   pub reader : ℕ
   pub reading : Node
@@ -54,6 +56,21 @@ pub record IsEdge (nodes : List Node) (header : Header) (events : List Event) (i
   pub is_emitted : Emitted nodes header events i emitted
   pub is_needed : AreNeeded (first_time (state nodes events).rows) (shown (state nodes events) i)
       ((state nodes events).fronts reader) (reach_back reading left) emitted held
+
+-- the edge of node i, which is not the root, after a run: of what the node gave out, some neighbours of one truth joined, it holds what its
+-- reader may still need
+pub record IsJoinedEdge (nodes : List Node) (header : Header) (events : List Event) (i : ℕ) (held : List Verdict) : Type 0 where
+  pub reader : ℕ
+  pub reading : Node
+  pub left : Bool
+  pub at_reader : slice_get nodes reader ≡ Some reading
+  pub reads : IsReader reading left i
+  pub emitted : List Verdict
+  pub is_emitted : Emitted nodes header events i emitted
+  pub stretches : List Verdict
+  pub are_joined : AreStretches stretches emitted
+  pub is_needed : AreNeeded (first_time (state nodes events).rows) (shown (state nodes events) i)
+      ((state nodes events).fronts reader) (reach_back reading left) stretches held
 
 -- a take gives the root's next verdict, if there is one; n were taken in all
 pub data IsTaken (nodes : List Node) (header : Header) : List Event → ℕ → Type 0 where
@@ -80,7 +97,7 @@ pub record Shown : Type 0 where
 -- the object shows what the network has after the run
 pub record Shows (nodes : List Node) (header : Header) (net : Shown) (events : List Event) : Type 0 where
   pub fronts : (i : ℕ) → i < length nodes → net.fronts i ≡ (state nodes events).fronts i
-  pub edges : (i : ℕ) → suc i < length nodes → IsEdge nodes header events i (net.edges i)
+  pub edges : (i : ℕ) → suc i < length nodes → IsJoinedEdge nodes header events i (net.edges i)
   pub root : IsRootEdge nodes header events (net.edges (length nodes - 1))
 
 -- the object stands for the run: it shows what the network has, and `Holds` says of what it keeps beside that, as the last row, the

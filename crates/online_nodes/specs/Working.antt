@@ -1,7 +1,7 @@
 -- What a node's step does to the edges: it reads on in its inputs' edges and puts verdicts onto its own.
 use Rattle.std.specs.Prelude.{Some, slice_get, ◌<◌, ◌≡◌, ◌≢◌, ℕ, ◌+◌, ◌≤◌, List, drop, length}
 use Rattle.stl_syntax.specs.declared.items.Verdict.{Verdict}
-use Rattle.online_nodes.specs.Held.{Edge, Held, edge_at, held_of, with_edge, with_more, with_read}
+use Rattle.online_nodes.specs.Held.{Edge, Held, edge_at, held_of, with_edge, with_read, HasMore}
 
 -- some verdicts that were not read are read now; the edge holds what it held
 pub record IsReadOn (old new : Edge) : Type 0 where
@@ -14,7 +14,7 @@ pub record IsReadOn (old new : Edge) : Type 0 where
 -- read; nothing else changed
 pub record HasWorked (old new : Held) (own left right : ℕ) (more : List Verdict) : Type 0 where
   pub count : length new.edges ≡ length old.edges
-  pub got : edge_at new own ≡ with_more (edge_at old own) more
+  pub got : HasMore (edge_at old own) (edge_at new own) more
   pub left_read : IsReadOn (edge_at old left) (edge_at new left)
   pub right_read : IsReadOn (edge_at old right) (edge_at new right)
   pub others : (j : ℕ) → j ≢ own → j ≢ left → j ≢ right → edge_at new j ≡ edge_at old j

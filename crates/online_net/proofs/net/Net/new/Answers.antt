@@ -1,9 +1,8 @@
-use Rattle.std.proofs.Common.{false, None, [], refl, ap, ◌∙◌}
+use Rattle.std.proofs.Common.{false, None, [], refl, subst}
 use Rattle.stl_syntax.specs.Trace.{Header}
-use Rattle.std.specs.Prelude.{replicate}
 use Rattle.atom_lines.specs.Binding.{IsBound}
-use Rattle.online_nodes.specs.Held.{no_edge}
 use Rattle.online_net.specs.Nets.{Stands}
+use Rattle.online_net.specs.Steps.{AreNewEdges}
 use Rattle.online_net.proofs.Fresh.{new_stands}
 use Rattle.online_net.proofs.net.Net.new.Goals as goal
 use Rattle.online_net.proofs.net.Net.new.Goals.{In_ok-edges}
@@ -27,7 +26,7 @@ fresh c header bound = new_stands c.args.formula.now.nodes header c.len.ensures.
       closed = false;
       stopped = false;
     })
-    bound (c.in_ok-edges.ensures.edges ∙ ap (λ n. replicate n no_edge) c.len.ensures.count) c.in_ok-edges.ensures.start c.in_ok-operators.ensures refl refl refl
+    bound (subst (λ n. AreNewEdges n c.in_ok-edges.edges) c.len.ensures.count c.in_ok-edges.ensures) c.in_ok-operators.ensures refl refl refl
 
 pub invariant_of-result : goal.invariant_of-result
 invariant_of-result c running = (c.args.formula.now.nodes, c.requires.0, [], fresh c c.requires.0 c.requires.1)
