@@ -42,7 +42,7 @@ tiles_from c d (v ∷ vs) e s (r, b, rest) = (same_trans_places s r, b, rest)
 -- ---- truths
 
 -- the truths of neighbours differ
-abbrev Alternate : List Verdict → Type 0
+abbrev pub Alternate : List Verdict → Type 0
 Alternate [] = Unit {0}
 Alternate (v ∷ vs) = BeginsOther v.holds vs × Alternate vs
 
@@ -50,7 +50,8 @@ alternate_on : (p : Subformula) (tr : Trace) (stretch : Interval) (v : Verdict) 
 alternate_on p tr stretch v [] h = (tt, tt)
 alternate_on p tr stretch v (w ∷ vs) h = (λ e. h.1 (sym e), alternate_on p tr stretch w vs h.3)
 
-alternate : (p : Subformula) (tr : Trace) (stretch : Interval) (vs : List Verdict) → Describes vs p tr stretch → Alternate vs
+-- so it is where verdicts describe a stretch
+pub alternate : (p : Subformula) (tr : Trace) (stretch : Interval) (vs : List Verdict) → Describes vs p tr stretch → Alternate vs
 alternate p tr stretch [] h = absurd h
 alternate p tr stretch (v ∷ vs) h = alternate_on p tr stretch v vs h.2
 
@@ -144,7 +145,8 @@ module _ (p : Subformula) (tr : Trace) where
       by_end more (inr (inl k)) = with_first (more (inr k))
       by_end more (inr (inr k)) = absurd (not_past v vs d x xs h told.0 some leads same begin k)
 
-  joined : (c : Place) (vs : List Verdict) (d : Place) (parts : List Verdict) → AreTiles c vs d → AreTold p tr vs → Alternate vs → AreTiles c parts d
+  -- parts that lead where verdicts lead, and tell the truth, joined, are the verdicts, where the truths of these turn from one to the next
+  pub joined : (c : Place) (vs : List Verdict) (d : Place) (parts : List Verdict) → AreTiles c vs d → AreTold p tr vs → Alternate vs → AreTiles c parts d
       → AreTold p tr parts → AreJoined parts vs
   joined c [] d [] h told other leads parts_told = refl
   joined c [] d (x ∷ xs) h told other (s, some, leads) parts_told =

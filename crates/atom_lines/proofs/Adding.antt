@@ -1,12 +1,14 @@
 -- A sum that grows by a term, and how large it can be.
 use Rattle.std.proofs.Common.{◌≡◌, ℕ, ℤ, ◌+◌, ◌*◌, ◌^◌, ◌<◌, ◌≤◌, ◌+ℤ◌, ◌-ℤ◌, ◌*ℤ◌, List, length, get_or, drop, nat_abs, ap, arith}
-use Rattle.std.proofs.Common.{FitsSigned, to_z, of_z, sym, subst, ◌∙◌, pos}
+use Rattle.std.proofs.Common.{FitsSigned, to_z, of_z, sym, subst, ◌∙◌, pos, refl, Bool, true, false, [], ◌∷◌}
+use Rattle.std.specs.Prelude.{if◌then◌else◌, slice_index_or, All}
+use Rattle.std.proofs.lemmas.Bool.{true≢false, false≢true}
 use Rattle.std.specs.Int.{w32, w64}
 use Rattle.std.proofs.lemmas.Int.{ints, to_z-of_z}
 use Rattle.std.proofs.lemmas.List.{drop_more, drop_all}
 use Rattle.atom_lines.specs.declared.bound_atom.BoundTerm.{BoundTerm}
 use Rattle.atom_lines.specs.declared.bound_atom.BoundAtom.{BoundAtom}
-use Rattle.atom_lines.specs.Sums.{cell, sum_over, reach}
+use Rattle.atom_lines.specs.Sums.{cell, sum_over, reach, IsAtomSound, IsTermSound}
 
 -- a sum goes on by the next term
 pub add_term : {p more : ℤ} (terms : List BoundTerm) (i : ℕ) (d : BoundTerm) (first second : List ℤ) (sum total : ℤ) → i < length terms
@@ -81,3 +83,59 @@ reach_read a first second s z i h l few k e is =
     ap (λ x. to_z w64 (of_z w64 (s -ℤ x))) (read_back z (omega (arith, small)))
     ∙ read_back (s -ℤ z) (small_less s z i (length a.terms.items) h l few small)
     ∙ ap (λ x. x -ℤ z) is ∙ ap (λ x. sum_over a.terms.items first second -ℤ x) e
+
+-- one term over two lists of values: its value among the second ones, where these are taken twice
+module _ (terms : List BoundTerm) (k : BoundTerm) (first second : List ℤ) (e : terms ≡ k ∷ []) where
+  pub one_at_row : sum_over terms second second ≡ k.coef *ℤ slice_index_or second k.column (pos 0)
+  one_at_row = ap (λ ks. sum_over ks second second) e ∙ ap (λ v. k.coef *ℤ v +ℤ pos 0) (either k.step) ∙ no_more (k.coef *ℤ slice_index_or second k.column (pos 0))
+    where
+      either : (b : Bool) → slice_index_or (if b then second else second) k.column (pos 0) ≡ slice_index_or second k.column (pos 0)
+      either true = refl
+      either false = refl
+
+      no_more : (z : ℤ) → z +ℤ pos 0 ≡ z
+      no_more z = omega (arith, ints)
+
+  -- a step keeps the first ones
+  pub one_of_steps : k.step ≡ true → sum_over terms first second ≡ sum_over terms first first
+  one_of_steps s = ap (λ ks. sum_over ks first second) e ∙ ap (λ v. k.coef *ℤ v +ℤ pos 0) (kept k.step s) ∙ sym (ap (λ ks. sum_over ks first first) e)
+    where
+      kept : (b : Bool) → b ≡ true
+          → slice_index_or (if b then first else second) k.column (pos 0) ≡ slice_index_or (if b then first else first) k.column (pos 0)
+      kept true s = refl
+      kept false s = absurd (false≢true s)
+
+  -- a ramp goes on to the second ones
+  pub one_of_ramps : k.step ≡ false → sum_over terms first second ≡ sum_over terms second second
+  one_of_ramps s = ap (λ ks. sum_over ks first second) e ∙ ap (λ v. k.coef *ℤ v +ℤ pos 0) (left k.step s) ∙ sym (ap (λ ks. sum_over ks second second) e)
+    where
+      left : (b : Bool) → b ≡ false
+          → slice_index_or (if b then first else second) k.column (pos 0) ≡ slice_index_or (if b then second else second) k.column (pos 0)
+      left true s = absurd (true≢false s)
+      left false s = refl
+
+-- a small number of 32 bits is read as it was written
+pub word_read : (z : ℤ) → nat_abs z ≤ 2 ^ 30 → to_z w32 (of_z w32 z) ≡ z
+word_read z h = to_z-of_z w32 z (fits_word z h)
+
+-- the coefficient of the one term is small
+pub one_sound : (terms : List BoundTerm) (k : BoundTerm) (width : ℕ) → terms ≡ k ∷ [] → All (IsTermSound width) terms → nat_abs k.coef ≤ 16
+one_sound terms k width e all = (subst (All (IsTermSound width)) e all 0 k (omega arith)).coef
+
+-- what one term comes to at a row, less the constant
+pub one_reach : (a : BoundAtom) (k : BoundTerm) (width : ℕ) (xs : List ℤ) (v n : ℤ) → a.terms.items ≡ k ∷ [] → IsAtomSound width a
+    → v ≡ slice_index_or xs k.column (pos 0) → nat_abs v ≤ 16777216
+    → n ≡ to_z w32 (of_z w32 k.coef) *ℤ to_z w32 (of_z w32 v) -ℤ to_z w32 (of_z w32 a.limit)
+    → nat_abs (to_z w32 (of_z w32 k.coef) *ℤ to_z w32 (of_z w32 v)) ≤ 2 ^ 28 → to_z w64 (of_z w64 n) ≡ reach a xs xs
+one_reach a k width xs v n e sound at few is small =
+    let coef = one_sound a.terms.items k width e sound.terms in
+    let here : to_z w32 (of_z w32 k.coef) *ℤ to_z w32 (of_z w32 v) ≡ sum_over a.terms.items xs xs =
+    ap (λ x. x *ℤ to_z w32 (of_z w32 v)) (word_read k.coef (omega (arith, coef))) ∙ ap (λ y. k.coef *ℤ y) (word_read v (omega (arith, few)) ∙ at)
+    ∙ sym (one_at_row a.terms.items k xs xs e) in
+    let whole : n ≡ reach a xs xs = is ∙ ap (λ x. to_z w32 (of_z w32 k.coef) *ℤ to_z w32 (of_z w32 v) -ℤ x) (word_read a.limit sound.limit)
+    ∙ ap (λ x. x -ℤ a.limit) here in
+    read_back n (fits n (to_z w32 (of_z w32 k.coef) *ℤ to_z w32 (of_z w32 v)) (to_z w32 (of_z w32 a.limit)) is small
+    (subst (λ x. nat_abs x ≤ 2 ^ 30) (sym (word_read a.limit sound.limit)) sound.limit)) ∙ whole
+  where
+    fits : (n p l : ℤ) → n ≡ p -ℤ l → nat_abs p ≤ 2 ^ 28 → nat_abs l ≤ 2 ^ 30 → nat_abs n ≤ 2 ^ 32
+    fits n p l is h k = omega (arith, ints, is, h, k)

@@ -31,7 +31,3 @@ pub record IsAtomSound (width : ℕ) (a : BoundAtom) : Type 0 where
 abbrev pub IsNodeSound : ℕ → Option BoundAtom → Type 0
 IsNodeSound width None = Unit {0}
 IsNodeSound width (Some a) = IsAtomSound width a
-
--- a value within its limit
-abbrev pub IsSmall : ℤ → Type 0
-IsSmall v = nat_abs v ≤ 16777216

@@ -15,12 +15,13 @@ use crate::bound_atom::BoundAtom;
 use crate::cells::Cells;
 use crate::gap::Gap;
 use crate::margin::{margin_at, margin_between};
-use crate::sum::{reach_of, reaches_of};
+use crate::sum::{reach_of, reaches_from};
 use crate::truth::{TruthPiece, truth_at, truth_between, truth_onward};
 use trace_reader::Row;
 use value_laws::{Margin, Truth};
 
 /// The gap between two rows, where the sum at the first is `from`, and the sum at the second.
+#[inline(always)]
 pub(crate) fn gap_on<C: Cells>(
     atom: &BoundAtom,
     first: u32,
@@ -41,7 +42,7 @@ pub(crate) fn gap_on<C: Cells>(
     ensures next { result.1 ≡ reach atom.now (C.values second_row.now) (C.values second_row.now) }
     ensures small_next { unsigned_abs (sum_over atom.now.terms.items (C.values second_row.now) (C.values second_row.now)) ≤ 2 ^ 30 }
 {
-    let (to, next) = reaches_of(atom, first_row, second_row);
+    let (to, next) = reaches_from(atom, from, first_row, second_row);
     let gap = Gap {
         first,
         from,

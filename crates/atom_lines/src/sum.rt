@@ -1,5 +1,5 @@
 //! The sum of an atom over the values of one row or of two.
-ghost use Rattle.std.specs.Prelude.{◌≡◌, ◌<◌, ◌≤◌, ◌^◌, ◌*ℤ◌, length, nat_abs};
+ghost use Rattle.std.specs.Prelude.{◌≡◌, ◌<◌, ◌≤◌, ◌^◌, ◌*ℤ◌, ◌-ℤ◌, [], ◌∷◌, length, nat_abs};
 ghost use Rattle.std.specs.Int.RustNames.{unsigned_abs};
 ghost use Rattle.atom_lines.specs.Sums.{cell, sum_over, reach, IsAtomSound};
 
@@ -89,4 +89,54 @@ pub(crate) fn reaches_of<C: Cells>(atom: &BoundAtom, first: &C, second: &C) -> (
         next += here;
     }
     (to - i64::from(atom.limit), next - i64::from(atom.limit))
+}
+
+/// The one term of an atom.
+#[inline(always)]
+fn only_term(atom: &BoundAtom) -> &BoundTerm
+    requires { length atom.now.terms.items ≡ 1 }
+    ensures { atom.now.terms.items ≡ result.now ∷ [] }
+{
+    &atom.terms[0]
+}
+
+/// A coefficient times a value, less the constant.
+#[inline(always)]
+fn above_limit(coef: i32, value: i32, limit: i32) -> i64
+    requires coef { nat_abs coef ≤ 16 }
+    requires value { nat_abs value ≤ 16777216 }
+    requires limit { nat_abs limit ≤ 1073741824 }
+    ensures value { result ≡ coef *ℤ value -ℤ limit }
+    ensures small { nat_abs (coef *ℤ value) ≤ 2 ^ 28 }
+{
+    product(coef, value) - i64::from(limit)
+}
+
+/// The sums of `reaches_of`, where that at the first row is `from`: one term that is a step keeps it up to the second row, and one that is
+/// a ramp comes to what it is there.
+#[inline(always)]
+pub(crate) fn reaches_from<C: Cells>(
+    atom: &BoundAtom,
+    from: i64,
+    first: &C,
+    second: &C,
+) -> (i64, i64)
+    requires sound { IsAtomSound (length (C.values first.now)) atom.now }
+    requires width { length (C.values second.now) ≡ length (C.values first.now) }
+    requires from { from ≡ reach atom.now (C.values first.now) (C.values first.now) }
+    requires small { unsigned_abs (sum_over atom.now.terms.items (C.values first.now) (C.values first.now)) ≤ 2 ^ 30 }
+    ensures to { result.0 ≡ reach atom.now (C.values first.now) (C.values second.now) }
+    ensures next { result.1 ≡ reach atom.now (C.values second.now) (C.values second.now) }
+    ensures small_to { unsigned_abs (sum_over atom.now.terms.items (C.values first.now) (C.values second.now)) ≤ 2 ^ 30 }
+    ensures small_next { unsigned_abs (sum_over atom.now.terms.items (C.values second.now) (C.values second.now)) ≤ 2 ^ 30 }
+{
+    if atom.terms.len() != 1 {
+        return reaches_of(atom, first, second);
+    }
+    let term = only_term(atom);
+    let next = above_limit(term.coef, second.cell(term.column), atom.limit);
+    if term.step {
+        return (from, next);
+    }
+    (next, next)
 }

@@ -27,17 +27,45 @@ pub enum TruthPiece {
     },
 }
 
+/// Whether a comparison holds above the constant.
+#[inline(always)]
+fn holds_above(rel: Rel) -> bool
+    ensures { result ≡ compares rel (whole (pos 1)) }
+{
+    match rel {
+        Rel::AtLeast => true,
+        Rel::Above => true,
+        Rel::AtMost => false,
+        Rel::Below => false,
+    }
+}
+
+/// Whether a comparison holds at the constant.
+#[inline(always)]
+fn holds_there(rel: Rel) -> bool
+    ensures { result ≡ compares rel (whole (pos 0)) }
+{
+    match rel {
+        Rel::AtLeast => true,
+        Rel::Above => false,
+        Rel::AtMost => true,
+        Rel::Below => false,
+    }
+}
+
 /// The truth of a comparison whose sum lies `value` above its constant.
+#[inline(always)]
 pub(crate) fn truth_at(rel: Rel, value: i64) -> Truth
     ensures { result.holds ≡ compares rel (whole value) }
 {
-    let holds = match rel {
-        Rel::AtLeast => value >= 0,
-        Rel::Above => value > 0,
-        Rel::AtMost => value <= 0,
-        Rel::Below => value < 0,
-    };
-    Truth::of(holds)
+    if value == 0 {
+        return Truth::of(holds_there(rel));
+    }
+    let above = holds_above(rel);
+    if value > 0 {
+        return Truth::of(above);
+    }
+    Truth::of(!above)
 }
 
 /// The time inside the gap at which a sum that changes its sign is 0.

@@ -123,11 +123,12 @@ pub fn way_from(bound: &Bound, node: u32, trace: &Trace, r: usize, from: i64) ->
         at += 1;
         step = step_from(atom, trace, at, at + 1, step.next);
     }
+    let holds = truth_at(atom.rel, step.next).holds();
     Way {
         row: at + 1,
         sum: step.next,
         passage: passage_over(atom.rel, &step.gap),
-        last: truth_at(atom.rel, step.next).holds(),
+        last: holds,
     }
 }
 

@@ -1,6 +1,7 @@
 //! `explain` as a whole: tables of explanations from outside, over sources and sinks in memory.
 use crate::expecting::{expect, expect_each};
-use program_cases::{Asked, Case, agrees, pieces, to_and_fro};
+use program_cases::{Asked, Case, agrees, pieces};
+use std::alloc::{AllocError, Global};
 use std::test::Fail;
 
 const TRIANGLE: &str = "time,x\n0,0\n5,5\n10,0\n";
@@ -136,6 +137,15 @@ const MANY: [(&str, &str, usize, &str, &str, u8); 4] = [
         9,
     ),
 ];
+
+/// Rows at the times from 0 on, whose values go to and fro between 0 and 1.
+fn to_and_fro(alloc: Global, rows: usize) -> Result<String, AllocError> {
+    let mut text = String::from_str(alloc, "time,x:step\n")?;
+    for k in 0..rows {
+        write!(text, "{k},{}\n", k % 2)?;
+    }
+    Ok(text)
+}
 
 #[test]
 fn many_rows_are_judged_and_65536_cells_explained(rt: HostRuntime) -> Result<(), Fail> {

@@ -1,6 +1,6 @@
 //! What the program refuses: formulas, bytes, texts that are too long, words of no form, and devices that fail, with what is told of it.
 use crate::expecting::{expect, expect_each};
-use program_cases::{Asked, Case, Devices, agrees, checks, pieces};
+use program_cases::{Asked, Case, Devices, agrees, agrees_however_cut, pieces};
 use std::alloc::{AllocError, Global};
 use std::process::Abort;
 use std::test::Fail;
@@ -285,6 +285,26 @@ const FAULTY: [Asked<'static>; 27] = [
 fn the_first_fault_of_the_formula_or_the_bytes_is_told(rt: HostRuntime) -> Result<(), Fail> {
     expect_each(&rt, rt.alloc(), "check", &REFUSED)?;
     expect_each(&rt, rt.alloc(), "check", &FAULTY)
+}
+
+/// Whether `check` of a formula on a trace is answered so, however the input is cut.
+fn checks(
+    alloc: Global,
+    formula: &str,
+    input: &str,
+    out: &str,
+    err: &str,
+    status: u8,
+) -> Result<bool, Fail> {
+    let words: &[&str] = &["check", formula];
+    let case = Case {
+        words,
+        input,
+        out,
+        err,
+        status,
+    };
+    agrees_however_cut(alloc, case, input.len().min(24))
 }
 
 fn repeated(

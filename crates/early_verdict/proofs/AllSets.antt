@@ -13,7 +13,7 @@ use Rattle.stl_syntax.specs.declared.node.Node.{Node}
 use Rattle.stl_syntax.specs.declared.node.Node.TheVariants.{Const}
 use Rattle.stl_syntax.proofs.FormulaLemmas.{subformula-at}
 use Rattle.stl_syntax.proofs.PostOrderLemmas.{placed, slice_get_at}
-use Rattle.early_verdict.specs.Spans.{AreTidy, Lies, IsOn}
+use Rattle.growing_sets.specs.Spans.{AreTidy, Lies, IsOn}
 use Rattle.early_verdict.specs.Fitting.{Lists, lists_of, lists_at, SayBoth}
 use Rattle.early_verdict.specs.Standing.{AllFit, AllTidy}
 use Rattle.early_verdict.specs.Living.{AreLive, IsLive, IsShown, Known}

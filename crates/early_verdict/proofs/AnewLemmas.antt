@@ -9,15 +9,15 @@ use Rattle.rational.proofs.Shift.{le_shift, lt_shift}
 use Rattle.rational.proofs.TimeLemmas.{later-add}
 use Rattle.rational.specs.Places.{Place, After, Before, Upto, moved_begin}
 use Rattle.frac128.specs.Cuts.{place, is_after}
-use Rattle.early_verdict.specs.Spans.{AreTidy, IsAmong, IsOn, Lies}
-use Rattle.early_verdict.specs.Reaching.{IsLastEnd}
-use Rattle.early_verdict.specs.declared.stretch.Stretch.{Stretch}
-use Rattle.early_verdict.proofs.Gaps.{on_same}
+use Rattle.growing_sets.specs.Spans.{AreTidy, IsAmong, IsOn, Lies}
+use Rattle.growing_sets.specs.Reaching.{IsLastEnd}
+use Rattle.growing_sets.specs.declared.stretch.Stretch.{Stretch}
+use Rattle.growing_sets.proofs.Gaps.{on_same}
 use Rattle.rational.proofs.PlaceLemmas.{after_of_before, between, sides, le_through, upto_earlier, after_later}
-use Rattle.early_verdict.proofs.RunLemmas.{on_one}
+use Rattle.growing_sets.proofs.RunLemmas.{on_one}
 use Rattle.early_verdict.proofs.SinceSets.{before_end, less_by, to_end}
-use Rattle.early_verdict.proofs.SpanLemmas.{rest_after}
-use Rattle.early_verdict.proofs.StretchLemmas.{rises}
+use Rattle.growing_sets.proofs.SpanLemmas.{rest_after}
+use Rattle.growing_sets.proofs.StretchLemmas.{rises}
 
 -- what ends just after a time has that time
 pub at_last : (xs : List Stretch) (part : Stretch) (c : Place) → IsLastEnd xs part c → c.after ≡ true → IsOn xs c.at × Lies part c.at

@@ -8,17 +8,17 @@ use Rattle.stl_syntax.specs.Truth.{holds_at}
 use Rattle.stl_syntax.specs.declared.atom.Atom.{Atom}
 use Rattle.atom_lines.specs.Binding.{AreNeighbours}
 use Rattle.rational.specs.Places.{Place, After, Upto, Same}
-use Rattle.early_verdict.specs.Spans.{Lies, IsOn, Grows}
-use Rattle.early_verdict.specs.Steps.{Tells, Gains}
+use Rattle.growing_sets.specs.Spans.{Lies, IsOn, Grows}
+use Rattle.growing_sets.specs.Steps.{Tells, Gains}
 use Rattle.early_verdict.specs.Adding.{Enlarges, HasAdded, HasGrown, HasRested, Piece, AfterRow, IsNextRow, before_row, after_row}
 use Rattle.early_verdict.specs.Fitting.{AtomFits, AreSetsTidy, HasStepped}
 use Rattle.early_verdict.specs.Happening.{Was}
-use Rattle.early_verdict.specs.declared.stretch.Stretch.{Stretch}
+use Rattle.growing_sets.specs.declared.stretch.Stretch.{Stretch}
 use Rattle.early_verdict.specs.declared.sets.Sets.{Sets}
 use Rattle.rational.proofs.PlaceLemmas.{upto_same, after_same, same_places}
-use Rattle.early_verdict.proofs.GrowingLemmas.{grows_not}
-use Rattle.early_verdict.proofs.LoopLemmas.{grows_then, grows_alike}
-use Rattle.early_verdict.proofs.StretchesJoin.{no_more, on_append, on_first, on_second}
+use Rattle.growing_sets.proofs.GrowingLemmas.{grows_not}
+use Rattle.growing_sets.proofs.LoopLemmas.{grows_then, grows_alike}
+use Rattle.growing_sets.proofs.StretchesJoin.{no_more, on_append, on_first, on_second}
 use Rattle.early_verdict.proofs.SetsTell.{parts_kept}
 
 -- one thing is added after another

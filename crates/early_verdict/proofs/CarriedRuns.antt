@@ -5,17 +5,17 @@ use Rattle.rational.specs.Time.{Rational, ◌≤ʳ◌}
 use Rattle.rational.proofs.Order.{le_of_lt, le_or_lt, le_trans}
 use Rattle.rational.specs.Places.{After}
 use Rattle.frac128.specs.Cuts.{place}
-use Rattle.early_verdict.specs.Spans.{AreTidy, IsAmong, IsOn, Lies}
-use Rattle.early_verdict.specs.Steps.{HoldsFrom}
-use Rattle.early_verdict.specs.Reaching.{GoesBackBy, IsCarried}
+use Rattle.growing_sets.specs.Spans.{AreTidy, IsAmong, IsOn, Lies}
+use Rattle.growing_sets.specs.Steps.{HoldsFrom}
+use Rattle.growing_sets.specs.Reaching.{GoesBackBy, IsCarried}
 use Rattle.early_verdict.specs.Fitting.{Says}
 use Rattle.early_verdict.specs.Letting.{BeginsAtOnce}
-use Rattle.early_verdict.specs.declared.stretch.Stretch.{Stretch}
-use Rattle.early_verdict.specs.declared.grown.Grown.{Grown}
+use Rattle.growing_sets.specs.declared.stretch.Stretch.{Stretch}
+use Rattle.growing_sets.specs.declared.grown.Grown.{Grown}
 use Rattle.rational.proofs.PlaceLemmas.{at_most_of_not_before, between, sides, after_at_most, le_through, upto_earlier}
 use Rattle.rational.proofs.PlaceLemmas.{after_later}
-use Rattle.early_verdict.proofs.ReachLemmas.{carried_in}
-use Rattle.early_verdict.proofs.RunLemmas.{on_one}
+use Rattle.growing_sets.proofs.ReachLemmas.{carried_in}
+use Rattle.growing_sets.proofs.RunLemmas.{on_one}
 
 module _ (d : Rational) (runs runs' spans spans' : List Stretch) (x y : Grown) (b b' : Bool)
     (runs_in : (t : Rational) → d ≤ʳ t → IsOn runs t → IsOn runs' t) (runs_out : (t : Rational) → IsOn runs' t → IsOn runs t)

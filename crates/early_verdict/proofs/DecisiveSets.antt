@@ -8,13 +8,13 @@ use Rattle.rational.proofs.PlaceLemmas.{after_later}
 use Rattle.stl_syntax.specs.Trace.{Trace, start}
 use Rattle.stl_syntax.specs.Early.{OpenBehind}
 use Rattle.frac128.specs.Cuts.{place}
-use Rattle.early_verdict.specs.Spans.{AreTidy, IsOn, Lies}
-use Rattle.early_verdict.specs.Reaching.{GoesBackBy}
+use Rattle.growing_sets.specs.Spans.{AreTidy, IsOn, Lies}
+use Rattle.growing_sets.specs.Reaching.{GoesBackBy}
 use Rattle.early_verdict.specs.Readings.{OnlyBehind, SomeBehind, SinceHolds, SinceFails}
 use Rattle.early_verdict.specs.Fitting.{Lists, SinceHolding, SinceFailing}
 use Rattle.early_verdict.specs.declared.sets.Holding.{Holding}
 use Rattle.early_verdict.specs.declared.sets.Failing.{Failing}
-use Rattle.early_verdict.proofs.Failures.{at_time, all_or_broken_back}
+use Rattle.growing_sets.proofs.Failures.{at_time, all_or_broken_back}
 use Rattle.early_verdict.proofs.SinceSets.{back_way, before_end, end_past, from_end, less_by, none_later, past_end, to_end}
 
 module _ (tr : Trace) (a : ℕ) (b : Option ℕ) (p q : Lists) (t w : Rational) (in_window : OpenBehind (start tr) a b true true t w)

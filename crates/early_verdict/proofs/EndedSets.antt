@@ -13,15 +13,15 @@ use Rattle.stl_syntax.specs.Early.{OpenAhead, OpenBehind, IsSure}
 use Rattle.stl_syntax.specs.WellFormed.{HasBounds}
 use Rattle.stl_syntax.specs.declared.node.Node.{Node}
 use Rattle.stl_syntax.specs.declared.node.Node.TheVariants.{Const, Atom as Leaf, Not, And, Or, Implies, Until, Eventually, Always, Since, Once, Historically}
-use Rattle.early_verdict.specs.Spans.{IsOn, Lies, AreTidy}
+use Rattle.growing_sets.specs.Spans.{IsOn, Lies, AreTidy}
 use Rattle.early_verdict.specs.Readings.{SomeAhead, OnlyAhead, SomeBehind, OnlyBehind, UntilHolds, UntilFails, SinceHolds, SinceFails}
 use Rattle.early_verdict.specs.Fitting.{Lists, lists_at, lists_of, SayBoth, SayOfParts, SinceHolding, SinceFailing, AreSetsTidy, ArePartsTidy, Fits}
 use Rattle.early_verdict.specs.Living.{IsShown, LooksAlong, LooksAt, ReachesBack}
-use Rattle.early_verdict.specs.declared.stretch.Stretch.{Stretch}
+use Rattle.growing_sets.specs.declared.stretch.Stretch.{Stretch}
 use Rattle.early_verdict.specs.declared.sets.Sets.{Sets}
 use Rattle.early_verdict.specs.declared.sets.Parts.{Parts}
-use Rattle.early_verdict.proofs.Gaps.{covers, decided_on}
-use Rattle.early_verdict.proofs.Failures.{at_time, past_time}
+use Rattle.growing_sets.proofs.Gaps.{covers, decided_on}
+use Rattle.growing_sets.proofs.Failures.{at_time, past_time}
 use Rattle.early_verdict.proofs.SinceSets.{along, none_later}
 use Rattle.early_verdict.proofs.Settling.{SaysSince, reaches_along, says_since, until_fits}
 

@@ -10,13 +10,13 @@ use Rattle.stl_syntax.specs.Formula.{HasChildrenBelow}
 use Rattle.stl_syntax.specs.declared.node.Node.{Node}
 use Rattle.stl_syntax.specs.declared.node.Node.TheVariants.{Atom as Leaf}
 use Rattle.atom_lines.specs.Binding.{Binding}
-use Rattle.early_verdict.specs.Spans.{Lies}
+use Rattle.growing_sets.specs.Spans.{Lies}
 use Rattle.early_verdict.specs.Fitting.{Lists, Fits, HasStepped, HadLists, HasFailBounds, AreSetsTidy, lists_at, nothing}
 use Rattle.early_verdict.specs.Happening.{Had, Happens, Was}
 use Rattle.early_verdict.specs.Standing.{AllGo, AllTidy, AllWere, HadAll, HasParts, LeafGoes, StepsAt, SteppedTo, left_of}
 use Rattle.early_verdict.specs.Living.{AreLive, HasShown, IsLive, ShowsAt, ShownTo}
 use Rattle.early_verdict.specs.declared.entry.Entry.{Entry}
-use Rattle.early_verdict.specs.declared.stretch.Stretch.{Stretch}
+use Rattle.growing_sets.specs.declared.stretch.Stretch.{Stretch}
 use Rattle.early_verdict.specs.declared.sets.Sets.{Sets}
 use Rattle.early_verdict.specs.declared.sets.Parts.{Parts}
 use Rattle.early_verdict.proofs.FitLemmas.{fits_alike}

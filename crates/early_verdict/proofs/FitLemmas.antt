@@ -6,7 +6,7 @@ use Rattle.stl_syntax.specs.Trace.{Trace}
 use Rattle.stl_syntax.specs.Formula.{HasChildrenBelow}
 use Rattle.stl_syntax.specs.declared.node.Node.{Node}
 use Rattle.stl_syntax.specs.declared.node.Node.TheVariants.{Const, Atom as Leaf, Not, And, Or, Implies, Until, Eventually, Always, Since, Once, Historically}
-use Rattle.early_verdict.specs.Spans.{Lies, IsOn}
+use Rattle.growing_sets.specs.Spans.{Lies, IsOn}
 use Rattle.early_verdict.specs.Fitting.{Lists, Fits, SayBoth, SayOfParts, NegationFits, ConjunctionFits, DisjunctionFits}
 use Rattle.early_verdict.specs.Fitting.{ImplicationFits, UntilFits, SinceFits, EventuallyFits, AlwaysFits, OnceFits}
 use Rattle.early_verdict.specs.Fitting.{HistoricallyFits, UntilHolding, UntilFailing, SinceHolding, SinceFailing}

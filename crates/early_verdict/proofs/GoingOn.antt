@@ -17,7 +17,7 @@ use Rattle.early_verdict.specs.Adding.{IsNextRow}
 use Rattle.early_verdict.specs.Happening.{Happens}
 use Rattle.early_verdict.specs.Standing.{AllFit, AllGo, GoesOnWith, LeafIsBound}
 use Rattle.early_verdict.specs.Making.{AreMade, AreShownOf}
-use Rattle.early_verdict.specs.Spans.{IsOn}
+use Rattle.growing_sets.specs.Spans.{IsOn}
 use Rattle.early_verdict.specs.Living.{AreLive, ComesOn, IsShown, NetStands}
 use Rattle.early_verdict.specs.Deciding.{IsOpen, last_after, trace_of}
 use Rattle.early_verdict.specs.Fitting.{AreEmpty, Lists, lists_at}

@@ -12,8 +12,8 @@ use Rattle.stl_syntax.specs.declared.node.Node.{Node}
 use Rattle.stl_syntax.specs.declared.node.Node.TheVariants.{Not, And, Or, Implies, Until, Eventually, Always, Once, Historically}
 use Rattle.rational.specs.Places.{Place, After, AtMost, Before, Upto}
 use Rattle.frac128.specs.Cuts.{place}
-use Rattle.early_verdict.specs.Spans.{AreTidy, IsAmong, IsOn, Lies}
-use Rattle.early_verdict.specs.Steps.{HoldsFrom}
+use Rattle.growing_sets.specs.Spans.{AreTidy, IsAmong, IsOn, Lies}
+use Rattle.growing_sets.specs.Steps.{HoldsFrom}
 use Rattle.early_verdict.specs.Fitting.{Lists, lists_at, lists_of, no_of, yes_of}
 use Rattle.early_verdict.specs.Standing.{AllTidy}
 use Rattle.early_verdict.specs.Living.{HasShown, IsNarrowed, IsShown, ShowsAt}
@@ -21,16 +21,16 @@ use Rattle.early_verdict.specs.Letting.{AreApart, AreAskedBy, AreInside, AreLess
 use Rattle.early_verdict.specs.Letting.{IsAskedFrom, IsEndlessCut, IsEndlessCutAt, IsFirstLeft, IsFirstShown, IsLess}
 use Rattle.early_verdict.specs.Letting.{IsRunCut, IsRunCutAt, HasShed, HasShedAt, IsUntil, ShowsFrom}
 use Rattle.frac128.specs.declared.cut.Cut.{Cut}
-use Rattle.early_verdict.specs.declared.stretch.Stretch.{Stretch}
-use Rattle.early_verdict.specs.declared.grown.Grown.{Grown}
+use Rattle.growing_sets.specs.declared.stretch.Stretch.{Stretch}
+use Rattle.growing_sets.specs.declared.grown.Grown.{Grown}
 use Rattle.early_verdict.specs.declared.sets.Sets.{Sets}
 use Rattle.early_verdict.proofs.AllSets.{is_shown, lists_are, shown_is, shown_within}
 use Rattle.rational.proofs.PlaceLemmas.{at_most_of_not_before, between, not_both, sides, after_at_most, le_through, upto_earlier}
 use Rattle.rational.proofs.Lists.{slice_get_there}
 use Rattle.early_verdict.proofs.Places.{lists_by}
 use Rattle.early_verdict.proofs.Splitting.{IsSplit, count_there, new_there, old_there, others_there}
-use Rattle.early_verdict.proofs.StretchLemmas.{rises}
-use Rattle.early_verdict.proofs.RunLemmas.{earlier_after, on_one}
+use Rattle.growing_sets.proofs.StretchLemmas.{rises}
+use Rattle.growing_sets.proofs.RunLemmas.{earlier_after, on_one}
 use Rattle.early_verdict.proofs.SetsTell.{parts_tidy}
 
 -- the stretch that holds the times after a place has those up to its end

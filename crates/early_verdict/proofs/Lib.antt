@@ -1,20 +1,3 @@
-pub mod MakingLemmas
-pub mod StretchLemmas
-pub mod SpanLemmas
-mod BlockLemmas
-pub mod StretchesJoin
-pub mod GrowingLemmas
-mod EndingLemmas
-pub mod WindowLemmas
-pub mod LoopLemmas
-pub mod RunLemmas
-pub mod SetLaws
-pub mod HoldingLemmas
-pub mod StepLemmas
-pub mod SureLemmas
-pub mod ReachLemmas
-pub mod Gaps
-pub mod Failures
 pub mod SetsTell
 pub mod UntilSets
 pub mod SinceSets
@@ -26,10 +9,6 @@ pub mod EndedSets
 pub mod AllSets
 pub mod AtomSets
 mod TurningLemmas
-pub mod TickLemmas
-pub mod SharedLemmas
-pub mod BetweenLemmas
-pub mod LastingLemmas
 pub mod LookLemmas
 pub mod FitLemmas
 pub mod Places
@@ -49,7 +28,6 @@ pub mod Splitting
 pub mod MadeLemmas
 pub mod Undecided
 pub mod Feeding
-mod ShowingLemmas
 mod LivingLemmas
 mod LiveMaking
 mod Childhood

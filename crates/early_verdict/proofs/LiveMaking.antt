@@ -9,7 +9,7 @@ use Rattle.rational.proofs.Lists.{slice_get_there}
 use Rattle.stl_syntax.specs.Formula.{HasChildrenBelow}
 use Rattle.stl_syntax.specs.declared.node.Node.{Node}
 use Rattle.stl_syntax.specs.declared.node.Node.TheVariants.{Const, Atom as Leaf, Not, And, Or, Implies, Until, Eventually, Always, Since, Once, Historically}
-use Rattle.early_verdict.specs.Spans.{Lies}
+use Rattle.growing_sets.specs.Spans.{Lies}
 use Rattle.early_verdict.specs.Fitting.{HasFailBounds}
 use Rattle.early_verdict.specs.Making.{AreMade, AreShownOf}
 use Rattle.early_verdict.specs.Standing.{ArePartsAsked, AllEmpty, AllTidy, AsksBelow, HasParts, HasSets, left_of, top_at}

@@ -8,22 +8,22 @@ use Rattle.stl_syntax.specs.Trace.{Trace, start, stop}
 use Rattle.stl_syntax.specs.Early.{OpenAhead, OpenBehind}
 use Rattle.rational.specs.Places.{Place, Same}
 use Rattle.frac128.specs.Cuts.{place}
-use Rattle.early_verdict.specs.Spans.{IsOn}
-use Rattle.early_verdict.specs.Steps.{Tells, Gains, SeesOne, SeesOnly}
-use Rattle.early_verdict.specs.Sure.{SeesSure}
-use Rattle.early_verdict.specs.Lasting.{SeesOnlyBy}
-use Rattle.early_verdict.specs.Windows.{Sees}
+use Rattle.growing_sets.specs.Spans.{IsOn}
+use Rattle.growing_sets.specs.Steps.{Tells, Gains, SeesOne, SeesOnly}
+use Rattle.growing_sets.specs.Sure.{SeesSure}
+use Rattle.growing_sets.specs.Lasting.{SeesOnlyBy}
+use Rattle.growing_sets.specs.Windows.{Sees}
 use Rattle.early_verdict.specs.Readings.{SomeAhead, OnlyAhead, SomeBehind, OnlyBehind}
 use Rattle.early_verdict.specs.Fitting.{Lists, nothing, Says, SayBoth, IsEmpty, start_place, sure_place}
 use Rattle.early_verdict.specs.Happening.{Happens, Had, Was}
 use Rattle.early_verdict.specs.Looking.{IsAhead, IsBehind, WasTold, WasList, SeesOnlyTo}
 use Rattle.early_verdict.specs.declared.entry.Entry.{Entry}
-use Rattle.early_verdict.specs.declared.stretch.Stretch.{Stretch}
-use Rattle.early_verdict.specs.declared.grown.Grown.{Grown}
+use Rattle.growing_sets.specs.declared.stretch.Stretch.{Stretch}
+use Rattle.growing_sets.specs.declared.grown.Grown.{Grown}
 use Rattle.early_verdict.specs.declared.sets.Sets.{Sets}
-use Rattle.early_verdict.specs.declared.window.Window.{Window}
+use Rattle.growing_sets.specs.declared.window.Window.{Window}
 use Rattle.rational.proofs.PlaceLemmas.{after_same, upto_same, same_places}
-use Rattle.early_verdict.proofs.Gaps.{on_same}
+use Rattle.growing_sets.proofs.Gaps.{on_same}
 use Rattle.early_verdict.proofs.SinceSets.{none_later}
 use Rattle.early_verdict.proofs.SetsTell.{tells_alike, tells_none, none_of}
 

@@ -5,7 +5,7 @@ use Rattle.std.proofs.lemmas.Option.{slice_get_within}
 use Rattle.rational.specs.Time.{Rational}
 use Rattle.rational.proofs.Lists.{slice_get_there}
 use Rattle.stl_syntax.specs.declared.node.Node.{Node}
-use Rattle.early_verdict.specs.Spans.{IsOn, Lies}
+use Rattle.growing_sets.specs.Spans.{IsOn, Lies}
 use Rattle.early_verdict.specs.Fitting.{HasStepped, Lists, lists_at}
 use Rattle.early_verdict.specs.Standing.{SteppedTo}
 use Rattle.early_verdict.specs.Living.{AreLive, HasShown, IsLive, IsShown, ShownTo}

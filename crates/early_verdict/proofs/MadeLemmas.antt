@@ -13,15 +13,15 @@ use Rattle.stl_syntax.specs.declared.node.Node.{Node}
 use Rattle.stl_syntax.specs.declared.node.Node.TheVariants.{Until, Since}
 use Rattle.rational.specs.Places.{Same}
 use Rattle.frac128.specs.Cuts.{place}
-use Rattle.early_verdict.specs.Spans.{AreTidy}
+use Rattle.growing_sets.specs.Spans.{AreTidy}
 use Rattle.early_verdict.specs.Fitting.{AreEmpty, ArePartsEmpty, AreSetsTidy, ArePartsTidy, HasFailBounds, IsEmpty, IsTidy}
 use Rattle.early_verdict.specs.Standing.{ArePartsAsked, HasSets, IsFrom, left_of, top_at}
 use Rattle.early_verdict.specs.Tops.{AreTops}
 use Rattle.early_verdict.specs.Making.{AreMade, HasPartBounds, HasPartsFor, IsMade}
-use Rattle.early_verdict.specs.declared.stretch.Stretch.{Stretch}
+use Rattle.growing_sets.specs.declared.stretch.Stretch.{Stretch}
 use Rattle.early_verdict.specs.declared.sets.Sets.{Sets}
 use Rattle.early_verdict.specs.declared.sets.Parts.{Parts}
-use Rattle.early_verdict.specs.declared.grown.Grown.{Grown}
+use Rattle.growing_sets.specs.declared.grown.Grown.{Grown}
 use Rattle.rational.proofs.PlaceLemmas.{after_same, upto_same, same_places}
 use Rattle.rational.proofs.Lists.{slice_get_there, slice_get-append_front, slice_get-append_here}
 

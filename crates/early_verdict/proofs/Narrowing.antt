@@ -16,7 +16,7 @@ use Rattle.stl_syntax.proofs.PostOrderLemmas.{placed, child_below}
 use Rattle.stl_syntax.specs.Cells.{IsChild}
 use Rattle.rational.specs.Places.{Place, After}
 use Rattle.rational.proofs.Lists.{slice_get_there}
-use Rattle.early_verdict.specs.Spans.{IsOn, Lies}
+use Rattle.growing_sets.specs.Spans.{IsOn, Lies}
 use Rattle.early_verdict.specs.Readings.{SomeAhead, OnlyAhead, SomeBehind, OnlyBehind}
 use Rattle.early_verdict.specs.Fitting.{Lists, lists_at, no_of, nothing, yes_of, Fits, SayBoth, SayOfParts, NegationFits}
 use Rattle.early_verdict.specs.Fitting.{ConjunctionFits, DisjunctionFits, ImplicationFits, UntilFits, SinceFits}
@@ -24,8 +24,8 @@ use Rattle.early_verdict.specs.Fitting.{EventuallyFits, AlwaysFits, OnceFits, Hi
 use Rattle.early_verdict.specs.Standing.{AllFit, AllTidy, HasParts, left_of}
 use Rattle.early_verdict.specs.Living.{IsLive, IsNarrowed, IsShown, Known, LooksAt, LooksBack, NetStands}
 use Rattle.early_verdict.specs.Letting.{AreApart, AreAskedBy, AreInside, AreLess, IsLess, IsRun, HasShedAt, IsUntil}
-use Rattle.early_verdict.specs.declared.stretch.Stretch.{Stretch}
-use Rattle.early_verdict.specs.declared.grown.Grown.{Grown}
+use Rattle.growing_sets.specs.declared.stretch.Stretch.{Stretch}
+use Rattle.growing_sets.specs.declared.grown.Grown.{Grown}
 use Rattle.early_verdict.specs.declared.sets.Sets.{Sets}
 use Rattle.early_verdict.specs.declared.sets.Parts.{Parts}
 use Rattle.early_verdict.proofs.AllSets.{is_shown, lists_are, shown_is, shown_within, yes_there}

@@ -2,8 +2,8 @@
 use Rattle.std.proofs.Common.{◌≡◌, ◌⊎◌, inl, inr, subst, ℕ, false, Option, Some, None}
 use Rattle.std.specs.Prelude.{MatchOption}
 use Rattle.stl_syntax.specs.Trace.{Trace}
-use Rattle.early_verdict.specs.Spans.{IsOn}
-use Rattle.early_verdict.specs.Steps.{Tells}
+use Rattle.growing_sets.specs.Spans.{IsOn}
+use Rattle.growing_sets.specs.Steps.{Tells}
 use Rattle.early_verdict.specs.Fitting.{Lists, SayOfParts, ArePartsEmpty, AreEmpty, IsHoldingEmpty, IsFailingEmpty}
 use Rattle.early_verdict.specs.Fitting.{HasFailBounds, UntilFits, UntilHolding, UntilFailing, SinceFits, SinceHolding}
 use Rattle.early_verdict.specs.Fitting.{SinceFailing}

@@ -6,19 +6,19 @@ use Rattle.stl_syntax.specs.Trace.{Trace, start}
 use Rattle.stl_syntax.specs.Early.{OpenAhead}
 use Rattle.rational.specs.Places.{Place, Same}
 use Rattle.frac128.specs.Cuts.{place}
-use Rattle.early_verdict.specs.Spans.{Lies, IsOn}
-use Rattle.early_verdict.specs.Steps.{Tells, SeesOne, SeesOnly}
-use Rattle.early_verdict.specs.Sure.{SeesSure}
-use Rattle.early_verdict.specs.Reaching.{GoesOn, GoesTo, GoesBackBy}
+use Rattle.growing_sets.specs.Spans.{Lies, IsOn}
+use Rattle.growing_sets.specs.Steps.{Tells, SeesOne, SeesOnly}
+use Rattle.growing_sets.specs.Sure.{SeesSure}
+use Rattle.growing_sets.specs.Reaching.{GoesOn, GoesTo, GoesBackBy}
 use Rattle.early_verdict.specs.Readings.{SomeAhead, OnlyAhead, SomeBehind, OnlyBehind}
 use Rattle.early_verdict.specs.Fitting.{Lists, sure_place, UntilHolding, UntilFailing, SinceHolding, SinceFailing, IsHoldingEmpty, IsFailingEmpty}
 use Rattle.early_verdict.specs.Happening.{Happens}
 use Rattle.early_verdict.specs.Looking.{IsAhead, IsBehind, WasTold, WasList}
 use Rattle.early_verdict.specs.declared.entry.Entry.{Entry}
-use Rattle.early_verdict.specs.declared.stretch.Stretch.{Stretch}
+use Rattle.growing_sets.specs.declared.stretch.Stretch.{Stretch}
 use Rattle.early_verdict.specs.declared.sets.Holding.{Holding}
 use Rattle.early_verdict.specs.declared.sets.Failing.{Failing}
-use Rattle.early_verdict.specs.declared.window.Window.{Window}
+use Rattle.growing_sets.specs.declared.window.Window.{Window}
 use Rattle.rational.proofs.PlaceLemmas.{upto_same, same_places}
 use Rattle.early_verdict.proofs.SetsTell.{tells_alike, tells_none, none_of}
 use Rattle.early_verdict.proofs.LookLemmas.{Told, was_sure, was_one, was_only, was_back, one_said}

@@ -3,12 +3,12 @@ use Rattle.std.proofs.Common.{◌≡◌, ◌⊎◌, inl, inr, refl, sym, subst, 
 use Rattle.std.specs.Prelude.{MatchOption}
 use Rattle.rational.specs.Time.{Rational}
 use Rattle.stl_syntax.specs.Trace.{Trace}
-use Rattle.early_verdict.specs.Spans.{Lies, IsOn}
-use Rattle.early_verdict.specs.Steps.{Tells}
+use Rattle.growing_sets.specs.Spans.{Lies, IsOn}
+use Rattle.growing_sets.specs.Steps.{Tells}
 use Rattle.early_verdict.specs.Fitting.{Lists, nothing, Says, SayBoth, KeepsBounds, ArePartsTidy}
 use Rattle.early_verdict.specs.Happening.{Had, Was}
-use Rattle.early_verdict.specs.declared.stretch.Stretch.{Stretch}
-use Rattle.early_verdict.specs.declared.grown.Grown.{Grown}
+use Rattle.growing_sets.specs.declared.stretch.Stretch.{Stretch}
+use Rattle.growing_sets.specs.declared.grown.Grown.{Grown}
 use Rattle.early_verdict.specs.declared.sets.Sets.{Sets}
 use Rattle.early_verdict.specs.declared.sets.Parts.{Parts}
 

@@ -10,11 +10,11 @@ use Rattle.stl_syntax.specs.Early.{OpenAhead, Settled, SettledNot}
 use Rattle.stl_syntax.specs.WellFormed.{HasBounds}
 use Rattle.stl_syntax.specs.declared.node.Node.{Node}
 use Rattle.stl_syntax.specs.declared.node.Node.TheVariants.{Const, Atom as Leaf, Not, And, Or, Implies, Until, Eventually, Always, Since, Once, Historically}
-use Rattle.early_verdict.specs.Spans.{IsOn, Lies, AreTidy}
+use Rattle.growing_sets.specs.Spans.{IsOn, Lies, AreTidy}
 use Rattle.early_verdict.specs.Readings.{SomeAhead, OnlyAhead, SomeBehind, OnlyBehind, UntilHolds, UntilFails, SinceHolds, SinceFails}
 use Rattle.early_verdict.specs.Fitting.{Lists, lists_at, no_of, yes_of, SayBoth, SayOfParts, SinceHolding, SinceFailing, AreSetsTidy, ArePartsTidy, Fits}
 use Rattle.early_verdict.specs.Living.{IsShown, Known, LooksAlong, LooksAt, LooksBack, ReachesBack}
-use Rattle.early_verdict.specs.declared.stretch.Stretch.{Stretch}
+use Rattle.growing_sets.specs.declared.stretch.Stretch.{Stretch}
 use Rattle.early_verdict.specs.declared.sets.Sets.{Sets}
 use Rattle.early_verdict.specs.declared.sets.Parts.{Parts}
 use Rattle.early_verdict.proofs.NeverBoth.{never_both}

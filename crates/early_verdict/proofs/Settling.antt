@@ -5,13 +5,13 @@ use Rattle.rational.specs.Time.{Rational, ◌≤ʳ◌}
 use Rattle.rational.proofs.Order.{le_trans}
 use Rattle.stl_syntax.specs.Trace.{Trace, start}
 use Rattle.stl_syntax.specs.Early.{OpenBehind}
-use Rattle.early_verdict.specs.Spans.{Lies, IsOn, AreTidy}
+use Rattle.growing_sets.specs.Spans.{Lies, IsOn, AreTidy}
 use Rattle.early_verdict.specs.Readings.{UntilHolds, UntilFails, SinceHolds, SinceFails}
 use Rattle.early_verdict.specs.Fitting.{Lists, lists_at, SayBoth, SayOfParts, AreSetsTidy, ArePartsTidy, UntilHolding, UntilFailing, SinceHolding, SinceFailing}
 use Rattle.early_verdict.specs.Living.{LooksAlong, ReachesAhead, ReachesBack}
 use Rattle.early_verdict.specs.declared.sets.Sets.{Sets}
 use Rattle.early_verdict.specs.declared.sets.Parts.{Parts}
-use Rattle.early_verdict.specs.declared.stretch.Stretch.{Stretch}
+use Rattle.growing_sets.specs.declared.stretch.Stretch.{Stretch}
 use Rattle.early_verdict.proofs.UntilSets.{until_is_true, until_is_false}
 use Rattle.early_verdict.proofs.DecisiveSets.{decided_false, decided_true, false_decided, true_decided}
 use Rattle.early_verdict.proofs.SinceSets.{along, before_end, end_past, never_broken, since_false_at, since_true_at, some_each}

@@ -6,11 +6,12 @@ use Rattle.rational.proofs.Order.{le_of_lt, le_refl, le_trans, not_lt_of_le}
 use Rattle.rational.proofs.TimeLemmas.{later_from, later_le, later_le_back}
 use Rattle.stl_syntax.specs.Trace.{Trace, start}
 use Rattle.early_verdict.specs.Readings.{OnlyBehind, SomeBehind}
-use Rattle.early_verdict.specs.Spans.{IsOn, Lies}
+use Rattle.growing_sets.specs.Spans.{IsOn, Lies}
 use Rattle.early_verdict.specs.Fitting.{IsTidy, Lists, Says, SinceHolding, SinceFailing}
-use Rattle.early_verdict.specs.Letting.{BeginsAtOnce, IsCutAt, IsCutTo}
-use Rattle.early_verdict.specs.declared.stretch.Stretch.{Stretch}
-use Rattle.early_verdict.specs.declared.grown.Grown.{Grown}
+use Rattle.growing_sets.specs.Showing.{IsCutAt}
+use Rattle.early_verdict.specs.Letting.{BeginsAtOnce, IsCutTo}
+use Rattle.growing_sets.specs.declared.stretch.Stretch.{Stretch}
+use Rattle.growing_sets.specs.declared.grown.Grown.{Grown}
 use Rattle.early_verdict.specs.declared.sets.Parts.{Parts}
 use Rattle.early_verdict.proofs.CarriedRuns.{says_back}
 use Rattle.early_verdict.proofs.SinceSets.{none_later}

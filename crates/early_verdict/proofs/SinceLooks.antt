@@ -13,14 +13,15 @@ use Rattle.stl_syntax.specs.declared.node.Node.TheVariants.{Since}
 use Rattle.rational.specs.Places.{After}
 use Rattle.rational.proofs.PlaceLemmas.{upto_earlier, after_later}
 use Rattle.frac128.specs.Cuts.{place}
-use Rattle.early_verdict.specs.Spans.{AreTidy, IsOn, Lies}
+use Rattle.growing_sets.specs.Spans.{AreTidy, IsOn, Lies}
 use Rattle.early_verdict.specs.Fitting.{ArePartsTidy, AreSetsTidy, IsTidy, Lists, lists_at}
 use Rattle.early_verdict.specs.Standing.{AllTidy}
 use Rattle.early_verdict.specs.Living.{IsShown, LooksAlong, NetStands}
-use Rattle.early_verdict.specs.Letting.{ArePartsCut, BeginsAtOnce, IsAskedFrom, IsCutAt, IsCutTo, IsDecisive}
-use Rattle.early_verdict.specs.Letting.{IsEndlessCutAt, IsEndlessPart, IsGrownInside, IsRunCutAt}
-use Rattle.early_verdict.specs.declared.stretch.Stretch.{Stretch}
-use Rattle.early_verdict.specs.declared.grown.Grown.{Grown}
+use Rattle.growing_sets.specs.Showing.{IsCutAt, IsGrownInside}
+use Rattle.early_verdict.specs.Letting.{ArePartsCut, BeginsAtOnce, IsAskedFrom, IsCutTo, IsDecisive}
+use Rattle.early_verdict.specs.Letting.{IsEndlessCutAt, IsEndlessPart, IsRunCutAt}
+use Rattle.growing_sets.specs.declared.stretch.Stretch.{Stretch}
+use Rattle.growing_sets.specs.declared.grown.Grown.{Grown}
 use Rattle.early_verdict.specs.declared.sets.Sets.{Sets}
 use Rattle.early_verdict.specs.declared.sets.Parts.{Parts}
 use Rattle.early_verdict.proofs.AllSets.{is_shown, lists_are, shown_is}

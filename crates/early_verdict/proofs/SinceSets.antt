@@ -9,13 +9,13 @@ use Rattle.stl_syntax.specs.Early.{OpenBehind}
 use Rattle.rational.specs.Places.{Place, After}
 use Rattle.rational.proofs.PlaceLemmas.{after_later}
 use Rattle.frac128.specs.Cuts.{place}
-use Rattle.early_verdict.specs.Spans.{Lies, IsOn, AreTidy}
-use Rattle.early_verdict.specs.Reaching.{GoesBackBy}
+use Rattle.growing_sets.specs.Spans.{Lies, IsOn, AreTidy}
+use Rattle.growing_sets.specs.Reaching.{GoesBackBy}
 use Rattle.early_verdict.specs.Readings.{OnlyBehind, SomeBehind, SinceHolds, SinceFails}
 use Rattle.early_verdict.specs.Fitting.{Lists, SinceHolding, SinceFailing}
 use Rattle.early_verdict.specs.declared.sets.Holding.{Holding}
 use Rattle.early_verdict.specs.declared.sets.Failing.{Failing}
-use Rattle.early_verdict.proofs.Failures.{at_time, all_or_broken_back}
+use Rattle.growing_sets.proofs.Failures.{at_time, all_or_broken_back}
 
 -- t less a
 abbrev pub less_by : Rational → ℕ → Rational

@@ -14,15 +14,16 @@ use Rattle.stl_syntax.proofs.PostOrderLemmas.{placed, slice_get_at, child_below}
 use Rattle.stl_syntax.specs.Cells.{IsChild}
 use Rattle.rational.specs.Places.{Upto}
 use Rattle.frac128.specs.Cuts.{place}
-use Rattle.early_verdict.specs.Spans.{IsOn, Lies}
+use Rattle.growing_sets.specs.Spans.{IsOn, Lies}
 use Rattle.early_verdict.specs.Readings.{SinceHolds, SinceFails}
 use Rattle.early_verdict.specs.Fitting.{Lists, lists_at, lists_of, ArePartsTidy, AreSetsTidy, HasFailBounds}
 use Rattle.early_verdict.specs.Fitting.{IsTidy, Says, SayOfParts, SinceFits, SinceHolding, SinceFailing}
 use Rattle.early_verdict.specs.Standing.{AllTidy}
 use Rattle.early_verdict.specs.Living.{IsLive, IsShown, LooksAlong, NetStands, ReachesBack}
-use Rattle.early_verdict.specs.Letting.{AreLess, ArePartsInside, IsAskedFrom, IsCutAt, IsFailingInside, IsHoldingInside, IsInside, IsLess, ShowsFrom}
-use Rattle.early_verdict.specs.declared.stretch.Stretch.{Stretch}
-use Rattle.early_verdict.specs.declared.grown.Grown.{Grown}
+use Rattle.growing_sets.specs.Showing.{IsCutAt}
+use Rattle.early_verdict.specs.Letting.{AreLess, ArePartsInside, IsAskedFrom, IsFailingInside, IsHoldingInside, IsInside, IsLess, ShowsFrom}
+use Rattle.growing_sets.specs.declared.stretch.Stretch.{Stretch}
+use Rattle.growing_sets.specs.declared.grown.Grown.{Grown}
 use Rattle.early_verdict.specs.declared.sets.Sets.{Sets}
 use Rattle.early_verdict.specs.declared.sets.Parts.{Parts}
 use Rattle.early_verdict.proofs.AllSets.{is_shown, lists_are, lists_tidy, shown_is, shown_within, yes_there, no_there}
@@ -33,7 +34,7 @@ use Rattle.rational.proofs.Lists.{slice_get_there}
 use Rattle.early_verdict.proofs.Settling.{SaysSince, reaches_along, says_since}
 use Rattle.early_verdict.proofs.SinceCuts.{IsBackCut, SeesAnew, SeesNone, failing_back, holding_back}
 use Rattle.early_verdict.proofs.SinceSets.{along, none_later}
-use Rattle.early_verdict.proofs.StretchLemmas.{rises}
+use Rattle.growing_sets.proofs.StretchLemmas.{rises}
 use Rattle.early_verdict.proofs.UntilCuts.{Agree}
 
 -- the bounds of a since are in order

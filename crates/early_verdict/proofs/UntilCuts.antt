@@ -4,12 +4,13 @@ use Rattle.rational.specs.Time.{Rational, ◌≤ʳ◌}
 use Rattle.rational.proofs.Order.{le_trans}
 use Rattle.rational.proofs.TimeLemmas.{later_from}
 use Rattle.stl_syntax.specs.Trace.{Trace}
-use Rattle.early_verdict.specs.Spans.{IsOn, Lies}
-use Rattle.early_verdict.specs.Reaching.{GoesOn, GoesTo}
+use Rattle.growing_sets.specs.Spans.{IsOn, Lies}
+use Rattle.growing_sets.specs.Reaching.{GoesOn, GoesTo}
 use Rattle.early_verdict.specs.Fitting.{Lists, UntilHolding, UntilFailing, sure_place}
-use Rattle.early_verdict.specs.Letting.{IsCutAt, IsFailingCut, IsHoldingCut}
-use Rattle.early_verdict.specs.declared.stretch.Stretch.{Stretch}
-use Rattle.early_verdict.specs.declared.grown.Grown.{Grown}
+use Rattle.growing_sets.specs.Showing.{IsCutAt}
+use Rattle.early_verdict.specs.Letting.{IsFailingCut, IsHoldingCut}
+use Rattle.growing_sets.specs.declared.stretch.Stretch.{Stretch}
+use Rattle.growing_sets.specs.declared.grown.Grown.{Grown}
 use Rattle.early_verdict.specs.declared.sets.Holding.{Holding}
 use Rattle.early_verdict.specs.declared.sets.Failing.{Failing}
 use Rattle.early_verdict.proofs.UntilSets.{later_zero_out}

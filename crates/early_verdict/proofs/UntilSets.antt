@@ -7,16 +7,16 @@ use Rattle.stl_syntax.specs.Trace.{Trace, start, stop}
 use Rattle.stl_syntax.specs.Early.{OpenAhead}
 use Rattle.stl_syntax.proofs.SettledParts.{sure_earlier}
 use Rattle.rational.specs.Places.{Place, Upto}
-use Rattle.early_verdict.specs.Spans.{Lies, IsOn, AreTidy}
-use Rattle.early_verdict.specs.Steps.{Tells}
-use Rattle.early_verdict.specs.Reaching.{GoesOn}
+use Rattle.growing_sets.specs.Spans.{Lies, IsOn, AreTidy}
+use Rattle.growing_sets.specs.Steps.{Tells}
+use Rattle.growing_sets.specs.Reaching.{GoesOn}
 use Rattle.early_verdict.specs.Readings.{Counts, OnlyAhead, SomeAhead, UntilHolds, UntilFails}
 use Rattle.early_verdict.specs.Fitting.{Lists, sure_place, UntilHolding, UntilFailing}
-use Rattle.early_verdict.specs.declared.stretch.Stretch.{Stretch}
+use Rattle.growing_sets.specs.declared.stretch.Stretch.{Stretch}
 use Rattle.early_verdict.specs.declared.sets.Holding.{Holding}
 use Rattle.early_verdict.specs.declared.sets.Failing.{Failing}
-use Rattle.early_verdict.proofs.Gaps.{on_same}
-use Rattle.early_verdict.proofs.Failures.{past_time, all_or_broken}
+use Rattle.growing_sets.proofs.Gaps.{on_same}
+use Rattle.growing_sets.proofs.Failures.{past_time, all_or_broken}
 use Rattle.early_verdict.proofs.SetsTell.{tells_alike}
 
 -- no wait is no move

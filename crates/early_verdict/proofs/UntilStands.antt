@@ -13,22 +13,22 @@ use Rattle.stl_syntax.proofs.PostOrderLemmas.{placed, child_below}
 use Rattle.stl_syntax.specs.Cells.{IsChild}
 use Rattle.rational.specs.Places.{Upto}
 use Rattle.frac128.specs.Cuts.{place}
-use Rattle.early_verdict.specs.Spans.{IsOn, Lies}
-use Rattle.early_verdict.specs.Steps.{Tells}
+use Rattle.growing_sets.specs.Spans.{IsOn, Lies}
+use Rattle.growing_sets.specs.Steps.{Tells}
 use Rattle.early_verdict.specs.Fitting.{Lists, lists_at, lists_of, ArePartsTidy, AreSetsTidy, HasFailBounds}
 use Rattle.early_verdict.specs.Fitting.{IsTidy, SayOfParts, UntilFits, UntilHolding, UntilFailing}
 use Rattle.early_verdict.specs.Living.{IsLive, NetStands, ReachesAhead}
 use Rattle.early_verdict.specs.Letting.{AreAskedBy, ArePartsCut, ArePartsInside, IsFailingCut, IsFailingInside}
 use Rattle.early_verdict.specs.Letting.{IsHoldingCut, IsHoldingInside, IsInside, IsLess, IsRunCutAt, ShowsFrom}
-use Rattle.early_verdict.specs.declared.stretch.Stretch.{Stretch}
-use Rattle.early_verdict.specs.declared.grown.Grown.{Grown}
+use Rattle.growing_sets.specs.declared.stretch.Stretch.{Stretch}
+use Rattle.growing_sets.specs.declared.grown.Grown.{Grown}
 use Rattle.early_verdict.specs.declared.sets.Sets.{Sets}
 use Rattle.early_verdict.specs.declared.sets.Parts.{Parts}
 use Rattle.early_verdict.proofs.AllSets.{lists_are}
 use Rattle.early_verdict.proofs.Narrowing.{live_by, one_stands, shown_begun, shown_inside}
 use Rattle.rational.proofs.PlaceLemmas.{between}
 use Rattle.rational.proofs.Lists.{slice_get_there}
-use Rattle.early_verdict.proofs.StretchLemmas.{rises}
+use Rattle.growing_sets.proofs.StretchLemmas.{rises}
 use Rattle.early_verdict.proofs.UntilCuts.{Agree, broken_in, each_in, failing_cut, holding_cut, never_in, some_in}
 
 -- the sets between lie within their bounds, and what fails within what the left operand shows

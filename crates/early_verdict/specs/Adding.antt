@@ -7,11 +7,11 @@ use Rattle.stl_syntax.specs.declared.atom.Atom.{Atom}
 use Rattle.atom_lines.specs.Binding.{HasRow, AreNeighbours}
 use Rattle.rational.specs.Places.{Place, After, Upto, AtMost}
 use Rattle.frac128.specs.Cuts.{place}
-use Rattle.early_verdict.specs.Spans.{Grows, IsOn}
+use Rattle.growing_sets.specs.Spans.{Grows, IsOn}
 use Rattle.early_verdict.specs.Fitting.{AreSetsTidy}
 use Rattle.early_verdict.specs.declared.atoms.Pending.{Pending}
 use Rattle.early_verdict.specs.declared.sets.Sets.{Sets}
-use Rattle.early_verdict.specs.declared.stretch.Stretch.{Stretch}
+use Rattle.growing_sets.specs.declared.stretch.Stretch.{Stretch}
 
 -- the two sets grew by the times at which the atom has the truth true, and by those at which it has the truth false
 pub record HasAdded (old new : Sets) (Q : Bool → Rational → Type 0) : Type 0 where

@@ -9,7 +9,7 @@ use Rattle.stl_syntax.specs.WellFormed.{AreWellFormed}
 use Rattle.stl_syntax.specs.declared.node.Node.{Node}
 use Rattle.stl_syntax.specs.declared.scale.Scale.{Scale}
 use Rattle.atom_lines.specs.Binding.{Binding, IsBound}
-use Rattle.early_verdict.specs.Spans.{IsOn}
+use Rattle.growing_sets.specs.Spans.{IsOn}
 use Rattle.early_verdict.specs.Fitting.{lists_at}
 use Rattle.early_verdict.specs.Living.{NetStands}
 use Rattle.early_verdict.specs.declared.sets.Sets.{Sets}

@@ -9,12 +9,12 @@ use Rattle.stl_syntax.specs.declared.node.Node.{Node}
 use Rattle.stl_syntax.specs.declared.node.Node.TheVariants.{Const, Atom as Leaf, Not, And, Or, Implies, Until, Eventually, Always, Since, Once, Historically}
 use Rattle.rational.specs.Places.{Place}
 use Rattle.frac128.specs.Cuts.{place}
-use Rattle.early_verdict.specs.Spans.{IsOn, AreTidy}
-use Rattle.early_verdict.specs.Steps.{Tells, Gains}
-use Rattle.early_verdict.specs.Reaching.{GoesOn, GoesTo, GoesBackBy}
+use Rattle.growing_sets.specs.Spans.{IsOn, AreTidy}
+use Rattle.growing_sets.specs.Steps.{Tells, Gains}
+use Rattle.growing_sets.specs.Reaching.{GoesOn, GoesTo, GoesBackBy}
 use Rattle.early_verdict.specs.Readings.{SomeAhead, OnlyAhead, SomeBehind, OnlyBehind}
-use Rattle.early_verdict.specs.declared.stretch.Stretch.{Stretch}
-use Rattle.early_verdict.specs.declared.grown.Grown.{Grown}
+use Rattle.growing_sets.specs.declared.stretch.Stretch.{Stretch}
+use Rattle.growing_sets.specs.declared.grown.Grown.{Grown}
 use Rattle.early_verdict.specs.declared.sets.Sets.{Sets}
 use Rattle.early_verdict.specs.declared.sets.Parts.{Parts}
 use Rattle.early_verdict.specs.declared.sets.Holding.{Holding}

@@ -6,7 +6,7 @@ use Rattle.frac128.specs.Value.{value}
 use Rattle.stl_syntax.specs.Trace.{Trace, start}
 use Rattle.rational.specs.Places.{AtMost, Same}
 use Rattle.frac128.specs.Cuts.{place}
-use Rattle.early_verdict.specs.Spans.{IsOn, Lies}
+use Rattle.growing_sets.specs.Spans.{IsOn, Lies}
 use Rattle.early_verdict.specs.Fitting.{Lists, nothing, HadLists, AreEmpty, start_place, sure_place}
 use Rattle.early_verdict.specs.declared.entry.Entry.{Entry}
 use Rattle.early_verdict.specs.declared.sets.Sets.{Sets}

@@ -6,12 +6,13 @@ use Rattle.stl_syntax.specs.declared.node.Node.TheVariants.{Until, Since}
 use Rattle.stl_syntax.specs.Cells.{IsChild}
 use Rattle.rational.specs.Places.{Place, After, AtMost, Before, Upto}
 use Rattle.frac128.specs.Cuts.{place}
-use Rattle.early_verdict.specs.Spans.{IsAmong, IsOn, Lies}
-use Rattle.early_verdict.specs.Steps.{HoldsFrom}
+use Rattle.growing_sets.specs.Spans.{IsAmong, IsOn, Lies}
+use Rattle.growing_sets.specs.Steps.{HoldsFrom}
+use Rattle.growing_sets.specs.Showing.{IsCutAt, IsGrownInside}
 use Rattle.early_verdict.specs.Fitting.{AreSetsTidy, IsTidy}
 use Rattle.early_verdict.specs.Living.{IsNarrowed, IsShown, LooksAt}
-use Rattle.early_verdict.specs.declared.stretch.Stretch.{Stretch}
-use Rattle.early_verdict.specs.declared.grown.Grown.{Grown}
+use Rattle.growing_sets.specs.declared.stretch.Stretch.{Stretch}
+use Rattle.growing_sets.specs.declared.grown.Grown.{Grown}
 use Rattle.early_verdict.specs.declared.sets.Holding.{Holding}
 use Rattle.early_verdict.specs.declared.sets.Failing.{Failing}
 use Rattle.early_verdict.specs.declared.sets.Sets.{Sets}
@@ -91,15 +92,6 @@ pub record IsAskedFirst (p : ℕ) (holds : Bool) (low : ℕ) (at : Rational) (ol
   pub count : length new ≡ length old
   pub parts : is.parts ≡ was.parts
   pub shows : MatchBool holds (IsFirstShown low at was.yes was.no is.yes is.no) (IsFirstShown low at was.no was.yes is.no is.yes)
-
--- a set goes on from that time on, where some of its times are left
-pub record IsCutAt (from : Rational) (old new : Grown) : Type 0 where
-  pub tidy : IsTidy new
-  pub less : (t : Rational) → Lies new.bounds t → Lies old.bounds t
-  pub left : (t : Rational) → Lies old.bounds t → from ≤ʳ t → Lies new.bounds t
-  pub after : (t : Rational) → Lies old.bounds t → from ≤ʳ t → (u : Rational) → Lies new.bounds u → from ≤ʳ u
-  pub has : (t : Rational) → Lies new.bounds t → IsOn old.spans.items t → IsOn new.spans.items t
-  pub only : (t : Rational) → IsOn new.spans.items t → IsOn old.spans.items t × Lies new.bounds t
 
 -- a set lets go of the times outside of narrower bounds
 pub record IsCutTo (bounds : Stretch) (old new : Grown) : Type 0 where
@@ -182,9 +174,6 @@ pub record IsDecisive (d : Rational) (own left right : Sets) : Type 0 where
   pub decides : MatchOption own.parts (Unit {0}) (λ x. IsOn x.holding.both.spans.items d) ⊎ IsOn left.no.spans.items d
 
 -- the times of the sets between lie within their bounds
-abbrev pub IsGrownInside : Grown → Type 0
-IsGrownInside x = (t : Rational) → IsOn x.spans.items t → Lies x.bounds t
-
 pub record IsHoldingInside (x : Holding) : Type 0 where
   pub both : IsGrownInside x.both
   pub run : IsGrownInside x.run

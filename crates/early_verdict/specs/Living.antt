@@ -6,15 +6,15 @@ use Rattle.stl_syntax.specs.Formula.{subformula}
 use Rattle.stl_syntax.specs.Early.{OpenAhead, OpenBehind, Settled, SettledNot}
 use Rattle.stl_syntax.specs.declared.node.Node.{Node}
 use Rattle.stl_syntax.specs.declared.node.Node.TheVariants.{Const, Atom as Leaf, Not, And, Or, Implies, Until, Eventually, Always, Since, Once, Historically}
-use Rattle.early_verdict.specs.Spans.{IsOn, Lies}
-use Rattle.early_verdict.specs.Steps.{Gains}
+use Rattle.growing_sets.specs.Spans.{IsOn, Lies}
+use Rattle.growing_sets.specs.Steps.{Gains}
 use Rattle.early_verdict.specs.Fitting.{Lists, lists_at, no_of, yes_of, AreSetsTidy}
 use Rattle.atom_lines.specs.Binding.{Binding}
 use Rattle.early_verdict.specs.Happening.{Happens}
 use Rattle.early_verdict.specs.declared.entry.Entry.{Entry}
 use Rattle.early_verdict.specs.Standing.{AllFit, AllGo, AllTidy, AllWere, HasParts, SteppedTo}
-use Rattle.early_verdict.specs.Showing.{TakesIn}
-use Rattle.early_verdict.specs.declared.stretch.Stretch.{Stretch}
+use Rattle.growing_sets.specs.Showing.{TakesIn}
+use Rattle.growing_sets.specs.declared.stretch.Stretch.{Stretch}
 use Rattle.early_verdict.specs.declared.sets.Sets.{Sets}
 use Rattle.early_verdict.specs.declared.sets.Parts.{Parts}
 

@@ -3,13 +3,13 @@ use Rattle.std.specs.Prelude.{◌≡◌, ◌↔◌, ℕ, Bool, Option, List, [],
 use Rattle.rational.specs.Time.{Rational, later, Precedes}
 use Rattle.stl_syntax.specs.Trace.{Trace}
 use Rattle.rational.specs.Places.{Place}
-use Rattle.early_verdict.specs.Windows.{Sees}
-use Rattle.early_verdict.specs.Steps.{SeesOnly}
-use Rattle.early_verdict.specs.Lasting.{SeesOnlyBy}
+use Rattle.growing_sets.specs.Windows.{Sees}
+use Rattle.growing_sets.specs.Steps.{SeesOnly}
+use Rattle.growing_sets.specs.Lasting.{SeesOnlyBy}
 use Rattle.early_verdict.specs.Fitting.{Says, IsEmpty}
-use Rattle.early_verdict.specs.declared.grown.Grown.{Grown}
-use Rattle.early_verdict.specs.declared.stretch.Stretch.{Stretch}
-use Rattle.early_verdict.specs.declared.window.Window.{Window}
+use Rattle.growing_sets.specs.declared.grown.Grown.{Grown}
+use Rattle.growing_sets.specs.declared.stretch.Stretch.{Stretch}
+use Rattle.growing_sets.specs.declared.window.Window.{Window}
 
 -- the window from t goes from t + a to t + b
 abbrev pub IsAhead : Window → ℕ → ℕ → Bool → Bool → Type 0

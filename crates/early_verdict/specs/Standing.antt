@@ -5,14 +5,14 @@ use Rattle.rational.specs.Time.{Rational, later, ◌≤ʳ◌}
 use Rattle.stl_syntax.specs.Trace.{Row, Trace, start}
 use Rattle.stl_syntax.specs.declared.node.Node.{Node}
 use Rattle.stl_syntax.specs.declared.node.Node.TheVariants.{Const, Atom as Leaf, Not, And, Or, Implies, Until, Eventually, Always, Since, Once, Historically}
-use Rattle.early_verdict.specs.Spans.{Lies}
+use Rattle.growing_sets.specs.Spans.{Lies}
 use Rattle.early_verdict.specs.Fitting.{Fits, AreSetsTidy, AreEmpty, HasStepped, HasFailBounds, Lists, lists_at}
 use Rattle.atom_lines.specs.Binding.{Binding, IsFor, IsAtomNode}
 use Rattle.early_verdict.specs.Adding.{IsNextRow}
 use Rattle.early_verdict.specs.Happening.{Was, Had, Happens}
 use Rattle.early_verdict.specs.declared.entry.Entry.{Entry}
 use Rattle.stl_syntax.specs.declared.atom.Atom.{Atom}
-use Rattle.early_verdict.specs.declared.stretch.Stretch.{Stretch}
+use Rattle.growing_sets.specs.declared.stretch.Stretch.{Stretch}
 use Rattle.early_verdict.specs.declared.sets.Sets.{Sets}
 use Rattle.early_verdict.specs.declared.sets.Parts.{Parts}
 

@@ -3,20 +3,17 @@ ghost use Rattle.std.specs.Prelude.{◌≡◌, ◌⊎◌, ◌<◌, ◌^◌, IfSo
 ghost use Rattle.rational.specs.Rational.{IsWithin};
 ghost use Rattle.rational.specs.Time.{Rational, later, ◌≤ʳ◌};
 ghost use Rattle.frac128.specs.Value.{value};
-ghost use Rattle.early_verdict.specs.Spans.{AreTidy, IsOn, Lies};
+ghost use Rattle.growing_sets.specs.Spans.{AreTidy, IsOn, Lies};
 ghost use Rattle.early_verdict.specs.Fitting.{AreSetsTidy};
 ghost use Rattle.early_verdict.specs.Standing.{AllTidy};
-ghost use Rattle.early_verdict.specs.Letting.{IsDecisive, IsEndlessCut, IsEndlessCutAt, IsGrownInside, IsSeeing};
+ghost use Rattle.growing_sets.specs.Showing.{IsGrownInside};
+ghost use Rattle.early_verdict.specs.Letting.{IsDecisive, IsEndlessCut, IsEndlessCutAt, IsSeeing};
 ghost use Rattle.early_verdict.specs.declared.sets.Sets.{Sets as ASets};
 
-use crate::grown::Grown;
 use crate::letting::cut_before;
 use crate::sets::Sets;
-use crate::shared::last_end;
-use crate::showing::{cut_front, front};
-use crate::stretch::Stretch;
-use crate::stretches::Stretches;
 use frac128::Cut;
+use growing_sets::{Grown, Stretch, Stretches, cut_front, front, last_end};
 
 /// The last time that the spans have in the part, if there is a last one.
 fn last_time(spans: &Stretches, part: &Stretch) -> Option<Cut>

@@ -8,7 +8,7 @@ ghost use Rattle.atom_lines.specs.Binding.{AreNeighbours, IsAtomNode, IsFor};
 ghost use Rattle.early_verdict.specs.Adding.{AddsOnce, AfterRow, BetweenRows, HasAdded, HasGrown, HasRested, IsNextRow, Piece, Turns, before_row};
 ghost use Rattle.rational.specs.Places.{Same};
 ghost use Rattle.frac128.specs.Cuts.{place};
-ghost use Rattle.early_verdict.specs.Spans.{Lies};
+ghost use Rattle.growing_sets.specs.Spans.{Lies};
 ghost use Rattle.early_verdict.specs.Fitting.{AreSetsTidy, AtomFits, HasStepped};
 ghost use Rattle.early_verdict.specs.Happening.{Was};
 

@@ -3,13 +3,13 @@ ghost use Rattle.std.specs.Prelude.{◌≡◌, OnOk, Option};
 ghost use Rattle.stl_syntax.specs.Trace.{Trace};
 ghost use Rattle.early_verdict.specs.Fitting.{Lists, lists_of, AreSetsTidy, IsTidy, HasStepped, ConstantFits};
 ghost use Rattle.early_verdict.specs.Fitting.{NegationFits, ConjunctionFits, DisjunctionFits, ImplicationFits};
-ghost use Rattle.early_verdict.specs.Spans.{Grows, Lies};
+ghost use Rattle.growing_sets.specs.Spans.{Grows, Lies};
 ghost use Rattle.early_verdict.specs.Happening.{Had, Happens, Was};
 
 use crate::entry::Entry;
-use crate::grown::Grown;
 use crate::sets::Sets;
 use frac128::Memory;
+use growing_sets::Grown;
 
 /// Adds all times within the bounds.
 fn fill(own: &mut Grown) -> Result<(), Memory>

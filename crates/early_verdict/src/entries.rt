@@ -3,7 +3,7 @@ ghost use Rattle.std.specs.Prelude.{◌≡◌, ◌<◌, ◌++◌, ◌∷◌, ◌
 ghost use Rattle.stl_syntax.specs.Trace.{Header, Row as ARow};
 ghost use Rattle.stl_syntax.specs.Formula.{root};
 ghost use Rattle.rational.specs.Rational.{whole};
-ghost use Rattle.early_verdict.specs.Spans.{AreTidy, IsOn};
+ghost use Rattle.growing_sets.specs.Spans.{AreTidy, IsOn};
 ghost use Rattle.early_verdict.specs.Happening.{Happens, IsEntry};
 ghost use Rattle.stl_syntax.specs.declared.node.Node.{Node as ANode};
 ghost use Rattle.early_verdict.specs.Standing.{AllEmpty, AllTidy, LeafIsBound};
@@ -12,12 +12,12 @@ ghost use Rattle.early_verdict.specs.Deciding.{IsOpen, IsTruthAtStart, IsVerdict
 
 use crate::atoms::{after_tick, before_tick};
 use crate::entry::Entry;
-use crate::grown::Grown;
 use crate::making::{all_sets, shown_of};
 use crate::net::step_all;
 use crate::sets::{Net, Sets};
 use atom_lines::Bound;
 use frac128::Memory;
+use growing_sets::Grown;
 use std::alloc::Global;
 use stl_syntax::Formula;
 use trace_reader::Row;

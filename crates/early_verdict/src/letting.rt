@@ -8,7 +8,7 @@ ghost use Rattle.stl_syntax.specs.Formula.{HasChildrenBelow};
 ghost use Rattle.stl_syntax.specs.WellFormed.{AreWellFormed};
 ghost use Rattle.rational.specs.Places.{After, Upto};
 ghost use Rattle.frac128.specs.Cuts.{place};
-ghost use Rattle.early_verdict.specs.Spans.{AreTidy, IsOn};
+ghost use Rattle.growing_sets.specs.Spans.{AreTidy, IsOn};
 ghost use Rattle.early_verdict.specs.Fitting.{AreSetsTidy, IsFailingTidy, IsHoldingTidy};
 ghost use Rattle.early_verdict.specs.Standing.{AllTidy};
 ghost use Rattle.early_verdict.specs.Living.{IsNarrowed, NetStands};
@@ -19,14 +19,10 @@ ghost use Rattle.stl_syntax.specs.declared.node.Node.TheVariants.{Since, Until};
 ghost use Rattle.early_verdict.specs.declared.sets.Sets.{Sets as ASets};
 
 use crate::anew::{cut_endless_at, decisive};
-use crate::grown::Grown;
 use crate::operators::ticks_before;
 use crate::sets::{Failing, Holding, Net, Sets};
-use crate::showing::{bounds_from, cut_to, front, narrow};
-use crate::stretch::Stretch;
-use crate::stretches::Stretches;
-use crate::touching::holding;
 use frac128::Cut;
+use growing_sets::{Grown, Stretch, Stretches, bounds_from, cut_to, front, holding, narrow};
 use stl_syntax::{Formula, Node};
 
 /// Where the stretch ends that holds the times just after the cut; the cut itself, where none does.

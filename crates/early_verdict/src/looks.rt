@@ -2,18 +2,17 @@
 ghost use Rattle.std.specs.Prelude.{◌≡◌, OnOk, Option, List, Bool, ℕ, true, false};
 ghost use Rattle.stl_syntax.specs.Trace.{Trace};
 ghost use Rattle.frac128.specs.Cuts.{place};
-ghost use Rattle.early_verdict.specs.Steps.{Gains, SeesOnly};
+ghost use Rattle.growing_sets.specs.Steps.{Gains, SeesOnly};
 ghost use Rattle.early_verdict.specs.Fitting.{Lists, lists_of, Says, AreEmpty, IsEmpty, AreSetsTidy, IsTidy};
 ghost use Rattle.early_verdict.specs.Fitting.{HasStepped, EventuallyFits, AlwaysFits, OnceFits, HistoricallyFits};
 ghost use Rattle.early_verdict.specs.Happening.{Had, Happens, IsEntry, Was};
 ghost use Rattle.early_verdict.specs.Looking.{IsAhead, IsBehind, WasTold, WasList, SeesOnlyTo};
-ghost use Rattle.early_verdict.specs.declared.stretch.Stretch.{Stretch};
+ghost use Rattle.growing_sets.specs.declared.stretch.Stretch.{Stretch};
 
 use crate::entry::Entry;
-use crate::grown::Grown;
 use crate::sets::Sets;
-use crate::window::Window;
 use frac128::Memory;
+use growing_sets::{Grown, Window};
 
 /// The times each of whose window, all of it, is one of the set.
 pub(crate) fn each_open(own: &mut Grown, x: &Grown, entry: &Entry, w: &Window) -> Result<(), Memory>

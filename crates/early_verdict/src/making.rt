@@ -10,9 +10,9 @@ ghost use Rattle.early_verdict.specs.Making.{AreMade, AreShownOf, HasPartsFor, I
 ghost use Rattle.early_verdict.specs.declared.sets.Sets.{Sets as ASets};
 
 use crate::sets::Sets;
-use crate::stretch::Stretch;
 use crate::tops::tops_of;
 use frac128::Memory;
+use growing_sets::Stretch;
 use std::alloc::Global;
 use stl_syntax::{Formula, Node};
 

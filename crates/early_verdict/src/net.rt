@@ -13,9 +13,9 @@ use crate::atoms::{rest, step_atom};
 use crate::entry::Entry;
 use crate::operators::step_operator;
 use crate::sets::Sets;
-use crate::showing::take_in;
 use atom_lines::Bound;
 use frac128::Memory;
+use growing_sets::take_in;
 use stl_syntax::{Formula, Node};
 use trace_reader::Row;
 

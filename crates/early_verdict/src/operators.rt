@@ -15,8 +15,8 @@ use crate::entry::Entry;
 use crate::looks::{step_always, step_eventually, step_historically, step_once};
 use crate::runs::{step_since, step_until};
 use crate::sets::Sets;
-use crate::window::Window;
 use frac128::Memory;
+use growing_sets::Window;
 use stl_syntax::Node;
 
 /// The window of an operator that looks ahead.

@@ -11,8 +11,8 @@ ghost use Rattle.early_verdict.specs.Looking.{IsAhead, IsBehind};
 use crate::entry::Entry;
 use crate::looks::{each_ahead, each_open};
 use crate::sets::{Failing, Holding, Sets};
-use crate::window::Window;
 use frac128::Memory;
+use growing_sets::Window;
 
 /// Where until is certainly true: some sure time of the window has the right operand, and from each time up to the window on the left
 /// one goes on to a sure time of both.

@@ -3,8 +3,7 @@ ghost use Rattle.std.specs.Prelude.{◌≡◌, None};
 ghost use Rattle.early_verdict.specs.Fitting.{AreEmpty, ArePartsEmpty};
 ghost use Rattle.early_verdict.specs.Making.{HasPartBounds, HasPartsFor};
 
-use crate::grown::Grown;
-use crate::stretch::Stretch;
+use growing_sets::{Grown, Stretch};
 use std::alloc::Global;
 
 /// The sets between that at which until or since is certainly true and those of its operands.

@@ -11,7 +11,7 @@ use Rattle.envelope.specs.declared.turns.Turn.{Turn}
 use Rattle.envelope.specs.declared.walk.Item.{Item}
 use Rattle.envelope.specs.declared.walk.Slope.{Slope}
 use Rattle.envelope.specs.Turns.{HasCome, IsToCome, IsNoBetter, none_of}
-use Rattle.envelope.specs.Standing.{Part, Counts, IsOneOf, IsPieceOn, IsTop, Gives, GivesSlope, SomeGives, Promises}
+use Rattle.envelope.specs.Standing.{Part, Counts, IsOneOf, IsTop, Gives, GivesSlope, SomeGives, Promises}
 use Rattle.envelope.specs.Standing.{SlopeEndsBy, IsFalling, IsBelow, AllBelow, AreStairs, IsSlopeBacked, AreBacked}
 use Rattle.envelope.specs.Standing.{Keeps, AllWorse, EachFollowed, EachToCome, More, piece_of, pieces_with}
 use Rattle.envelope.proofs.Bests.{no_better_refl, no_better_trans}
@@ -37,18 +37,9 @@ module _ {P : Type 0} where
   gives_back [] back t p m = m
   gives_back (item ∷ front) back t p m = inr (gives_back front back t p m)
 
-  followed_front : (front back : List (Item P)) (item : Item P) → EachFollowed (front ++ back) item → EachFollowed front item
-  followed_front [] back item f = tt
-  followed_front (x ∷ front) back item f = (f.0, followed_front front back item f.1)
-
   followed_back : (front back : List (Item P)) (item : Item P) → EachFollowed (front ++ back) item → EachFollowed back item
   followed_back [] back item f = f
   followed_back (x ∷ front) back item f = followed_back front back item f.1
-
-  -- more pieces
-  piece_more : (turn : Turn) (parts parts' : List (Part P)) (p : P) (On : Rational → Type 0) → More turn parts parts'
-      → IsPieceOn parts p On → IsPieceOn parts' p On
-  piece_more turn parts parts' p On m (x, one, e, on) = (x, m.kept x one, e, on)
 
   -- the pieces of an item are more of them, from the turn on
   pub more_with : (from : Turn) (item : Item P) (parts : List (Part P)) → ((t : Rational) → HasCome item.until t

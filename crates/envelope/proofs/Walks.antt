@@ -296,9 +296,6 @@ module _ {P : Type 0} (shape : ShapeOf P) (laws : ShapeLaws shape) (side : Side)
     (of_side : course.side ≡ side) (built : course.built ≡ None)
     (before : course.before ≡ record { top = none; low = None; high = None })
     (point : course.point ≡ None) (after : course.after ≡ record { top = none; low = None; high = None }) where
-  nothing : Best P
-  nothing = record { top = none; low = None; high = None }
-
   no_value : IsNone shape side none
   no_value = record {
     value = λ t. no_better_same side (value_at (shape.function none) t) (none_of side shape.lowest shape.highest) (is_none t);

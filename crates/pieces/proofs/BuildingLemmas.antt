@@ -41,7 +41,9 @@ module _ {P : Type 0} (shape : ShapeOf P) where
 
   -- the shape goes on neither the last piece nor, over a last piece of one time, the one before it
   pub record IsNew (ps : List (Piece P)) (more : P) : Type 0 where
+    -- the last piece is of another function
     pub differs : (front : List (Piece P)) (last : Piece P) → ps ≡ front ++ last ∷ [] → ¬ AreSame (shape.function last.shape) (shape.function more)
+    -- the last piece cannot be left out in front of the shape
     pub needed : (front : List (Piece P)) (p q : Piece P) → ps ≡ front ++ p ∷ q ∷ [] → ¬ CanBeLeftOut shape p q more
 
   new_behind : (x : Piece P) (xs : List (Piece P)) (more : P) → IsNew (x ∷ xs) more → IsNew xs more

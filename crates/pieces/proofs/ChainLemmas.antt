@@ -22,10 +22,12 @@ module _ {P : Type 0} where
   rise_front c [] ys h = tt
   rise_front c (x ∷ xs) ys h = (h.0, rise_front (end x) xs ys h.1)
 
+  -- the second of two joined lists rises from where the first ends
   pub rise_back : (c : Place) (xs ys : List (Piece P)) → Rise c (xs ++ ys) → Rise (stop_from c xs) ys
   rise_back c [] ys h = h
   rise_back c (x ∷ xs) ys h = rise_back (end x) xs ys h.1
 
+  -- two lists of which the second rises from where the first ends rise when joined
   pub rise_append : (c : Place) (xs ys : List (Piece P)) → Rise c xs → Rise (stop_from c xs) ys → Rise c (xs ++ ys)
   rise_append c [] ys h k = k
   rise_append c (x ∷ xs) ys h k = (h.0, rise_append (end x) xs ys h.1 k)
@@ -36,11 +38,13 @@ module _ {P : Type 0} where
   shape_in (x ∷ xs) ys q (inl h) = inl (inl h)
   shape_in (x ∷ xs) ys q (inr h) = elim (shape_in xs ys q h) [ inl k ↦ inl (inr k) | inr k ↦ inr k ]
 
+  -- the shapes of the first list are shapes of both joined
   pub shape_front : (xs ys : List (Piece P)) (q : P) → HasShapeIn xs q → HasShapeIn (xs ++ ys) q
   shape_front [] ys q h = absurd h
   shape_front (x ∷ xs) ys q (inl h) = inl h
   shape_front (x ∷ xs) ys q (inr h) = inr (shape_front xs ys q h)
 
+  -- so are those of the second
   pub shape_back : (xs ys : List (Piece P)) (q : P) → HasShapeIn ys q → HasShapeIn (xs ++ ys) q
   shape_back [] ys q h = h
   shape_back (x ∷ xs) ys q h = inr (shape_back xs ys q h)
@@ -58,12 +62,14 @@ module _ {P : Type 0} (shape : ShapeOf P) where
   worth_in c (x ∷ xs) ys t v (inl h) = inl (inl h)
   worth_in c (x ∷ xs) ys t v (inr h) = elim (worth_in (end x) xs ys t v h) [ inl k ↦ inl (inr k) | inr k ↦ inr k ]
 
+  -- joined lists are worth what the first is worth
   pub worth_front : (c : Place) (xs ys : List (Piece P)) (t : Rational) (v : Extended) → IsWorthFrom shape c xs t v
       → IsWorthFrom shape c (xs ++ ys) t v
   worth_front c [] ys t v h = absurd h
   worth_front c (x ∷ xs) ys t v (inl h) = inl h
   worth_front c (x ∷ xs) ys t v (inr h) = inr (worth_front (end x) xs ys t v h)
 
+  -- and what the second is worth from there on
   pub worth_back : (c : Place) (xs ys : List (Piece P)) (t : Rational) (v : Extended) → IsWorthFrom shape (stop_from c xs) ys t v
       → IsWorthFrom shape c (xs ++ ys) t v
   worth_back c [] ys t v h = h
@@ -75,6 +81,7 @@ module _ {P : Type 0} (shape : ShapeOf P) where
   worth_after c (p ∷ ps) t v h (inl w) = w.0
   worth_after c (p ∷ ps) t v h (inr w) = after_of_before c (end p) t h.0 (worth_after (end p) ps t v h.1 w)
 
+  -- the pieces have no value behind where they end
   pub worth_upto : (c : Place) (ps : List (Piece P)) (t : Rational) (v : Extended) → Rise c ps → IsWorthFrom shape c ps t v → Upto (stop_from c ps) t
   worth_upto c [] t v h w = absurd w
   worth_upto c (p ∷ ps) t v h (inl w) = to_stop (end p) ps h.1 t w.1
@@ -88,6 +95,7 @@ module _ {P : Type 0} (shape : ShapeOf P) where
     | inr k ↦ (let w = every_time (end p) ps t k u in (w.0, inr w.1))
   ]
 
+  -- the pieces have one value at a time
   pub one_value : (c : Place) (ps : List (Piece P)) (t : Rational) (v w : Extended) → Rise c ps → IsWorthFrom shape c ps t v
       → IsWorthFrom shape c ps t w → v ≈ᵉ w
   one_value c [] t v w h a b = absurd a

@@ -155,6 +155,7 @@ module _ {P : Type 0} (shape : ShapeOf P) where
         (taken_of_greater b (value_at (shape.function p) to.at) (value_at (shape.function q) to.at) turn.1),
   )
 
+  -- the same where q is taken before the crossing, and p after it
   pub taken_after : (b : Side) (p q : P) (from middle to : Place) → IsTurn shape b p q from.at to.at false
       → MeetAlone (shape.function p) (shape.function q) from.at to.at middle.at → IsTakenOn shape b p q from middle q × IsTakenOn shape b p q middle to p
   taken_after b p q from middle to turn m = (
@@ -188,6 +189,7 @@ module _ {P : Type 0} (shape : ShapeOf P) where
       (joins_alone b old half p q first middle (subst (λ s. IsTakenOn shape b p q s (place middle) first) begins taken.0) on)
       (joins_alone b half new p q second until (subst (λ s. IsTakenOn shape b p q s (place until) second) (sym on.ends) taken.1) on')
 
+  -- a chain that goes on with p up to the crossing and then with q, where p is better before it
   pub joins_crossing : (b : Side) (old half new : Chain P) (p q : P) (turn : Bool) (from : Place) (middle until : Cut) → turn ≡ true → from ≡ stop old
       → IsTurn shape b p q from.at (place until).at turn
       → MeetAlone (shape.function p) (shape.function q) from.at (place until).at (place middle).at
@@ -196,6 +198,7 @@ module _ {P : Type 0} (shape : ShapeOf P) where
       joins_taken b old half new p q p q from middle until begins m.after m.before (taken_until b p q from (place middle) (place until) turn m) on on'
   joins_crossing b old half new p q false from middle until is begins turn m on on' = absurd (false≢true is)
 
+  -- and one that goes on with q and then with p, where q is
   pub joins_crossing_back : (b : Side) (old half new : Chain P) (p q : P) (turn : Bool) (from : Place) (middle until : Cut) → turn ≡ false → from ≡ stop old
       → IsTurn shape b p q from.at (place until).at turn
       → MeetAlone (shape.function p) (shape.function q) from.at (place until).at (place middle).at

@@ -1,6 +1,6 @@
 -- A chain as a signal of knots, and a signal as a chain.
-use Rattle.std.proofs.Common.{◌≡◌, ◌⊎◌, inl, inr, Bool, ℕ, zero, suc, ap, ◌+◌, ◌<◌, List, [], ◌∷◌, Some, true, false, length, refl, sym, ◌∙◌, subst, arith}
-use Rattle.std.specs.Prelude.{slice_get, MatchBool}
+use Rattle.std.proofs.Common.{◌≡◌, ◌⊎◌, inl, inr, ℕ, zero, suc, ap, ◌+◌, ◌<◌, List, [], ◌∷◌, Some, true, false, length, refl, sym, ◌∙◌, subst, arith}
+use Rattle.std.specs.Prelude.{slice_get}
 use Rattle.std.specs.declared.cmp.Ordering.{Ordering}
 use Rattle.std.specs.declared.cmp.Ordering.TheVariants.{Less, Equal, Greater}
 use Rattle.rational.specs.Rational.{IsOrder}
@@ -10,7 +10,7 @@ use Rattle.rational.specs.Time.{Rational, ◌≤ʳ◌, ◌<ʳ◌, ◌≈◌}
 use Rattle.rational.specs.Extended.{value_at}
 use Rattle.rational.specs.Windows.{Function}
 use Rattle.rational.specs.Places.{Place, After, Upto, Before, Same}
-use Rattle.rational.proofs.Order.{le_refl, le_of_same, ge_of_same, same_of_le, same_refl, same_sym, same_trans, lt_or_same_or_gt, not_lt_of_le, le_of_lt}
+use Rattle.rational.proofs.Order.{le_of_same, ge_of_same, same_of_le, same_refl, same_sym, same_trans, lt_or_same_or_gt, not_lt_of_le, le_of_lt}
 use Rattle.rational.proofs.Order.{lt_of_le_of_lt}
 use Rattle.rational.proofs.AffineLemmas.{value_same}
 use Rattle.rational.proofs.Sames.{transᵉ}
@@ -29,7 +29,7 @@ use Rattle.pl_signal.specs.Knots as knots
 use Rattle.pl_signal.proofs.Telling as so_far
 use Rattle.pieces.specs.Knots.{before, after, GoesOnBy, IsAdded}
 use Rattle.pieces.proofs.Telling.{TellsSoFar, tells_on, worth_is_function}
-use Rattle.pieces.proofs.Ends.{upto_of_lt, upto_time_same, after_of_lt, after_time_same}
+use Rattle.pieces.proofs.Ends.{upto_of_lt, after_of_lt, here_after, here_upto, earlier_upto, later_after}
 use Rattle.pieces.proofs.Standing.{begin_at, next_begin, last_begin, rises_at, is_inside, shape_at, worth_place}
 
 -- just before a time comes before just after it
@@ -47,33 +47,10 @@ pub side_after : (n : ℕ) → (n ≡ 0 → ⊥) → is_after n ≡ true
 side_after zero h = absurd (h refl)
 side_after (suc n) h = refl
 
+-- the side 0 is that just before the time
 pub side_before : (n : ℕ) → n ≡ 0 → is_after n ≡ false
 side_before zero h = refl
 side_before (suc n) h = absurd (omega (arith, h))
-
--- the time of a place just before it lies behind it, and that of a place just after it before it
-here_after : (c : Place) → c.after ≡ false → After c c.at
-here_after c = by_side c.after
-  where
-    by_side : (b : Bool) → b ≡ false → MatchBool b (c.at <ʳ c.at) (c.at ≤ʳ c.at)
-    by_side true e = absurd (false≢true (sym e))
-    by_side false e = le_refl c.at
-
-here_upto : (c : Place) → c.after ≡ true → Upto c c.at
-here_upto c = by_side c.after
-  where
-    by_side : (b : Bool) → b ≡ true → MatchBool b (c.at ≤ʳ c.at) (c.at <ʳ c.at)
-    by_side true e = le_refl c.at
-    by_side false e = absurd (false≢true e)
-
--- where a later place begins, the time of the earlier one lies before it, unless that is just after its time; and likewise behind
-pub earlier_upto : (c d : Place) → Before c d → Upto d c.at
-earlier_upto c d (inl l) = upto_of_lt d c.at l
-earlier_upto c d (inr (s, e, f)) = upto_time_same d d.at c.at (same_sym s) (here_upto d f)
-
-pub later_after : (c d : Place) → Before c d → After c d.at
-later_after c d (inl l) = after_of_lt c d.at l
-later_after c d (inr (s, e, f)) = after_time_same c c.at d.at s (here_after c e)
 
 module _ {P : Type 0} (shape : ShapeOf P) where
   -- a piece of a chain that ends just after a time has its value there

@@ -34,6 +34,7 @@ pub none_last : {X : Type 0} (xs front : List X) (last : X) → length xs ≡ 0 
 none_last xs front last n e = let h : length xs ≡ length (front ++ last ∷ []) = ap (λ ys. length ys) e in
     absurd (omega (arith, h, n, length-append front (last ∷ [])))
 
+-- a list of fewer than two has no last two
 pub none_last_two : {X : Type 0} (xs front : List X) (p q : X) → length xs < 2 → xs ≡ front ++ p ∷ q ∷ [] → ⊥
 none_last_two xs front p q n e = let h : length xs ≡ length (front ++ p ∷ q ∷ []) = ap (λ ys. length ys) e in
     absurd (omega (arith, h, n, length-append front (p ∷ q ∷ [])))
@@ -52,6 +53,7 @@ but_last_read xs front p q l n e count read = read ∙ ap (λ ys. get_or ys n l)
     place : length front ≡ n
     place = let h : length xs ≡ length (front ++ p ∷ q ∷ []) = ap (λ ys. length ys) e in omega (arith, h, count, length-append front (p ∷ q ∷ []))
 
+-- the last of the last two is the last
 pub last_of_two : {X : Type 0} (xs front : List X) (p q : X) → xs ≡ front ++ p ∷ q ∷ [] → xs ≡ (front ++ p ∷ []) ++ q ∷ []
 last_of_two xs front p q e = e ∙ sym (append_assoc front (p ∷ []) (q ∷ []))
 
@@ -82,9 +84,11 @@ module _ {P : Type 0} (shape : ShapeOf P) where
   stop_read c ps n l count read =
       sym (ap (λ xs. stop_from c xs) (split_at ps n l (sym count) ∙ ap (λ k. take n ps ++ k ∷ []) (sym read)) ∙ stop_append c (take n ps) (l ∷ []))
 
+  -- pieces end where the last of them ends
   pub stop_last : (c : Place) (ps front : List (Piece P)) (last : Piece P) → ps ≡ front ++ last ∷ [] → stop_from c ps ≡ end last
   stop_last c ps front last e = ap (λ xs. stop_from c xs) e ∙ stop_append c front (last ∷ [])
 
+  -- so the last piece ends within limits where the pieces do
   pub last_within : (n : ℕ) (c : Place) (ps front : List (Piece P)) (last : Piece P) → ps ≡ front ++ last ∷ [] → IsWithin n (stop_from c ps).at
       → IsWithin n (end last).at
   last_within n c ps front last e h = subst (λ s. IsWithin n s.at) (stop_last c ps front last e) h
@@ -102,6 +106,7 @@ module _ {P : Type 0} (shape : ShapeOf P) where
       (goes_on_same shape c front last until more (subst (λ xs. IsNormal shape (chain_of c xs)) e normal)
       (subst (λ xs. Before (stop_from c xs) (place until)) e later) (same front last e)))
 
+  -- pieces go on by their last but one, where the last is left out
   pub put_left : (c : Place) (old half new : List (Piece P)) (until : Cut) (more : P) → IsNormal shape (chain_of c old)
       → Before (stop_from c old) (place until) → 1 < length old
       → ((front : List (Piece P)) (p q : Piece P) → old ≡ front ++ p ∷ q ∷ [] → CanBeLeftOut shape p q more)
@@ -115,6 +120,7 @@ module _ {P : Type 0} (shape : ShapeOf P) where
       (goes_on_left shape c front p q until more (subst (λ xs. IsNormal shape (chain_of c xs)) e normal)
       (subst (λ xs. Before (stop_from c xs) (place until)) e later) (out front p q e)))
 
+  -- and by a new piece, where none of the last two goes on
   pub put_new : (c : Place) (old new : List (Piece P)) (until : Cut) (more : P) → IsNormal shape (chain_of c old)
       → Before (stop_from c old) (place until)
       → ((front : List (Piece P)) (last : Piece P) → old ≡ front ++ last ∷ [] → ¬ AreSame (shape.function last.shape) (shape.function more))

@@ -40,6 +40,7 @@ module _ {P : Type 0} (shape : ShapeOf P) where
   stop_opposite c (p ∷ ps) [] h = absurd h
   stop_opposite c (p ∷ ps) (q ∷ qs) h = subst (λ e. stop_from e qs ≡ stop_from (end p) ps) (sym (end_is p q h.0)) (stop_opposite (end p) ps qs h.1)
 
+  -- opposite pieces rise where the pieces do
   pub rise_opposite : (c : Place) (ps qs : List (Piece P)) → AreOpposite shape ps qs → Rise c ps → Rise c qs
   rise_opposite c [] [] h k = tt
   rise_opposite c [] (q ∷ qs) h k = absurd h
@@ -75,6 +76,7 @@ module _ {P : Type 0} (shape : ShapeOf P) where
     needed = λ out. is.needed (left_out p q p' q' r.shape s.shape a h.0 h.1.0.value out);
   }
 
+  -- opposite pieces differ, and are needed, where the pieces do and are
   pub each_opposite : (ps qs : List (Piece P)) → AreOpposite shape ps qs → Each (IsPiece shape) ps → Each (IsPiece shape) qs
   each_opposite [] [] h k = tt
   each_opposite [] (q ∷ qs) h k = absurd h
@@ -95,6 +97,7 @@ module _ {P : Type 0} (shape : ShapeOf P) where
   worth_opposite c (p ∷ ps) (q ∷ qs) t v h (inr w) =
       inr (worth_opposite (end p) ps qs t v h.1 (subst (λ e. IsWorthFrom shape e qs t v) (end_is p q h.0) w))
 
+  -- opposite pieces are worth minus what the pieces are worth
   pub opposite_worth : (c : Place) (ps qs : List (Piece P)) (t : Rational) (v : Extended) → AreOpposite shape ps qs → IsWorthFrom shape c ps t (opposite v)
       → IsWorthFrom shape c qs t v
   opposite_worth c [] [] t v h w = absurd w
@@ -173,6 +176,7 @@ module _ {P : Type 0} (shape : ShapeOf P) where
       → IsNormal shape (record { from = c; pieces = qs })
   negated_normal c ps qs h s = record { rising = rise_opposite c ps qs h s.rising; each = each_opposite ps qs h s.each }
 
+  -- so a chain of opposite pieces tells minus what the chain is worth
   pub negated_tells : (c : Place) (ps qs : List (Piece P)) → AreOpposite shape ps qs → IsNormal shape (record { from = c; pieces = ps })
       → Tells shape (Negated (IsWorth shape (record { from = c; pieces = ps }))) c (stop_from c ps) (record { from = c; pieces = qs })
   negated_tells c ps qs h s = record {

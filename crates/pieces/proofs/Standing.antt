@@ -17,17 +17,12 @@ use Rattle.rational.proofs.PlaceLemmas.{same_places, le_of_at_most, upto_of_befo
 use Rattle.value_laws.specs.Members.{ShapeOf}
 use Rattle.pl_signal.proofs.Values.{some_is}
 use Rattle.pieces.specs.declared.piece.Piece.{Piece}
+pub use Rattle.pieces.specs.Chains.{begin_at}
 use Rattle.pieces.specs.Chains.{Chain, end, stop, stop_from, HasShapeIn, Rise, IsWorth, IsWorthFrom, IsLimited, IsNormal}
 use Rattle.pieces.proofs.Ends.{at_most_of_before, at_most_of_same, at_most_trans}
 use Rattle.pieces.proofs.ChainLemmas.{to_stop}
 
 module _ {P : Type 0} where
-  -- where the piece begins at that place of the list
-  abbrev pub begin_at : Place → List (Piece P) → ℕ → Place
-  begin_at c ps zero = c
-  begin_at c [] (suc i) = c
-  begin_at c (p ∷ ps) (suc i) = begin_at (end p) ps i
-
   -- the next piece begins where this one ends
   pub next_begin : (c : Place) (ps : List (Piece P)) (i : ℕ) (p : Piece P) → slice_get ps i ≡ Some p → begin_at c ps (suc i) ≡ end p
   next_begin c [] i p h = absurd (cc)
@@ -39,6 +34,7 @@ module _ {P : Type 0} where
   last_begin c [] = refl
   last_begin c (p ∷ ps) = last_begin (end p) ps
 
+  -- the place of a piece lies before the length of the list
   pub is_inside : (ps : List (Piece P)) (i : ℕ) (p : Piece P) → slice_get ps i ≡ Some p → i < length ps
   is_inside [] i p h = absurd (cc)
   is_inside (q ∷ ps) zero p h = omega arith
@@ -50,6 +46,7 @@ module _ {P : Type 0} where
   rises_at c (q ∷ ps) zero p h e = subst (λ q. Before c (end q)) (some_is e) h.0
   rises_at c (q ∷ ps) (suc i) p h e = rises_at (end q) ps i p h.1 e
 
+  -- no piece ends after the chain
   pub end_most : (c : Place) (ps : List (Piece P)) (i : ℕ) (p : Piece P) → Rise c ps → slice_get ps i ≡ Some p → AtMost (end p) (stop_from c ps)
   end_most c [] i p h e = absurd (cc)
   end_most c (q ∷ ps) zero p h e = subst (λ r. AtMost (end r) (stop_from (end q) ps)) (some_is e) (to_stop (end q) ps h.1)
@@ -61,6 +58,7 @@ module _ {P : Type 0} where
   begin_most c [] (suc i) h t u = u
   begin_most c (q ∷ ps) (suc i) h t u = begin_most (end q) ps i h.1 t (upto_of_before c (end q) t h.0 u)
 
+  -- the shape of a piece is one of the list
   pub shape_at : (ps : List (Piece P)) (i : ℕ) (p : Piece P) → slice_get ps i ≡ Some p → HasShapeIn ps p.shape
   shape_at [] i p h = absurd (cc)
   shape_at (q ∷ ps) zero p h = inl (sym (ap (λ q. q.shape) (some_is h)))

@@ -1,6 +1,6 @@
 -- Pieces of a function of time one after another, each up to a place: what they are worth, where they end, when one is needless, and
 -- what function they tell.
-use Rattle.std.specs.Prelude.{◌≡◌, ◌⊎◌, ◌↔◌, ◌^◌, List, [], ◌∷◌}
+use Rattle.std.specs.Prelude.{◌≡◌, ◌⊎◌, ◌↔◌, ◌^◌, ℕ, zero, suc, List, [], ◌∷◌}
 use Rattle.rational.specs.Rational.{IsWithin}
 use Rattle.rational.specs.Time.{Rational, ◌≈◌}
 use Rattle.rational.specs.Extended.{Extended, ◌≈ᵉ◌, value_at, Passes}
@@ -29,6 +29,12 @@ module _ {P : Type 0} where
   -- where the chain ends
   abbrev pub stop : Chain P → Place
   stop chain = stop_from chain.from chain.pieces
+
+  -- where the piece begins at that place of the list
+  abbrev pub begin_at : Place → List (Piece P) → ℕ → Place
+  begin_at c ps zero = c
+  begin_at c [] (suc i) = c
+  begin_at c (p ∷ ps) (suc i) = begin_at (end p) ps i
 
   -- the shape is that of a piece
   abbrev pub HasShapeIn : List (Piece P) → P → Type 0

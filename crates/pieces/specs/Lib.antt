@@ -3,3 +3,9 @@ pub mod Building
 pub mod Joining
 pub mod Negating
 pub mod Knots
+pub mod Sinces
+pub mod Turning
+pub mod Best
+pub mod Steps
+pub mod Sliding
+pub mod Windows

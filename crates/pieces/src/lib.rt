@@ -5,14 +5,24 @@
 #![tactic(auto)]
 
 mod joining;
+pub mod laws;
 mod negation;
 mod next;
 mod piece;
 mod pieces;
 mod pointwise;
+mod reach;
 mod signals;
+mod since;
+mod sliding;
+mod steps;
+mod turning;
+mod until;
+mod window;
 
 pub use piece::Piece;
 pub use pieces::Pieces;
 pub use pointwise::{lower, upper};
 pub use signals::{pieces_of, signal_of};
+pub use since::since_from_start;
+pub use until::until_to_end;

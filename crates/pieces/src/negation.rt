@@ -1,9 +1,10 @@
 //! Negation.
-ghost use Rattle.std.specs.Prelude.{◌≡◌};
+ghost use Rattle.std.specs.Prelude.{◌≡◌, IfOk};
 ghost use Rattle.pieces.specs.Chains.{IsLimited, IsWorth, Tells, stop};
 ghost use Rattle.pieces.specs.Negating.{AreLevel, AreOpposite, BasesFrom, Negated};
 
 use crate::{Piece, Pieces};
+use frac128::Memory;
 use value_laws::Shape;
 
 impl<P: Shape> Pieces<P> {
@@ -15,6 +16,21 @@ impl<P: Shape> Pieces<P> {
         ensures bases { BasesFrom P.Shape (λ b. b) self.old self.new }
     {
         negate_each(&mut self.items);
+    }
+
+    /// The chain that is minus this one at each time. Its moving shapes have the bases of moving shapes of this one.
+    ///
+    /// # Errors
+    ///
+    /// `Memory` where memory is wanting.
+    pub fn negated(&self) -> Result<Pieces<P>, Memory>
+        requires { IsLimited P.Shape self.now }
+        ensures worth { IfOk result (Tells P.Shape (Negated (IsWorth P.Shape self.now)) self.now.from (stop self.now)) }
+        ensures bases { IfOk result (BasesFrom P.Shape (λ b. b) self.now) }
+    {
+        let mut built = self.copy()?;
+        built.negate();
+        Ok(built)
     }
 }
 

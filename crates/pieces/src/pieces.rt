@@ -50,7 +50,7 @@ impl<P: Shape> Pieces<P> {
         }
     }
 
-    /// No piece yet, with memory at once for as many as `room` says: that many ask for no more.
+    /// No piece yet. It asks at once for the memory of as many as `room` says; no clause speaks of how much there is.
     ///
     /// # Errors
     ///
@@ -77,6 +77,23 @@ impl<P: Shape> Pieces<P> {
     /// The allocator that the chain keeps, for what is built from it.
     pub fn alloc(&self) -> Global {
         self.alloc
+    }
+
+    /// The same chain again, in memory of its own.
+    ///
+    /// # Errors
+    ///
+    /// `Memory` where memory is wanting.
+    pub fn copy(&self) -> Result<Pieces<P>, Memory>
+        ensures { IfOk result (λ r. r ≡ self.now) }
+    {
+        let mut items = Vec::with_capacity(self.alloc, self.items.len())?;
+        items.extend_from_slice(&self.items)?;
+        Ok(Pieces {
+            alloc: self.alloc,
+            from: self.from,
+            items,
+        })
     }
 
     /// Where the first piece begins.

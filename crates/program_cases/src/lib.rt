@@ -153,35 +153,6 @@ pub fn rows_answered(alloc: Global, command: &str, table: &[Asked<'_>]) -> Resul
     Ok(table.len())
 }
 
-/// Whether `check` of a formula on a trace does so.
-pub fn checks(
-    alloc: Global,
-    formula: &str,
-    input: &str,
-    out: &str,
-    err: &str,
-    status: u8,
-) -> Result<bool, Fail> {
-    let words: &[&str] = &["check", formula];
-    let case = Case {
-        words,
-        input,
-        out,
-        err,
-        status,
-    };
-    agrees_however_cut(alloc, case, input.len().min(24))
-}
-
-/// Rows at the times from 0 on, whose values go to and fro between 0 and 1.
-pub fn to_and_fro(alloc: Global, rows: usize) -> Result<String, AllocError> {
-    let mut text = String::from_str(alloc, "time,x:step\n")?;
-    for k in 0..rows {
-        write!(text, "{k},{}\n", k % 2)?;
-    }
-    Ok(text)
-}
-
 /// The first bytes of a text.
 pub fn first_bytes(alloc: Global, text: &str, count: usize) -> Result<String, Fail> {
     let mut front = String::new(alloc);

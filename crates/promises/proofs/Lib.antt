@@ -7,6 +7,7 @@ pub mod MarginTruth
 mod ExplainTexts
 mod JsonTexts
 pub mod OwedLaws
+pub mod SureRows
 pub mod SureLines
 pub mod SureDecisions
 pub mod SureMargins

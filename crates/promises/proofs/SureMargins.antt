@@ -1,8 +1,7 @@
 -- The lines of a stream of margins are the robustness in each trace that goes on from the rows, and in the end they cover the trace.
-use Rattle.std.proofs.Common.{◌≡◌, ◌≢◌, ◌⊎◌, inl, inr, refl, sym, ap, subst, ◌∙◌, ℕ, zero, suc, Bool, true, false, Option}
-use Rattle.std.proofs.Common.{Some, None, List, [], ◌∷◌, ◌++◌, length, ℤ, pos, ◌≤ℤ◌, arith, append_assoc, append-nil}
+use Rattle.std.proofs.Common.{◌≡◌, ◌⊎◌, inl, inr, refl, sym, ap, subst, ◌∙◌, ℕ, zero, suc, Bool, true, false, Option}
+use Rattle.std.proofs.Common.{Some, None, List, [], ◌∷◌, ◌++◌, ℤ, pos, ◌≤ℤ◌, arith, append_assoc}
 use Rattle.std.specs.Prelude.{MatchBool, int_lt, slice_get}
-use Rattle.std.proofs.lemmas.Bool.{false≢true}
 use Rattle.std.proofs.lemmas.Int.{ints}
 use Rattle.rational.specs.Time.{Rational, ◌≤ʳ◌, ◌≈◌, whole}
 use Rattle.rational.specs.Extended.{Extended, ◌≈ᵉ◌}
@@ -10,17 +9,15 @@ use Rattle.rational.proofs.Order.{le_trans, le_of_same, ge_of_same, le_of_lt, sa
 use Rattle.rational.proofs.AffineLemmas.{same_symᵉ, same_transᵉ}
 use Rattle.rational.proofs.Shift.{le_whole}
 use Rattle.rational.proofs.Tests.{int_order}
-use Rattle.stl_syntax.specs.Trace.{Header, Row, Trace, IsTrace, Continues, AreRows, first_time, last_time}
+use Rattle.stl_syntax.specs.Trace.{Header, Row, Trace, first_time}
 use Rattle.stl_syntax.specs.Formula.{Formula, Subformula, root}
 use Rattle.stl_syntax.specs.Knots.{Knot, Piece, Knots}
 use Rattle.stl_syntax.specs.SupInf.{Robustness, margin_setting}
 use Rattle.stl_syntax.specs.Verdicts.{IsRobust, IsRobustInside, PiecesGoOn, TellsAfter}
-use Rattle.stl_syntax.specs.Stream.{answered_by, IsRowsText, IsRestText}
 use Rattle.stl_syntax.specs.Texts.{AreMarginLines, ArePieceLines}
 use Rattle.stl_syntax.specs.declared.scale.Scale.{Scale}
 use Rattle.stl_syntax.proofs.LawProofs.{answered_margins_stay, values_are_of_times}
 use Rattle.stl_syntax.proofs.SupInfLemmas.{SupInf-unique, margins_give_one}
-use Rattle.stl_syntax.proofs.RowsLemmas.{row_later}
 use Rattle.online_nodes.specs.MarginEdges.{Part, point, gap, parts_after, parts_of}
 use Rattle.online_nodes.specs.MarginStream.{TellsLeftOpen, IsNewMargins, IsMarginStream}
 use Rattle.report.specs.Report.{nodes_for}
@@ -29,14 +26,13 @@ use Rattle.workbench.specs.Ended.{IsAnsweredByRow}
 use Rattle.promises.specs.SureMargins.{ArePartLines, IsTruePart, AreTrueParts, AreSureMargins, AreSureMarginsByRow}
 use Rattle.promises.specs.SureMargins.{AreSureMarginsToEnd, AreInTurn, CoverParts, IsMarginCover, ReadsPart, IsMarginText}
 use Rattle.promises.proofs.MarginTruth.{one_inside, reads}
-use Rattle.promises.proofs.SureLines.{AnsweredBy, Front, Low, NeverBelow, answered_is}
-use Rattle.promises.proofs.SureLines.{front_is, front_of_all, front_rises, low_front, low_later, row_answered}
+use Rattle.promises.proofs.SureRows.{Low, Lines, IsKind, sure_by_row, sure_at_end, whole_passage}
 
 -- ---- the parts of knots
 
--- what is the robustness in the one trace is it in the other, from one time to another
-abbrev AgreeOn : Subformula → Trace → Trace → Rational → Rational → Type 0
-AgreeOn p tr tr' from to = (t : Rational) → from ≤ʳ t → t ≤ʳ to → (v : Extended) → Robustness p tr t v → Robustness p tr' t v
+-- what is the robustness in the one trace is it in the other
+abbrev Agree : Subformula → Trace → Trace → Rational → Type 0
+Agree p tr tr' t = (v : Extended) → Robustness p tr t v → Robustness p tr' t v
 
 module _ (p : Subformula) (tr : Trace) (to : Rational) where
   before_end : (j : Knot) (before : Piece) (pieces : List Piece) → PiecesGoOn p tr to j before pieces → before.next.time ≤ʳ to
@@ -59,7 +55,7 @@ module _ (p : Subformula) (tr : Trace) (to : Rational) where
   closed_covers from first (q ∷ pieces) e (inl (none, same)) = absurd (let k = none in cc)
   closed_covers from first (q ∷ pieces) e (inr tells) = (e, after_join first (q ∷ pieces) tells)
 
-  module _ (tr' : Trace) (from : Rational) (agree : AgreeOn p tr tr' from to) where
+  module _ (tr' : Trace) (from : Rational) (agree : (t : Rational) → from ≤ʳ t → t ≤ʳ to → Agree p tr tr' t) where
     piece_told : (k : Knot) (q : Piece) → from ≤ʳ k.time → q.next.time ≤ʳ to → IsRobustInside p tr k q → IsTruePart p tr' (gap k.time q.next.time q.from q.to)
     piece_told k q b e h = (
       h.0,
@@ -136,15 +132,7 @@ cover_append from mid to [] ys e h = absurd e
 cover_append from mid to (gap a b v w ∷ xs) ys e h = absurd e
 cover_append from mid to (point t v ∷ xs) ys e h = (e.0, turn_append t mid to xs ys e.1 h)
 
--- ---- the lines of a row
-
--- rows that answer up to f settle the robustness from the start up to there
-row_agrees : (p : Subformula) (header : Header) (rows : List Row) (r : Row) (tr : Trace) (f : ℤ) → IsTrace tr → Continues tr header (rows ++ r ∷ []) false
-    → AnsweredBy (first_time (rows ++ r ∷ [])) p r.time f
-    → AgreeOn p (record { header = header; rows = rows ++ r ∷ [] }) tr (whole (pos (first_time (rows ++ r ∷ [])))) (whole f)
-row_agrees p header [] r tr f is c a = λ t from to v. (answered_margins_stay p header r [] tr false t v is c (from, row_answered p [] r f a t to)).0
-row_agrees p header (q ∷ qs) r tr f is c a = λ t from to v.
-    (answered_margins_stay p header q (qs ++ r ∷ []) tr false t v is c (from, row_answered p (q ∷ qs) r f a t to)).0
+-- ---- a kind of lines
 
 -- up to where a front leads, and nothing where there is none yet
 abbrev Led : ℕ → Option ℤ → List Part → Option ℤ → Type 0
@@ -152,198 +140,94 @@ Led first old parts None = (old ≡ None) × (parts ≡ [])
 Led first None parts (Some f) = CoverParts (whole (pos first)) (whole f) parts
 Led first (Some o) parts (Some f) = AreInTurn (whole o) (whole f) parts
 
--- the lines of what a front answers beyond an old one, in the trace of some rows
-record Lines (p : Subformula) (tr : Trace) (first : ℕ) (old new : Option ℤ) (text : List ℕ) : Type 0 where
-  parts : List Part
-  lines : ArePartLines tr.header.scale parts text
-  told : (tr' : Trace) → ((f : ℤ) → new ≡ Some f → AgreeOn p tr tr' (whole (pos first)) (whole f)) → AreTrueParts p tr' parts
-  led : NeverBelow old new → Led first old parts new
+no_led : (first : ℕ) (o : Option ℤ) → Led first o [] o
+no_led first None = (refl, refl)
+no_led first (Some f) = same_refl (whole f)
 
-new_lines : (p : Subformula) (tr : Trace) (old new : Option ℤ) (text : List ℕ) → Low (first_time tr.rows) old → IsNewMargins p tr old new text
-    → Lines p tr (first_time tr.rows) old new text
-new_lines p tr None None text low is = record { parts = []; lines = is; told = λ tr' agree. tt; led = λ never. (refl, refl) }
-new_lines p tr (Some o) None text low is = record { parts = []; lines = is; told = λ tr' agree. tt; led = λ never. absurd never }
-new_lines p tr None (Some f) text low (knots, tells, lines) = record {
-  parts = parts_of knots;
-  lines = margin_lines tr.header.scale knots text lines;
-  told = λ tr' agree.
-      closed_told p tr (whole f) tr' (whole (pos (first_time tr.rows))) (agree f refl) knots.first knots.pieces tells.0 tells.1 tells.2;
-  led = λ never. closed_covers p tr (whole f) (whole (pos (first_time tr.rows))) knots.first knots.pieces tells.0 tells.2;
-}
-new_lines p tr (Some o) (Some f) text low is = by_test (int_lt o f) refl is
-  where
-    by_test : (b : Bool) → int_lt o f ≡ b
-        → MatchBool b ((k : Knot) × (pieces : List Piece) × TellsLeftOpen p tr (whole o) (whole f) k pieces
-        × ArePieceLines tr.header.scale k pieces text) (text ≡ [])
-        → Lines p tr (first_time tr.rows) (Some o) (Some f) text
-    by_test true e (k, pieces, tells, lines) = record {
-      parts = parts_after k.time pieces;
-      lines = piece_lines tr.header.scale k pieces text lines;
-      told = λ tr' agree.
-          after_told p tr (whole f) tr' (whole (pos (first_time tr.rows))) (agree f refl) k pieces (le_trans (le_whole low) (ge_of_same tells.0)) tells.1;
-      led = λ never. begin_moved (whole o) k.time (whole f) (parts_after k.time pieces) (same_sym tells.0) (after_join p tr (whole f) k pieces tells.1);
-    }
-    by_test false e none = record {
-      parts = [];
-      lines = none;
-      told = λ tr' agree. tt;
-      led = λ never. same_place never (int_order o f false e);
-    }
-      where
-        same_place : o ≤ℤ f → f ≤ℤ o → whole o ≈ whole f
-        same_place a b = let e : o ≡ f = omega (arith, ints) in subst (λ z. whole o ≈ whole z) e (same_refl (whole o))
+led_join : (first : ℕ) (old mid new : Option ℤ) (xs ys : List Part) → Led first old xs mid → Led first mid ys new → Led first old (xs ++ ys) new
+led_join first old None None xs ys a b = (a.0, ap (λ l. l ++ ys) a.1 ∙ b.1)
+led_join first old None (Some f) xs ys a b =
+    subst (λ (o : Option ℤ). Led first o (xs ++ ys) (Some f)) (sym a.0)
+    (subst (λ (l : List Part). CoverParts (whole (pos first)) (whole f) (l ++ ys)) (sym a.1) b)
+led_join first old (Some m) None xs ys a b = absurd (let k = b.0 in cc)
+led_join first None (Some m) (Some f) xs ys a b = cover_append (whole (pos first)) (whole m) (whole f) xs ys a b
+led_join first (Some o) (Some m) (Some f) xs ys a b = turn_append (whole o) (whole m) (whole f) xs ys a b
 
--- the lines of a row are sure once it has come
-row_sure : (p : Subformula) (header : Header) (rows : List Row) (r : Row) (old : Option ℤ) (text : List ℕ)
-    → Lines p (record { header = header; rows = rows ++ r ∷ [] }) (first_time (rows ++ r ∷ [])) old (answered_by (first_time (rows ++ r ∷ [])) p r.time) text
-    → AreSureMargins p header (rows ++ r ∷ []) false text
-row_sure p header rows r old text l = record {
-  parts = l.parts;
-  lines = l.lines;
-  told = λ tr is c. l.told tr (λ f e. row_agrees p header rows r tr f is c (answered_is (first_time (rows ++ r ∷ [])) p r.time f e));
-}
+module _ (p : Subformula) (header : Header) where
+  new_lines : (rows : List Row) (old new : Option ℤ) (text : List ℕ) → Low (first_time rows) old
+      → IsNewMargins p (record { header = header; rows = rows }) old new text
+      → Lines (ArePartLines header.scale) (AreTrueParts p) (Agree p) Led header rows old new text
+  new_lines rows None None text low is = record { items = []; lines = is; told = λ tr agree. tt; led = λ never. (refl, refl) }
+  new_lines rows (Some o) None text low is = record { items = []; lines = is; told = λ tr agree. tt; led = λ never. absurd never }
+  new_lines rows None (Some f) text low (knots, tells, lines) =
+      let seen : Trace = record { header = header; rows = rows } in
+      record {
+        items = parts_of knots;
+        lines = margin_lines header.scale knots text lines;
+        told = λ tr agree.
+            closed_told p seen (whole f) tr (whole (pos (first_time rows))) (agree f refl) knots.first knots.pieces tells.0 tells.1 tells.2;
+        led = λ never. closed_covers p seen (whole f) (whole (pos (first_time rows))) knots.first knots.pieces tells.0 tells.2;
+      }
+  new_lines rows (Some o) (Some f) text low is = by_test (int_lt o f) refl is
+    where
+      by_test : (b : Bool) → int_lt o f ≡ b
+          → MatchBool b ((k : Knot) × (pieces : List Piece) × TellsLeftOpen p (record { header = header; rows = rows }) (whole o) (whole f) k pieces
+          × ArePieceLines header.scale k pieces text) (text ≡ [])
+          → Lines (ArePartLines header.scale) (AreTrueParts p) (Agree p) Led header rows (Some o) (Some f) text
+      by_test true e (k, pieces, tells, lines) =
+          let seen : Trace = record { header = header; rows = rows } in
+          record {
+            items = parts_after k.time pieces;
+            lines = piece_lines header.scale k pieces text lines;
+            told = λ tr agree.
+                after_told p seen (whole f) tr (whole (pos (first_time rows))) (agree f refl) k pieces (le_trans (le_whole low) (ge_of_same tells.0)) tells.1;
+            led = λ never.
+                begin_moved (whole o) k.time (whole f) (parts_after k.time pieces) (same_sym tells.0) (after_join p seen (whole f) k pieces tells.1);
+          }
+      by_test false e none = record { items = []; lines = none; told = λ tr agree. tt; led = λ never. same_place never (int_order o f false e) }
+        where
+          same_place : o ≤ℤ f → f ≤ℤ o → whole o ≈ whole f
+          same_place a b = let e : o ≡ f = omega (arith, ints) in subst (λ z. whole o ≈ whole z) e (same_refl (whole o))
 
--- ---- all rows
-
--- row by row
-sure_by_row : (p : Subformula) (header : Header) (rows : List Row) (old : Option ℤ) (more : List Row) (text : List ℕ)
-    → ((r : Row) → Low (first_time (rows ++ r ∷ [])) old) → IsRowsText (IsNewMargins p) p header rows old more text
-    → AreSureMarginsByRow p header rows more text
-sure_by_row p header rows old [] text low t = t
-sure_by_row p header rows old (r ∷ more) text low (here, later, new, rest, is) = (
-  here,
-  later,
-  row_sure p header rows r old here (new_lines p (record { header = header; rows = rows ++ r ∷ [] }) old _ here (low r) new),
-  sure_by_row p header (rows ++ r ∷ []) _ more later
-      (λ s. low_later rows r s _ (low_front (first_time (rows ++ r ∷ [])) p r.time _ refl)) rest,
-  is,
-)
+  -- lines of margins are a kind of lines
+  kind : IsKind (ArePartLines header.scale) (AreTrueParts p) (Agree p) Led header p (IsNewMargins p)
+  kind = record {
+    new_lines = new_lines;
+    stays = λ r rows tr t is c h v. (answered_margins_stay p header r rows tr false t v is c h).0;
+    itself = λ tr t v h. h;
+    no_lines = λ text e. e;
+    no_told = λ tr. tt;
+    no_led = no_led;
+    lines_join = lines_append header.scale;
+    told_join = told_append p;
+    led_join = led_join;
+  }
 
 -- the law before the end
 pub margins_are_sure : (p : Subformula) (header : Header) (rows : List Row) (text : List ℕ) → IsMarginStream p header rows false text
     → AreSureMarginsByRow p header [] rows text
-margins_are_sure p header rows text t = sure_by_row p header [] None rows text (λ r. tt) t
-
--- ---- the end
-
--- a trace that goes on from all rows and their end is these rows
-same_trace : (p : Subformula) (header : Header) (rows : List Row) (tr : Trace) (t : Rational) (v : Extended) → Continues tr header rows true
-    → Robustness p (record { header = header; rows = rows }) t v → Robustness p tr t v
-same_trace p header rows tr t v c h =
-    let none = c.whole_input refl in
-    let same : tr.rows ≡ rows = c.begins ∙ ap (λ l. rows ++ l) none ∙ append-nil rows in
-    let is : record { header = header; rows = rows } ≡ tr =
-    ap (λ h. record { header = h; rows = rows }) (sym c.same_header) ∙ ap (λ l. record { header = tr.header; rows = l }) (sym same) in
-    subst (λ (q : Trace). Robustness p q t v) is h
-
-rest_lines : (p : Subformula) (header : Header) (rows : List Row) (rest : List ℕ) → IsRestText (IsNewMargins p) p (record { header = header; rows = rows }) rest
-    → Lines p (record { header = header; rows = rows }) (first_time rows) (answered_by (first_time rows) p (last_time 0 rows))
-    (Some (pos (last_time 0 rows))) rest
-rest_lines p header rows rest t =
-    new_lines p (record { header = header; rows = rows }) (answered_by (first_time rows) p (last_time 0 rows)) (Some (pos (last_time 0 rows))) rest
-    (low_front (first_time rows) p (last_time 0 rows) _ refl) t
+margins_are_sure p header rows text t =
+    sure_by_row (kind p header) (AreSureMargins p header) (λ rows ended text parts lines told. record { parts = parts; lines = lines; told = told }) rows text t
 
 -- the law at the end
 pub margins_are_sure_to_end : (p : Subformula) (header : Header) (rows : List Row) (text : List ℕ) → IsMarginStream p header rows true text
     → AreSureMarginsToEnd p header rows text
-margins_are_sure_to_end p header rows text (are, (during, rest, t, at_end, is)) =
-    let l = rest_lines p header rows rest at_end in
-    record {
-      during = during;
-      rest = rest;
-      by_row = sure_by_row p header [] None rows during (λ r. tt) t;
-      at_end = record { parts = l.parts; lines = l.lines; told = λ tr ok c. l.told tr (λ f e t a b v. same_trace p header rows tr t v c) };
-      is = is;
-    }
-
--- ---- the cover
-
--- rows that came lead from the start to their front
-record Passage (p : Subformula) (header : Header) (first : ℕ) (old new : Option ℤ) (tr : Trace) (text : List ℕ) : Type 0 where
-  parts : List Part
-  lines : ArePartLines header.scale parts text
-  told : AreTrueParts p tr parts
-  led : Led first old parts new
-
-none_led : (first : ℕ) (o : Option ℤ) → Led first o [] o
-none_led first None = (refl, refl)
-none_led first (Some f) = same_refl (whole f)
-
-led_append : (first : ℕ) (old mid new : Option ℤ) (xs ys : List Part) → Led first old xs mid → Led first mid ys new → Led first old (xs ++ ys) new
-led_append first old None None xs ys a b = (a.0, ap (λ l. l ++ ys) a.1 ∙ b.1)
-led_append first old None (Some f) xs ys a b =
-    subst (λ (o : Option ℤ). Led first o (xs ++ ys) (Some f)) (sym a.0)
-    (subst (λ (l : List Part). CoverParts (whole (pos first)) (whole f) (l ++ ys)) (sym a.1) b)
-led_append first old (Some m) None xs ys a b = absurd (let k = b.0 in cc)
-led_append first None (Some m) (Some f) xs ys a b = cover_append (whole (pos first)) (whole m) (whole f) xs ys a b
-led_append first (Some o) (Some m) (Some f) xs ys a b = turn_append (whole o) (whole m) (whole f) xs ys a b
-
-module _ (p : Subformula) (header : Header) (tr : Trace) (ok : IsTrace tr) (first : ℕ) (starts : first ≡ first_time tr.rows) where
-  course : (rows : List Row) (old : Option ℤ) (more : List Row) (text : List ℕ) → tr.header ≡ header → tr.rows ≡ rows ++ more
-      → AreRows (length header.columns) (rows ++ more)
-      → old ≡ Front p rows → IsRowsText (IsNewMargins p) p header rows old more text → Passage p header first old (Front p (rows ++ more)) tr text
-  course rows old [] text same is are e t =
-      let end : Front p (rows ++ []) ≡ old = ap (Front p) (append-nil rows) ∙ sym e in
-      subst (λ (o : Option ℤ). Passage p header first old o tr text) (sym end) (record { parts = []; lines = t; told = tt; led = none_led first old })
-  course rows old (r ∷ more) text same is are e (here, later, new, rest, parts) =
-      let at : rows ++ r ∷ more ≡ (rows ++ r ∷ []) ++ more = sym (append_assoc rows (r ∷ []) more) in
-      let begin : first_time (rows ++ r ∷ []) ≡ first = first_so_far rows more (is) ∙ sym starts in
-      let front : answered_by (first_time (rows ++ r ∷ [])) p r.time ≡ Front p (rows ++ r ∷ []) = sym (front_is p rows r) in
-      let l = new_lines p (record { header = header; rows = rows ++ r ∷ [] }) old _ here (low_old rows e begin) new in
-      let c = course (rows ++ r ∷ []) _ more later same (is ∙ at) (subst (λ rs. AreRows (length header.columns) rs) at are) front rest in
-      let goes : Continues tr header (rows ++ r ∷ []) false =
-      record { same_header = same; more = more; begins = is ∙ at; whole_input = λ k. absurd (false≢true k) } in
-      let led : Led (first_time (rows ++ r ∷ [])) old l.parts (answered_by (first_time (rows ++ r ∷ [])) p r.time) = l.led (rises rows e begin are) in
-      subst (λ rs. Passage p header first old (Front p rs) tr text) (sym at) (record {
-        parts = l.parts ++ c.parts;
-        lines = subst (λ t. ArePartLines header.scale (l.parts ++ c.parts) t) (sym parts)
-            (lines_append header.scale l.parts c.parts here later l.lines c.lines);
-        told = told_append p tr l.parts c.parts
-            (l.told tr (λ f k. row_agrees p header rows r tr f ok goes (answered_is (first_time (rows ++ r ∷ [])) p r.time f k))) c.told;
-        led = led_append first old (answered_by (first_time (rows ++ r ∷ [])) p r.time) (Front p ((rows ++ r ∷ []) ++ more)) l.parts c.parts
-            (subst (λ n. Led n old l.parts (answered_by (first_time (rows ++ r ∷ [])) p r.time)) begin led) c.led;
-      })
-    where
-      first_so_far : (rows more : List Row) → tr.rows ≡ rows ++ r ∷ more → first_time (rows ++ r ∷ []) ≡ first_time tr.rows
-      first_so_far [] more e = ap first_time (sym e)
-      first_so_far (q ∷ rows) more e = ap first_time (sym e)
-
-      low_old : (rows : List Row) → old ≡ Front p rows → first_time (rows ++ r ∷ []) ≡ first → Low (first_time (rows ++ r ∷ [])) old
-      low_old [] e b = subst (λ (o : Option ℤ). Low r.time o) (sym e) tt
-      low_old (q ∷ rows) e b = subst (λ (o : Option ℤ). Low q.time o) (sym e) (low_front q.time p (last_time q.time rows) _ refl)
-
-      rises : (rows : List Row) → old ≡ Front p rows → first_time (rows ++ r ∷ []) ≡ first → AreRows (length header.columns) (rows ++ r ∷ more)
-          → NeverBelow old (answered_by (first_time (rows ++ r ∷ [])) p r.time)
-      rises [] e b are = subst (λ (o : Option ℤ). NeverBelow o (answered_by r.time p r.time)) (sym e) tt
-      rises (q ∷ rows) e b are =
-          let l = row_later (length header.columns) q.time rows r more are.1 in
-          front_rises q.time p (last_time q.time rows) r.time old _ (omega (arith, l)) (sym e) refl
+margins_are_sure_to_end p header rows text (are, (during, rest, t, at_end, is)) = record {
+  during = during;
+  rest = rest;
+  by_row = margins_are_sure p header rows during t;
+  at_end =
+      sure_at_end (kind p header) (AreSureMargins p header) (λ rows ended text parts lines told. record { parts = parts; lines = lines; told = told })
+      rows rest at_end;
+  is = is;
+}
 
 -- the lines cover the trace
 covered : (p : Subformula) (header : Header) (rows : List Row) (text : List ℕ) → IsMarginStream p header rows true text
     → (parts : List Part) × IsMarginCover p (record { header = header; rows = rows }) parts text
 covered p header rows text (are, (during, rest, t, at_end, is)) =
-    let tr : Trace = record { header = header; rows = rows } in
-    let ok : IsTrace tr = record { rows = are } in
-    let c = course p header tr ok (first_time rows) refl [] None rows during refl refl are refl t in
-    let l = rest_lines p header rows rest at_end in
-    let led : Led (first_time rows) (Front p rows) l.parts (Some (pos (last_time 0 rows))) =
-    subst (λ (o : Option ℤ). Led (first_time rows) o l.parts (Some (pos (last_time 0 rows)))) (sym (front_of_all p rows (no_rows are)))
-    (l.led (by_end (answered_by (first_time rows) p (last_time 0 rows)) refl)) in (
-      c.parts ++ l.parts,
-      record {
-        lines = subst (λ t. ArePartLines header.scale (c.parts ++ l.parts) t) (sym is) (lines_append header.scale c.parts l.parts during rest c.lines l.lines);
-        covers = led_append (first_time rows) None (Front p rows) (Some (pos (last_time 0 rows))) c.parts l.parts c.led led;
-        told = told_append p tr c.parts l.parts c.told (l.told tr (λ f e t a b v h. h));
-      },
-    )
-  where
-    no_rows : AreRows (length header.columns) rows → rows ≢ []
-    no_rows are e = subst (λ rs. AreRows (length header.columns) rs) e are
-
-    by_end : (o : Option ℤ) → answered_by (first_time rows) p (last_time 0 rows) ≡ o → NeverBelow o (Some (pos (last_time 0 rows)))
-    by_end None e = tt
-    by_end (Some f) e = let i = (answered_is (first_time rows) p (last_time 0 rows) f e).is in omega (arith, ints)
+    let c = whole_passage (kind p header) rows during rest are t at_end in
+    (c.items, record { lines = subst (λ t. ArePartLines header.scale c.items t) (sym is) c.lines; covers = c.led; told = c.told })
 
 -- ---- what `robust` tells
 

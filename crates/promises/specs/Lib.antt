@@ -2,6 +2,7 @@ pub mod Words
 pub mod Promises
 pub mod Measured
 pub mod Accounts
+pub mod SureRows
 pub mod SureLines
 pub mod SureDecisions
 pub mod SureMargins

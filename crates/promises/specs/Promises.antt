@@ -17,10 +17,6 @@ use Rattle.workbench.specs.ErrTexts.{formula_fault_text, out_of_memory, read_fau
 abbrev pub HasBadText : List ℕ → List ℕ → Type 0
 HasBadText text line = (r : FormulaFault) × IsFormulaFault text r × (line ≡ formula_fault_text r)
 
--- the words are not `check` and one more
-abbrev pub AreNoForm : List (List ℕ) → Type 0
-AreNoForm words = (text : List ℕ) → ¬ AskCheck words text
-
 -- the words ask for a text that is refused with this line
 pub record AskForBad (words : List (List ℕ)) (line : List ℕ) : Type 0 where
   pub text : List ℕ

@@ -1,5 +1,5 @@
 -- What the lines of a stream of verdicts are: the truth in each trace that goes on from the rows, and in the end a cover of the trace.
-use Rattle.std.specs.Prelude.{◌≡◌, ℕ, Bool, false, true, List, [], ◌∷◌, ◌++◌, Some, slice_get}
+use Rattle.std.specs.Prelude.{◌≡◌, ℕ, Bool, true, List, [], ◌++◌, Some, slice_get}
 use Rattle.rational.specs.Time.{Rational, IsIn, closed}
 use Rattle.frac128.specs.Spans.{interval}
 use Rattle.stl_syntax.specs.Trace.{Header, Row, Trace, IsTrace, Continues, start, stop}
@@ -12,6 +12,7 @@ use Rattle.online_nodes.specs.Laws.{AreTold, AreTiles}
 use Rattle.report.specs.Report.{nodes_for}
 use Rattle.workbench.specs.InputFaults.{stream_limits}
 use Rattle.trace_stream.specs.CaseReader.{IsWhole}
+use Rattle.promises.specs.SureRows.{AreByRow}
 
 -- the text is the lines of verdicts, each of which is the truth at each time of its span in every trace that goes on from the rows
 pub record AreSure (p : Subformula) (header : Header) (rows : List Row) (ended : Bool) (text : List ℕ) : Type 0 where
@@ -19,11 +20,9 @@ pub record AreSure (p : Subformula) (header : Header) (rows : List Row) (ended :
   pub lines : AreVerdictLines header.scale verdicts text
   pub told : (tr : Trace) → IsTrace tr → Continues tr header rows ended → AreTold p tr verdicts
 
--- row by row, each by the rows up to its own; `rows` came before
+-- row by row
 abbrev pub AreSureByRow : Subformula → Header → List Row → List Row → List ℕ → Type 0
-AreSureByRow p header rows [] text = text ≡ []
-AreSureByRow p header rows (r ∷ more) text =
-    (here later : List ℕ) × AreSure p header (rows ++ r ∷ []) false here × AreSureByRow p header (rows ++ r ∷ []) more later × (text ≡ here ++ later)
+AreSureByRow p header rows more text = AreByRow (AreSure p header) rows more text
 
 -- so with the lines at the end, and the line of the truth at the start
 pub record AreSureToEnd (p : Subformula) (header : Header) (rows : List Row) (text : List ℕ) : Type 0 where

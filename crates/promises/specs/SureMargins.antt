@@ -1,5 +1,5 @@
 -- What the lines of a stream of margins are: the robustness in each trace that goes on from the rows, and in the end a cover of the trace.
-use Rattle.std.specs.Prelude.{◌≡◌, ℕ, Bool, false, true, List, [], ◌∷◌, ◌++◌, Some, slice_get}
+use Rattle.std.specs.Prelude.{◌≡◌, ℕ, Bool, true, List, [], ◌∷◌, ◌++◌, Some, slice_get}
 use Rattle.rational.specs.Time.{Rational, ◌≈◌}
 use Rattle.rational.specs.Extended.{Extended, ◌≈ᵉ◌}
 use Rattle.stl_syntax.specs.Trace.{Header, Row, Trace, IsTrace, Continues, start, stop}
@@ -11,6 +11,7 @@ use Rattle.online_nodes.specs.MarginEdges.{Part, point, gap, IsPartLine}
 use Rattle.report.specs.Report.{nodes_for}
 use Rattle.workbench.specs.InputFaults.{stream_limits}
 use Rattle.trace_stream.specs.CaseReader.{IsWhole}
+use Rattle.promises.specs.SureRows.{AreByRow}
 
 -- the lines of the parts in order
 abbrev pub ArePartLines : Scale → List Part → List ℕ → Type 0
@@ -33,12 +34,9 @@ pub record AreSureMargins (p : Subformula) (header : Header) (rows : List Row) (
   pub lines : ArePartLines header.scale parts text
   pub told : (tr : Trace) → IsTrace tr → Continues tr header rows ended → AreTrueParts p tr parts
 
--- row by row, each by the rows up to its own; `rows` came before
+-- row by row
 abbrev pub AreSureMarginsByRow : Subformula → Header → List Row → List Row → List ℕ → Type 0
-AreSureMarginsByRow p header rows [] text = text ≡ []
-AreSureMarginsByRow p header rows (r ∷ more) text =
-    (here later : List ℕ) × AreSureMargins p header (rows ++ r ∷ []) false here
-    × AreSureMarginsByRow p header (rows ++ r ∷ []) more later × (text ≡ here ++ later)
+AreSureMarginsByRow p header rows more text = AreByRow (AreSureMargins p header) rows more text
 
 -- so with the lines at the end
 pub record AreSureMarginsToEnd (p : Subformula) (header : Header) (rows : List Row) (text : List ℕ) : Type 0 where

@@ -3,7 +3,6 @@ use Rattle.std.proofs.Common.{◌≡◌, ℕ, Bool, List, [], ◌∷◌, ◌++�
 use Rattle.std.specs.Prelude.{Some, slice_get}
 use Rattle.std.proofs.lemmas.Option.{same_Some}
 use Rattle.serde_json.specs.Data.{Data}
-use Rattle.serde_json.specs.Written.{compact_text}
 use Rattle.value_laws.specs.Members.{ShapeOf}
 use Rattle.pl_signal.specs.declared.knot.Knot.{Knot as SignalKnot}
 use Rattle.pl_signal.specs.Plain.{plain_knot, knots_of}
@@ -15,7 +14,7 @@ use Rattle.stl_syntax.specs.declared.scale.Scale.{Scale}
 use Rattle.stl_syntax.specs.declared.items.Item.{Item}
 use Rattle.report.specs.Appended.{AreEach, Then, Is}
 use Rattle.report.specs.ItemLines.{IsOfAtom}
-use Rattle.report.specs.JsonTexts.{IsDataText, IsItemEntry, IsKnotEntry, IsPieceEntry, IsStepEntry, AreMarginEntries}
+use Rattle.report.specs.JsonTexts.{IsItemEntry, IsKnotEntry, IsPieceEntry, IsStepEntry, AreMarginEntries}
 use Rattle.report.specs.JsonTexts.{margins_data, start_data, EndsWithList, IsOpened, IsOpening}
 use Rattle.report.specs.Steps.{Step, steps_of}
 use Rattle.report.proofs.Growths as growth
@@ -35,10 +34,6 @@ pub first_is : {P : Type 0} (shape : ShapeOf P) (ks : List (SignalKnot P)) (k : 
     → (knots_of shape ks).first ≡ plain_knot shape k
 first_is shape [] k h = absurd (let e = h in cc)
 first_is shape (x ∷ ks) k h = let same : x ≡ k = same_Some _ _ h in ap (plain_knot shape) same
-
--- a value has a text behind any bytes
-pub text_of_data : (lead : List ℕ) (P : Data → Type 0) (d : Data) → P d → growth.Some (IsDataText lead P)
-text_of_data lead P d p = (lead ++ compact_text d, (d, p, refl))
 
 -- an object that ends with a list has a text up to it
 pub text_of_opened : (lead : List ℕ) (d : Data) (front : List ℕ) → EndsWithList d front → growth.Some (IsOpened lead d)

@@ -158,7 +158,7 @@ fn head_object(alloc: Global, printed: Value) -> Result<Value, AllocError>
     json!(in alloc; {"formula": printed, "items": []})
 }
 
-/// The same of a formula.
+/// The object of a report on a formula, up to its items, of which it has none yet.
 fn head_value(alloc: Global, formula: &Formula) -> Result<Value, Memory>
     ensures { IfOk result (λ v. IsHeadData formula.now (view v)) }
 {

@@ -102,7 +102,7 @@ impl TimeText {
         self.put_new(buf, at, t, digits)
     }
 
-    /// The same, where it is another time than the one before.
+    /// Puts the text of a time that is another than the one before, and keeps it.
     #[inline(always)]
     pub(crate) fn put_new(&mut self, buf: &mut [u8], at: usize, t: &Frac, digits: u8) -> usize
         requires digits { digits ≤ 6 }

@@ -33,7 +33,7 @@ fn add_closed(buf: &mut [u8], at: usize, holds: bool) -> usize
     }
 }
 
-/// The same, where it has not.
+/// Puts what a line has after its two times, where the span is without its end: a parenthesis, the truth and LF.
 #[inline(always)]
 fn add_open(buf: &mut [u8], at: usize, holds: bool) -> usize
     requires { at + 8 ≤ length buf.old }

@@ -192,7 +192,13 @@ module _ (f : Formula) (all : List Tagged) where
 
   -- before the first session nothing was ended or added
   pub ending_begins : (first : List Session) (before : List ℕ) → Ending first 0 first before before
-  ending_begins first before = record { text = []; ends = refl; added = sym (append-nil before); others = λ j l. refl; over = λ j s l e. absurd (omega (arith, l)) }
+  ending_begins first before = record {
+    text = [];
+    ends = refl;
+    added = sym (append-nil before);
+    others = λ j l. refl;
+    over = λ j s l e. absurd (omega (arith, l));
+  }
 
   tag_at : (ss : List Session) (i : ℕ) (s : Session) → slice_get ss i ≡ Some s → slice_get (tag_list ss) i ≡ Some s.tag
   tag_at [] i s e = absurd (let z : None ≡ Some s = e in cc)

@@ -1,21 +1,20 @@
 -- The first bytes of an input of several sessions: their faults stay, and what was owed for them is a front of what is owed for all.
 use Rattle.std.proofs.Common.{◌≡◌, inl, inr, ℕ, suc, ◌+◌, ◌<◌, ◌≤◌, Bool, true, false, List, []}
 use Rattle.std.proofs.Common.{◌∷◌, ◌++◌, length, refl, sym, ap, ◌∙◌, subst, arith, append-nil, append_assoc}
-use Rattle.std.specs.Prelude.{All, MatchBool}
+use Rattle.std.specs.Prelude.{MatchBool}
 use Rattle.std.proofs.lemmas.Bool.{false≢true}
-use Rattle.std.proofs.lemmas.List.Elements.{All-head, All-tail}
 use Rattle.stl_syntax.specs.Characters.{is_among}
 use Rattle.stl_syntax.specs.Formula.{Formula}
 use Rattle.trace_reader.specs.TraceText.{Line, lines, is_blank_line}
 use Rattle.trace_reader.specs.Feeds.{HasNoFeed, IsOpenLine}
-use Rattle.trace_reader.proofs.LineLemmas.{IsDone, rest, lines-rest}
-use Rattle.trace_reader.proofs.OpenLines.{Parts, parts, lines-now, open_line, grows}
+use Rattle.trace_reader.proofs.LineLemmas.{rest, lines-rest}
+use Rattle.trace_reader.proofs.OpenLines.{parts, lines-now, open_line, grows}
 use Rattle.trace_stream.proofs.FaultPlaces.{at_true, at_false, to_true, to_false}
 use Rattle.session_mux.specs.Sessions.{Tagged, AreTagged, AreAnswers}
 use Rattle.session_mux.specs.Inputs.{InputFault, FaultOfInput, sound, OwesLines}
-use Rattle.session_mux.specs.Taking.{ArePassed, IsTaking}
+use Rattle.session_mux.specs.Taking.{IsTaking}
 use Rattle.session_mux.specs.declared.input.Input.{Input}
-use Rattle.session_mux.proofs.LinesPass.{Later, WithTag, InLine, fault_sized, past_fault, tagged_open, Passed, passed_front}
+use Rattle.session_mux.proofs.LinesPass.{Later, WithTag, InLine, fault_sized, past_fault, tagged_open}
 
 -- ---- faults of first lines
 
@@ -95,20 +94,6 @@ answers_split f seen (x ∷ first) later text (here, beyond, is, on, e) =
     let (short, more, are, k) = answers_split f (seen ++ x ∷ []) first later beyond on in
     (here ++ short, more, (here, short, is, are, refl), e ∙ ap (λ t. here ++ t) k ∙ sym (append_assoc here short more))
 
--- lines that have ended, and are the first of some, are the first of those of them that have ended
-done_first : (first later front : List Line) (part : List ℕ) → All IsDone first → first ++ later ≡ front ++ rest false part
-    → (others : List Line) × (front ≡ first ++ others)
-done_first [] later front part all e = (front, refl)
-done_first (l ∷ first) later [] [] all e = absurd cc
-done_first (l ∷ first) later [] (c ∷ cs) all e =
-    let last : Line = record { bytes = c ∷ cs; whole = false } in
-    let same : l ≡ last = cc in
-    absurd (false≢true (sym (ap (λ (z : Line). z.whole) same) ∙ All-head IsDone l first all))
-done_first (l ∷ first) later (m ∷ front) part all e =
-    let same : l ≡ m = cc in
-    let (others, k) = done_first first later front part (All-tail IsDone l first all) (let r : first ++ later ≡ front ++ rest false part = cc in r) in
-    (others, ap (λ ls. m ∷ ls) k ∙ ap (λ z. z ∷ (first ++ others)) (sym same))
-
 -- ---- what an input took
 
 module _ (f : Formula) (i : Input) (bytes written : List ℕ) (k : IsTaking f i bytes written) where
@@ -147,36 +132,3 @@ module _ (f : Formula) (i : Input) (bytes written : List ℕ) (k : IsTaking f i 
       let few = k.few in
       let short = k.short in
       omega (arith, small, few, short)
-
-  -- what was owed for the first of them is a front of the text
-  module _ (front back : List ℕ) (e : bytes ≡ front ++ back) where
-    of_passed : (line : List ℕ) → (p : Parts front line) → (others : List Line) → k.front ≡ p.front ++ others
-        → Passed 1 [] k.taken.after p.front others k.taken.tagged
-        → (short more : List ℕ) × OwesLines f front false short × (written ++ i.text ≡ short ++ more)
-    of_passed line p others same q =
-        let (short, more, are, parts_are) =
-        answers_split f [] q.first q.later (written ++ i.text) (subst (λ ts. AreAnswers f [] ts (written ++ i.text)) q.parts k.taken.said) in
-        let quiet : (x : InputFault) → ¬ FaultOfInput 1 [] (lines false front) x =
-        λ x g. no_fault_so_far x (subst (λ b. FaultOfInput 1 [] (lines false b) x) (sym e) (input_fault_stays front back false x g)) in (
-          short,
-          more,
-          record {
-            tagged = q.first;
-            whole = false;
-            before = sound quiet (subst (λ ls. AreTagged ls q.first) (sym (lines-now front line p false)) (tagged_open p.front line q.first q.before));
-            is = are;
-          },
-          parts_are,
-        )
-
-    by_open : ((line : List ℕ) × IsOpenLine front line) → (short more : List ℕ) × OwesLines f front false short × (written ++ i.text ≡ short ++ more)
-    by_open (line, o) =
-        let p = parts o in
-        let all : p.front ++ lines false (line ++ back) ≡ k.front ++ rest false i.part = sym (p.joins false back) ∙ ap (lines false) (sym e) ∙ lines_so_far in
-        let (others, same) = done_first p.front (lines false (line ++ back)) k.front i.part p.whole all in
-        of_passed line p others same
-        (passed_front 1 [] k.taken.after p.front others (subst (λ ls. ArePassed 1 [] ls k.taken.tagged k.taken.after) same k.taken.passed))
-
-    -- what was written for the lines before is owed for them, and what was made of the piece begins with the rest of it
-    pub front_lines_owed : (short more : List ℕ) × OwesLines f front false short × (written ++ i.text ≡ short ++ more)
-    front_lines_owed = by_open (open_line front)

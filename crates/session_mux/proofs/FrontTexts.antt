@@ -1,34 +1,39 @@
 -- What a session writes for first bytes whose last line has ended, where it writes a text for more bytes.
-use Rattle.std.proofs.Common.{◌≡◌, ◌⊎◌, inl, inr, ℕ, suc, ◌+◌, ◌-◌, ◌<◌, ◌≤◌, Bool, true, false}
-use Rattle.std.proofs.Common.{List, [], ◌∷◌, ◌++◌, length, take, refl, sym, ap, ◌∙◌, subst, arith, append-nil, append_assoc, Option, Some, None}
+use Rattle.std.proofs.Common.{◌≡◌, ◌⊎◌, inl, inr, ℕ, ◌-◌, ◌<◌, ◌≤◌, Bool, false}
+use Rattle.std.proofs.Common.{List, [], ◌∷◌, ◌++◌, length, take, refl, sym, ap, ◌∙◌, subst, arith, append-nil, append_assoc, Option, Some, None, ℤ}
 use Rattle.std.specs.Prelude.{All}
 use Rattle.std.proofs.lemmas.Bool.{false≢true, cases_lt}
 use Rattle.std.proofs.lemmas.List.{take-append-le}
 use Rattle.std.proofs.lemmas.List.Elements.{All-head, All-tail}
-use Rattle.stl_syntax.specs.Formula.{Formula, root}
+use Rattle.stl_syntax.specs.Formula.{Formula, Subformula, root}
 use Rattle.stl_syntax.specs.Scaling.{scaled}
-use Rattle.stl_syntax.specs.Stream.{IsNewText, IsRowsText, IsStreamText}
+use Rattle.stl_syntax.specs.Stream.{NewText, IsNewText, IsRowsText}
 use Rattle.stl_syntax.specs.Trace.{Header, Row}
 use Rattle.stl_syntax.specs.declared.scale.Scale.{Scale}
 use Rattle.trace_reader.specs.TraceText.{Line, lines, Heading, AreRowLines, none as no_lines, blank, row, AreTraceLines, heading, scale_of}
 use Rattle.trace_reader.specs.InputFaults.{Fault, line_of, stream_limits, IsHeaderAt, here as at_first, later as at_later}
 use Rattle.trace_reader.specs.InputFaults.{IsInputFault, AreRowsBefore, sound, no_header_yet, faulted, faulted_header}
-use Rattle.trace_reader.specs.Reader.{header_of}
 use Rattle.trace_reader.proofs.LineLemmas.{IsDone}
 use Rattle.trace_reader.proofs.OpenLines.{Parts}
-use Rattle.report.specs.FaultTexts.{fault_text}
 use Rattle.report.proofs.StreamTexts.{IsLonger}
 use Rattle.trace_stream.specs.Streams.{verdicts}
 use Rattle.trace_stream.proofs.HeaderLines.{header_stays}
 use Rattle.trace_stream.proofs.OneFault.{one_fault}
 use Rattle.trace_stream.proofs.OwedRows.{stream_owed_grows}
 use Rattle.trace_stream.proofs.RowsBefore.{RowLine, goes_on, is_blank, is_row, row_line, TraceLine, is_heading, trace_line, fault_stays}
-use Rattle.trace_stream.proofs.FrontTexts.{rows_text_front}
 use Rattle.session_mux.specs.Sessions.{IsRowsStream, IsFaultLine, Alone}
 use Rattle.session_mux.proofs.FrontFaults.{lines_first, lines_all, fault_in_front, fault_early}
 use Rattle.session_mux.proofs.OwedLines.{take_past}
 use Rattle.session_mux.proofs.SessionsSaid.{stream_of, text_alone_once}
 use Rattle.session_mux.proofs.TextLemmas.{alone_stays}
+
+-- rows have a text where they and more rows have one
+rows_text_front : (New : NewText) (p : Subformula) (header : Header) (before : List Row) (old : Option ℤ) (rows beyond : List Row)
+    (text : List ℕ) → IsRowsText New p header before old (rows ++ beyond) text
+    → (short : List ℕ) × IsRowsText New p header before old rows short
+rows_text_front New p header before old [] beyond text t = ([], refl)
+rows_text_front New p header before old (r ∷ rows) beyond text (here, later, new, more, is) =
+    let (short, k) = rows_text_front New p header (before ++ r ∷ []) _ rows beyond later more in (here ++ short, (here, short, new, k, refl))
 
 -- ---- the rows of first lines
 

@@ -27,8 +27,8 @@ use Rattle.session_mux.specs.declared.stop.LineKind.TheVariants as kind
 use Rattle.session_mux.specs.declared.stop.InputStop.{InputStop}
 use Rattle.session_mux.specs.declared.stop.InputStop.TheVariants.{Fault as Faulty, NoMemory}
 use Rattle.session_mux.specs.declared.input.Input.{Input}
-use Rattle.session_mux.specs.declared.mux.Phase.TheVariants.{Ended}
-use Rattle.session_mux.proofs.LinesPass.{many_fault, long_fault, tag_fault, room_fault, fault_past, past_fault, passed_tagged, passed_on, known_tag, known_count}
+use Rattle.session_mux.proofs.LinesPass.{many_fault, long_fault, tag_fault, room_fault, fault_past, past_fault, passed_tagged}
+use Rattle.session_mux.proofs.LinesPass.{passed_on, known_tag, known_count}
 
 -- ---- the answers so far
 
@@ -130,25 +130,6 @@ module _ (f : Formula) (i : Input) (bytes written part : List ℕ) (k : IsTaking
       unsized_there l ls ((bytes ++ part) ++ more) ended k.taken (length i.part + length part) e (omega (arith, fits, size))
       (joined ended more ∙ ap (λ ls. k.front ++ ls) is) (subst (λ n. IsUnsized n (length i.part + length part) e) number u)
 
-  -- they were added
-  pub part_added : (new : Input) → new ≡ record i { part = i.part ++ part } → IsSized (i.whole + 1) (length i.part + length part)
-      → IsTaking f new (bytes ++ part) written
-  part_added new e (few, short) = subst (λ (j : Input). IsTaking f j (bytes ++ part) written) (sym e) (record {
-    front = k.front;
-    free = both_free;
-    joins = joined;
-    count = k.count;
-    few = k.few;
-    part_few = λ some. omega (arith, few);
-    short = omega (arith, short, length-append i.part part);
-    small = (let a = k.small in omega (arith, a, length-append i.part part, length-append bytes part));
-    taken = k.taken;
-  })
-
--- no bytes change nothing
-pub part_none : (f : Formula) (i : Input) (bytes written part : List ℕ) → IsTaking f i bytes written → part ≡ [] → IsTaking f i (bytes ++ part) written
-part_none f i bytes written part k e = subst (λ b. IsTaking f i b written) (sym (ap (λ p. bytes ++ p) e ∙ append-nil bytes)) k
-
 -- ---- a line that has ended
 
 -- one line more
@@ -207,10 +188,6 @@ one_line {f} {new = new} {front = front} line before after written k sized hande
 module _ (f : Formula) (i : Input) (bytes written : List ℕ) (k : IsTaking f i bytes written) where
   number_is : i.whole + 1 ≡ 1 + length k.front
   number_is = let c = k.count in omega (arith, c)
-
-  -- a line may be handed on, since the sessions stand for the lines before it
-  pub can_hand : (p : Past) × StandsFor p i.mux
-  can_hand = (record { formula = f; seen = k.taken.tagged }, k.taken.stands)
 
   -- it is too long, or one too many
   pub line_unsized : (e : InputStop) → IsUnsized (i.whole + 1) (length i.part) e → IsLineStop f k.front i.part (written ++ i.text) e
@@ -271,14 +248,6 @@ module _ (f : Formula) (i : Input) (bytes written : List ℕ) (k : IsTaking f i 
   some_rest : (part : List ℕ) → (length part ≡ 0 → ⊥) → rest true part ≡ ended_line part ∷ []
   some_rest [] some = absurd (some refl)
   some_rest (c ∷ cs) some = refl
-
-  none_rest : (part : List ℕ) → length part ≡ 0 → rest true part ≡ []
-  none_rest [] e = refl
-  none_rest (c ∷ cs) e = absurd (omega (arith, e))
-
-  -- there is no last line without LF
-  pub last_none : length i.part ≡ 0 → HasLines f i.mux (k.front ++ rest true i.part) (written ++ i.text)
-  last_none e = subst (λ ls. HasLines f i.mux ls (written ++ i.text)) (sym (ap (λ ls. k.front ++ ls) (none_rest i.part e) ∙ append-nil k.front)) k.taken
 
   -- there is one
   pub last_some : (length i.part ≡ 0 → ⊥) → (new : Input) (r : Result (Unit {0}) InputStop)

@@ -1,12 +1,11 @@
 -- Lines without a fault of the input: a fault of lines that follow them is one of all, and the other way round.
 use Rattle.std.proofs.Common.{◌≡◌, ◌⊎◌, inl, inr, ℕ, suc, ◌+◌, ◌<◌, ◌≤◌, Bool, true, false, List, [], ◌∷◌}
 use Rattle.std.proofs.Common.{◌++◌, length, refl, sym, ap, ◌∙◌, subst, arith, add-zero, zero-add, append-nil}
-use Rattle.std.specs.Prelude.{All, IsTrue, MatchBool, ◌||◌, bytes_eq, if◌then◌else◌}
-use Rattle.std.proofs.lemmas.List.Elements.{All-nil, All-cons}
+use Rattle.std.specs.Prelude.{IsTrue, MatchBool, ◌||◌, bytes_eq, if◌then◌else◌}
 use Rattle.std.proofs.Math.Bool.{or-false}
 use Rattle.stl_syntax.specs.Characters.{is_among}
 use Rattle.trace_reader.specs.TraceText.{Line, content, is_blank_line}
-use Rattle.trace_reader.proofs.LineLemmas.{IsDone, rest}
+use Rattle.trace_reader.proofs.LineLemmas.{rest}
 use Rattle.trace_stream.proofs.FaultPlaces.{at_true, at_false, to_true, to_false}
 use Rattle.session_mux.specs.Sessions.{Tagged, IsTagged, AreTagged, none as none_tagged, unfinished, blank as blank_line, next, tags_after}
 use Rattle.session_mux.specs.Inputs.{InputFault, too_many_lines, too_long, bad_tag, too_many_sessions, FaultOfInput}
@@ -152,13 +151,6 @@ past_fault {n} {known} {after} (old_tag {line = line} {more = lines} {x = t} siz
 past_fault {n} {known} {after} (new_tag {line = line} {more = lines} {x = t} sized w b is a room rest) more x f =
     from_next n (length lines) after more x (past_fault rest more x (new_past n known line (lines ++ more) sized b t is a room x f))
 
--- they are whole, with their tags
-pub passed_done : {n : ℕ} {known after : List (List ℕ)} {front : List Line} {tagged : List Tagged} → ArePassed n known front tagged after → All IsDone front
-passed_done none = All-nil IsDone
-passed_done (blank {line = line} {more = lines} sized w b rest) = All-cons IsDone line lines w (passed_done rest)
-passed_done (old_tag {line = line} {more = lines} sized w b is a rest) = All-cons IsDone line lines w (passed_done rest)
-passed_done (new_tag {line = line} {more = lines} sized w b is a room rest) = All-cons IsDone line lines w (passed_done rest)
-
 -- lines without a fault are the lines of their tags
 pub passed_tagged : {n : ℕ} {known after : List (List ℕ)} {front : List Line} {tagged : List Tagged}
     → ArePassed n known front tagged after → AreTagged front tagged
@@ -197,71 +189,6 @@ passed_on {n} {mid = mid} {after = after} {more = more} {later = later} (old_tag
     old_tag sized w b is a (passed_on rest (subst (λ m. ArePassed m mid more later after) (number_next n (length lines)) p))
 passed_on {n} {mid = mid} {after = after} {more = more} {later = later} (new_tag {more = lines} sized w b is a room rest) p =
     new_tag sized w b is a room (passed_on rest (subst (λ m. ArePassed m mid more later after) (number_next n (length lines)) p))
-
--- the first of them, and the others
-pub record Passed (n : ℕ) (known after : List (List ℕ)) (front more : List Line) (tagged : List Tagged) : Type 0 where
-  -- the lines of the first part
-  pub first : List Tagged
-  -- the lines of the second
-  pub later : List Tagged
-  -- the tags after the first part
-  pub mid : List (List ℕ)
-  -- both parts are all lines
-  pub parts : tagged ≡ first ++ later
-  -- the first part is without a fault
-  pub before : ArePassed n known front first mid
-  -- and the second, with the tags of the first
-  pub beyond : ArePassed (n + length front) mid more later after
-
-passed_as : (n : ℕ) (known after : List (List ℕ)) (front more all : List Line) {tagged : List Tagged}
-    → ArePassed n known all tagged after → all ≡ front ++ more → Passed n known after front more tagged
-passed_as n known after [] more all {tagged} p e = record {
-  first = [];
-  later = tagged;
-  mid = known;
-  parts = refl;
-  before = none;
-  beyond = subst (λ m. ArePassed m known more tagged after) (sym (add-zero n)) (subst (λ ls. ArePassed n known ls tagged after) e p);
-}
-passed_as n known after (l ∷ front) more all none e = cc
-passed_as n known after (l ∷ front) more all (blank {line = line} {more = lines} sized w b rest) e =
-    let same : line ≡ l = cc in
-    let k = passed_as (suc n) known after front more lines rest (let r : lines ≡ front ++ more = cc in r) in
-    record {
-      first = k.first;
-      later = k.later;
-      mid = k.mid;
-      parts = k.parts;
-      before = subst (λ (z : Line). ArePassed n known (z ∷ front) k.first k.mid) same (blank sized w b k.before);
-      beyond = subst (λ m. ArePassed m k.mid more k.later after) (sym (number_next n (length front))) k.beyond;
-    }
-passed_as n known after (l ∷ front) more all (old_tag {line = line} {more = lines} {x = x} sized w b is a rest) e =
-    let same : line ≡ l = cc in
-    let k = passed_as (suc n) known after front more lines rest (let r : lines ≡ front ++ more = cc in r) in
-    record {
-      first = x ∷ k.first;
-      later = k.later;
-      mid = k.mid;
-      parts = ap (λ ts. x ∷ ts) k.parts;
-      before = subst (λ (z : Line). ArePassed n known (z ∷ front) (x ∷ k.first) k.mid) same (old_tag sized w b is a k.before);
-      beyond = subst (λ m. ArePassed m k.mid more k.later after) (sym (number_next n (length front))) k.beyond;
-    }
-passed_as n known after (l ∷ front) more all (new_tag {line = line} {more = lines} {x = x} sized w b is a room rest) e =
-    let same : line ≡ l = cc in
-    let k = passed_as (suc n) (x.tag ∷ known) after front more lines rest (let r : lines ≡ front ++ more = cc in r) in
-    record {
-      first = x ∷ k.first;
-      later = k.later;
-      mid = k.mid;
-      parts = ap (λ ts. x ∷ ts) k.parts;
-      before = subst (λ (z : Line). ArePassed n known (z ∷ front) (x ∷ k.first) k.mid) same (new_tag sized w b is a room k.before);
-      beyond = subst (λ m. ArePassed m k.mid more k.later after) (sym (number_next n (length front))) k.beyond;
-    }
-
--- the front of lines without a fault is without one, and so is what follows
-pub passed_front : (n : ℕ) (known after : List (List ℕ)) (front more : List Line) {tagged : List Tagged}
-    → ArePassed n known (front ++ more) tagged after → Passed n known after front more tagged
-passed_front n known after front more p = passed_as n known after front more (front ++ more) p refl
 
 -- ---- the tags that are known
 

@@ -17,15 +17,6 @@ kept_again n xs ys =
     ∙ drop-drop (length (drop k (xs ++ ys)) - n) k (xs ++ ys)
     ∙ ap (λ m. drop m (xs ++ ys)) (omega (arith, length-drop k (xs ++ ys), length-append xs ys))
 
--- with room for one more
-pub kept_with_room : {X : Type 0} (n : ℕ) (xs : List X) (x : X) → keep_last (suc n) (keep_last n xs ++ x ∷ []) ≡ keep_last (suc n) (xs ++ x ∷ [])
-kept_with_room n xs x =
-    let k : ℕ = length xs - n in
-    let front : drop k xs ++ x ∷ [] ≡ drop k (xs ++ x ∷ []) = sym (drop-append-le k xs (x ∷ []) (omega arith)) in
-    ap (λ zs. drop (length zs - suc n) zs) front
-    ∙ drop-drop (length (drop k (xs ++ x ∷ [])) - suc n) k (xs ++ x ∷ [])
-    ∙ ap (λ m. drop m (xs ++ x ∷ [])) (omega (arith, length-drop k (xs ++ x ∷ []), length-append xs (x ∷ [])))
-
 -- lines, each after a prefix, by their bytes
 pub prefixed_by_bytes : (prefix : List ℕ) (all : List Line) → prefixed_texts prefix (map (λ (line : Line). line.bytes) all) ≡ prefixed prefix all
 prefixed_by_bytes prefix [] = refl

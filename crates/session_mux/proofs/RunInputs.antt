@@ -2,7 +2,7 @@
 use Rattle.std.proofs.Common.{◌≡◌, inl, inr, refl, sym, ap, subst, ◌∙◌, ℕ, suc, ◌+◌, ◌-◌, ◌*◌, ◌<◌, ◌≤◌, Bool, true, false}
 use Rattle.std.proofs.Common.{List, [], ◌∷◌, ◌++◌, append_assoc, append-nil, length, take, drop}
 use Rattle.std.proofs.Common.{arith, length-append, take-append-drop, take-add, length-drop, get_or}
-use Rattle.std.specs.Prelude.{All, bytes_eq, ◌&&◌, ◌||◌, ◌==◌, map, Ok, Err}
+use Rattle.std.specs.Prelude.{All, ◌&&◌, ◌||◌, ◌==◌, map, Ok, Err}
 use Rattle.std.proofs.lemmas.Bool.{false≢true, eqb-true, and_parts}
 use Rattle.std.proofs.lemmas.Grind.{flat_map-append}
 use Rattle.std.proofs.lemmas.List.{drop_more, length-take-le, length_push}
@@ -20,17 +20,16 @@ use Rattle.trace_reader.proofs.FeedLemmas.{at-free, at-taken}
 use Rattle.trace_reader.proofs.LineLemmas.{lines-append, lines-line}
 use Rattle.trace_stream.proofs.FaultPlaces.{at_false}
 use Rattle.session_mux.specs.Sessions.{Tagged, IsTag, tag, IsTagged, followed, is_tag_byte, AreAnswers}
-use Rattle.session_mux.specs.Owning.{Own, own_of, asks, stops}
+use Rattle.session_mux.specs.Owning.{Own, asks, stops}
 use Rattle.session_mux.specs.Standing.{HasSaidSoFar}
-use Rattle.session_mux.specs.Knowing.{Register, EachHasSaid, Knows, IsRoomFor, tags_of}
-use Rattle.session_mux.specs.Muxes.{Muxed, Past, with_line, StandsFor, HasTaken, IsLineCall, IsTakenLine}
+use Rattle.session_mux.specs.Knowing.{EachHasSaid, IsRoomFor, tags_of}
+use Rattle.session_mux.specs.Muxes.{Muxed, Past, StandsFor, HasTaken, IsLineCall, IsTakenLine}
 use Rattle.session_mux.specs.Taking.{ended_line, IsSized, ArePassed, none, old_tag, new_tag, HasLines, IsTaking, IsInputStop, IsRefusedBy}
 use Rattle.session_mux.specs.Running.{RunLine, IsRunLine, bytes_of, contents_of, tagged_of, IsOwnLine, HasGathered, IsRunRefused}
 use Rattle.session_mux.specs.declared.fault.MuxFault.TheVariants as fault
 use Rattle.session_mux.specs.declared.session.Session.{Session}
 use Rattle.session_mux.specs.declared.stop.InputStop.{InputStop}
 use Rattle.session_mux.specs.declared.stop.InputStop.TheVariants.{Fault as Faulty, NoMemory}
-use Rattle.session_mux.specs.declared.stop.LineFault.{LineFault}
 use Rattle.session_mux.specs.declared.stop.LineKind.{LineKind}
 use Rattle.session_mux.specs.declared.stop.LineKind.TheVariants as kind
 use Rattle.session_mux.specs.declared.input.Input.{Input}

@@ -1,22 +1,20 @@
 -- Lines of one session that follow one another, as one content: what the session has got by them, and their answers.
-use Rattle.std.proofs.Common.{◌≡◌, ◌≢◌, inl, inr, refl, sym, ap, subst, ◌∙◌, ℕ, Bool, true, false, cond}
+use Rattle.std.proofs.Common.{◌≡◌, ◌≢◌, refl, sym, ap, subst, ◌∙◌, ℕ, Bool, true, false, cond}
 use Rattle.std.proofs.Common.{List, [], ◌∷◌, ◌++◌, append_assoc, append-nil, length, length-append, arith}
 use Rattle.std.specs.Prelude.{All, bytes_eq, codes, ◌||◌, if◌then◌else◌}
-use Rattle.std.proofs.lemmas.Bool.{false≢true}
 use Rattle.std.proofs.lemmas.List.{append_cancel_left, append_cancel_right}
 use Rattle.std.proofs.lemmas.List.Elements.{All-head, All-tail, All-nil}
 use Rattle.std.proofs.lemmas.Slice.Eq.{bytes_eq-Decides}
 use Rattle.stl_syntax.specs.Characters.{is_among}
 use Rattle.stl_syntax.specs.Formula.{Formula}
 use Rattle.stl_syntax.specs.Texts.{newline}
-use Rattle.trace_reader.specs.Feeds.{IsOpenLine, later}
-use Rattle.trace_reader.specs.TraceText.{lines}
+use Rattle.trace_reader.specs.Feeds.{later}
 use Rattle.trace_reader.proofs.LineLemmas.{lines-nil}
 use Rattle.trace_reader.proofs.OpenLines.{Parts, parts}
 use Rattle.trace_stream.proofs.FaultPlaces.{at_false, to_false}
 use Rattle.session_mux.specs.Sessions.{Tagged, IsAnswer, AreAnswers, Alone, SoFar, prefixed, is_query, own, is_stopped}
 use Rattle.session_mux.specs.Saying.{said_lines}
-use Rattle.session_mux.specs.Owning.{Own, own_of, asks, stops, next_line, with_content}
+use Rattle.session_mux.specs.Owning.{Own, own_of, asks, stops}
 use Rattle.session_mux.specs.Knowing.{tags_of}
 use Rattle.session_mux.specs.Running.{RunLine, IsRunLine, contents_of, tagged_of}
 use Rattle.session_mux.proofs.FrontTexts.{alone_front, alone_grows}

@@ -1,7 +1,6 @@
 -- Tags as numbers: each tag has one of its own, which is not 0.
 use Rattle.std.proofs.Common.{◌≡◌, get_or, drop, length-drop, refl, sym, ap, subst, ◌∙◌, ℕ, zero, suc, ◌+◌, ◌-◌, ◌*◌, ◌^◌, ◌⊎◌}
-use Rattle.std.proofs.Common.{inl, inr, ◌++◌, take, append-nil, ◌≢◌, ◌<◌, ◌≤◌, Bool, true, false, List, [], ◌∷◌, length, arith}
-use Rattle.std.specs.Prelude.{◌||◌}
+use Rattle.std.proofs.Common.{inl, inr, ◌++◌, take, append-nil, ◌≢◌, ◌<◌, ◌≤◌, true, List, [], ◌∷◌, length, arith}
 use Rattle.std.proofs.lemmas.Bool.{false≢true, and_parts}
 use Rattle.std.proofs.lemmas.Bool.Decides.{nat_tests}
 use Rattle.std.proofs.lemmas.List.{drop_more, drop_all, take_all, take-append-drop, length-take-le}
@@ -10,10 +9,6 @@ use Rattle.std.proofs.Math.Nat.{pow-suc}
 use Rattle.stl_syntax.specs.Characters.{all, StopsAt}
 use Rattle.session_mux.specs.Sessions.{Tagged, is_tag_byte, IsTag, tag, IsTagged, alone, followed}
 use Rattle.session_mux.specs.Tags.{number_of}
-
-either : (a b : Bool) → (a || b) ≡ true → (P : Type 0) → (a ≡ true → P) → (b ≡ true → P) → P
-either true b e P f g = f refl
-either false b e P f g = g e
 
 -- a byte of a tag is none of 0, and below 256
 pub tag_byte : (c : ℕ) → is_tag_byte c ≡ true → (0 < c) × (c < 256)
@@ -36,12 +31,6 @@ number_once (c ∷ xs) (d ∷ ys) h k e =
     let same : c ≡ d = omega (arith, e, c_in.1, d_in.1) in
     let rest : number_of xs ≡ number_of ys = omega (arith, e, c_in.1, d_in.1) in
     ap (λ z. z ∷ xs) same ∙ ap (λ zs. d ∷ zs) (number_once xs ys here.1 there.1 rest)
-
--- it is not 0
-pub number_some : (t : List ℕ) → IsTag t → 0 < number_of t
-number_some t (tag {c = c} {rest = rest} bytes short) =
-    let c_in = tag_byte c (and_parts (is_tag_byte c) (all is_tag_byte rest) bytes).0 in
-    omega (arith, c_in.0)
 
 -- a tag's bytes, and how many they are
 pub bytes_of : (t : List ℕ) → IsTag t → all is_tag_byte t ≡ true

@@ -1,8 +1,8 @@
 -- A line has at most one tag and content.
-use Rattle.std.proofs.Common.{◌≡◌, ℕ, true, false, List, [], ◌∷◌, ◌++◌, refl, sym, ap, ◌∙◌, subst}
+use Rattle.std.proofs.Common.{◌≡◌, ℕ, true, List, [], ◌∷◌, ◌++◌, refl, sym, ap, ◌∙◌, subst}
 use Rattle.std.proofs.lemmas.Bool.{false≢true, and_parts}
 use Rattle.stl_syntax.specs.Characters.{all}
-use Rattle.session_mux.specs.Sessions.{Tagged, is_tag_byte, tag, IsTagged, alone, followed}
+use Rattle.session_mux.specs.Sessions.{Tagged, is_tag_byte, IsTagged, alone, followed}
 use Rattle.session_mux.proofs.TagLemmas.{bytes_of}
 
 -- a text by its tag: alone, or followed by a space and the content

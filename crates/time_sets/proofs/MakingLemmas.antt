@@ -4,7 +4,8 @@ use Rattle.std.specs.Prelude.{cond, IsTrue, IfOk, MatchOption, ◌↔◌}
 use Rattle.std.proofs.lemmas.Bool.{false≢true}
 use Rattle.rational.specs.Time.{Rational}
 use Rattle.rational.specs.Places.{Place, Before, After, Upto, AtMost}
-use Rattle.rational.proofs.PlaceLemmas.{sides, not_both, place_order, upto_of_before, after_of_before, after_same, after_at_most, before_at_most, before_through, before_trans}
+use Rattle.rational.proofs.PlaceLemmas.{sides, not_both, place_order, upto_of_before, after_of_before, after_same, after_at_most}
+use Rattle.rational.proofs.PlaceLemmas.{before_at_most, before_through, before_trans}
 use Rattle.time_sets.specs.Turns.{place}
 use Rattle.time_sets.specs.Sets.{has, turned, EndBefore}
 use Rattle.time_sets.specs.Windows.{Lies}
@@ -14,9 +15,11 @@ use Rattle.time_sets.specs.declared.times.Times.{Times}
 use Rattle.time_sets.specs.declared.domain.Domain.{Domain}
 use Rattle.time_sets.proofs.SetLemmas.{behind_after, behind_upto, end_later}
 
+-- up to the place the truth is what it was, and behind it the other one
 pub at_upto : (e : Turn) (t : Rational) (h : Bool) → Upto (place e) t → turned_at e t h ≡ h
 at_upto e t h u = ap (λ x. cond x (not h) h) (behind_upto (place e) t u)
 
+-- behind it
 pub at_after : (e : Turn) (t : Rational) (h : Bool) → After (place e) t → turned_at e t h ≡ not h
 at_after e t h a = ap (λ x. cond x (not h) h) (behind_after (place e) t a)
 
@@ -76,6 +79,7 @@ longer P h l b e m t touches one first second on is = elim (sides (place m) t) [
     within (inl s) k a = absurd (not_both (place l) t (subst (λ p. Upto (place p) t) s k) a)
     within (inr s) k a = subst (λ p. Upto (place p) t) s k
 
+-- what follows from what an answer says, where there is one
 pub if_ok_then : {T E : Type 0} (r : Result T E) (A B : T → Type 0) → IfOk r A → ((x : T) → A x → B x) → IfOk r B
 if_ok_then (Ok x) A B h f = f x h
 if_ok_then (Err e) A B h f = tt
@@ -133,6 +137,7 @@ module _ (on : Domain) (b e : Turn) where
   can_end s last l is grown = subst (λ o. Grown on o s → CanTurn on l s) (sym is)
       (λ g. record { rise = g.rise; begins = g.begins; ends = g.ends; last = g.before }) grown
 
+  -- where it begins, the set can turn once the last stretch was ended
   pub can_begin : (s m : Times) (last : Option Turn) (l : Turn) → last ≡ Some l → Grown on last s → Before (place l) (place b) → Turns on l s m → CanTurn on b m
   can_begin s m last l is grown apart turns = subst (λ o. Grown on o s → CanTurn on b m) (sym is) (λ g. record {
     rise = turns.rise;
@@ -158,7 +163,8 @@ module _ (on : Domain) (b e : Turn) where
           before = second.last (place e) (first.last (place e) (end_later (place l) (place e) s.turns.items can.grown.before far) far) order;
         };
         goes_on = λ t i a. second.times t i ∙ at_after b t (has m t) a ∙ ap not (off t i a);
-        tells = λ t i. subst (λ x. IsTrue (turned_at e t x) ↔ (IsTrue (turned_at l t (has s t)) ⊎ (After (place b) t × Upto (place e) t))) (sym (second.times t i))
+        tells = λ t i.
+            subst (λ x. IsTrue (turned_at e t x) ↔ (IsTrue (turned_at l t (has s t)) ⊎ (After (place b) t × Upto (place e) t))) (sym (second.times t i))
             (fresh (IsTrue (turned_at l t (has s t))) (has m t) b e t order (off t i) ((λ v. sym (first.times t i) ∙ v), (λ v. first.times t i ∙ v)));
       }) can
 
@@ -178,6 +184,7 @@ module _ (on : Domain) (b e : Turn) where
         tells = λ t i. longer (IsTrue (turned_at l t (has s t))) (has s t) l b e m t touches one first second (can.goes_on t i) ((λ v. v), (λ v. v));
       }) can
 
+-- a last stretch is ended by a turn at its end; with none there is nothing to end
 pub ends_some : (on : Domain) (last : Option Turn) (l : Turn) (s s' : Times) → last ≡ Some l → Turns on l s s' → Ends on last s s'
 ends_some on last l s s' is turns = subst (λ o. Ends on o s s') (sym is) (record {
   rise = turns.rise;
@@ -186,5 +193,6 @@ ends_some on last l s s' is turns = subst (λ o. Ends on o s s') (sym is) (recor
   times = turns.times;
 })
 
+-- with no last stretch
 pub ends_none : (on : Domain) (last : Option Turn) (s : Times) → last ≡ None → Grown on last s → Ends on last s s
 ends_none on last s is can = subst (λ o. Ends on o s s) (sym is) (record { rise = can.rise; begins = can.begins; ends = can.ends; times = λ t l. refl })

@@ -1,5 +1,6 @@
 -- The stretches of a set in a domain.
-use Rattle.std.proofs.Common.{◌≡◌, inl, inr, ℕ, zero, suc, ◌+◌, ◌<◌, ◌≤◌, ◌^◌, Bool, true, false, not, List, [], ◌∷◌, drop, length, get_or, refl, sym, ap, ◌∙◌, subst, arith}
+use Rattle.std.proofs.Common.{◌≡◌, inl, inr, ℕ, zero, suc, ◌+◌, ◌<◌, ◌≤◌, ◌^◌, Bool, true, false, not}
+use Rattle.std.proofs.Common.{List, [], ◌∷◌, drop, length, get_or, refl, sym, ap, ◌∙◌, subst, arith}
 use Rattle.std.specs.Prelude.{IsTrue}
 use Rattle.std.proofs.lemmas.Bool.{false≢true}
 use Rattle.rational.specs.Time.{Rational, ◌≤ʳ◌}
@@ -41,7 +42,10 @@ module _ (on : Domain) (f : Turn) (now : Rational → Bool) (is : IsDomain on) (
   first_part [] rise begins ends inside order same = record {
     inside = record { order = order; within = λ t a u. (from t a, u); near_from = near; near_to = is.near_to };
     splits = λ t l. elim (sides (place f) t) [
-      | inl u ↦ ((λ h. absurd (not_true (now t) (early t l u) h)), (λ x. elim x [ inl y ↦ absurd (not_both (place f) t u y.0) | inr y ↦ absurd (false≢true y) ]))
+      | inl u ↦ (
+        (λ h. absurd (not_true (now t) (early t l u) h)),
+        (λ x. elim x [ inl y ↦ absurd (not_both (place f) t u y.0) | inr y ↦ absurd (false≢true y) ]),
+      )
       | inr a ↦ ((λ h. inl (a, l.1)), (λ x. same t a))
     ];
     behind = λ t l h. absurd (false≢true h);
@@ -83,7 +87,10 @@ module _ (on : Domain) (f : Turn) (now : Rational → Bool) (is : IsDomain on) (
       gap (g ∷ qs) b t u k h same = let m = between (place e) (place g) b in (
         m.0,
         le_through (place e) t m.0 k m.1,
-        le_through (place g) m.0 u m.2 (elim (sides (place g) u) [ inl x ↦ absurd (not_true (turned false (g ∷ qs) u) (turned_upto false g qs u x) h) | inr a ↦ a ]),
+        le_through (place g) m.0 u m.2 (elim (sides (place g) u) [
+          | inl x ↦ absurd (not_true (turned false (g ∷ qs) u) (turned_upto false g qs u x) h)
+          | inr a ↦ a
+        ]),
         same m.0 m.1 ∙ turned_after true e (g ∷ qs) m.0 m.1 ∙ turned_upto false g qs m.0 m.2,
       )
 

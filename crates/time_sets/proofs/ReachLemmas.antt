@@ -5,7 +5,8 @@ use Rattle.std.proofs.lemmas.Bool.{false≢true}
 use Rattle.rational.specs.Time.{Rational, ◌≤ʳ◌, Within}
 use Rattle.rational.specs.Places.{Place, Before, Same, After, Upto, AtMost, moved_begin}
 use Rattle.rational.proofs.Order.{le_refl, le_or_lt, le_of_lt, le_trans}
-use Rattle.rational.proofs.PlaceLemmas.{not_both, place_order, share, before_through, before_of_at_most, after_at_most, upto_of_before, upto_same, after_same, same_places, upto_earlier, after_later}
+use Rattle.rational.proofs.PlaceLemmas.{not_both, place_order, share, before_through, before_of_at_most, after_at_most, upto_of_before}
+use Rattle.rational.proofs.PlaceLemmas.{upto_same, after_same, same_places, upto_earlier, after_later}
 use Rattle.time_sets.specs.Turns.{place}
 use Rattle.time_sets.specs.Sets.{has}
 use Rattle.time_sets.specs.Windows.{Lies, Sees, Reaches}
@@ -49,20 +50,23 @@ last_between t u = elim (le_or_lt t u) [
 ]
 
 -- what a test has in the domain lies behind where its first stretch begins
-behind_from : (on part : Domain) (now later : Rational → Bool) (t : Rational) → IsPart on part now later → Lies on t → IsTrue (now t) → After (place part.from) t
+behind_from : (on part : Domain) (now later : Rational → Bool) (t : Rational) → IsPart on part now later → Lies on t → IsTrue (now t)
+    → After (place part.from) t
 behind_from on part now later t is l h = elim ((is.splits t l).0 h) [
   | inl y ↦ y.0
   | inr k ↦ after_at_most (place part.from) (place part.to) t (λ v x. upto_of_before (place part.from) (place part.to) v is.inside.order x) (is.behind t l k)
 ]
 
-later_from : (on part : Domain) (now later : Rational → Bool) (t : Rational) → IsPart on part now later → Lies on t → IsTrue (later t) → After (place part.from) t
+later_from : (on part : Domain) (now later : Rational → Bool) (t : Rational) → IsPart on part now later → Lies on t → IsTrue (later t)
+    → After (place part.from) t
 later_from on part now later t is l k =
     after_at_most (place part.from) (place part.to) t (λ v x. upto_of_before (place part.from) (place part.to) v is.inside.order x) (is.behind t l k)
 
 module _ (on run part : Domain) (w : Window) (p p' q q' : Rational → Bool) (is : IsPart on run p p') (is' : IsPart on part q q') where
   -- times between which each is one of the set lie in one run
   one_run : (t u : Rational) → Lies on t → Lies on u → ((v : Rational) → IsBetween t u v → IsTrue (p v))
-      → ((After (place run.from) t × Upto (place run.to) t) × (After (place run.from) u × Upto (place run.to) u)) ⊎ ((v : Rational) → IsBetween t u v → IsTrue (p' v))
+      → ((After (place run.from) t × Upto (place run.to) t) × (After (place run.from) u × Upto (place run.to) u))
+      ⊎ ((v : Rational) → IsBetween t u v → IsTrue (p' v))
   one_run t u l m f = elim ((is.splits t l).0 (f t (first_between t u))) [
     | inl a ↦ elim ((is.splits u m).0 (f u (last_between t u))) [
       | inl b ↦ inl (a, b)
@@ -131,6 +135,7 @@ pub record ReachedSoFar (on : Domain) (w : Window) (a b : Times) (end : Option T
       → Upto (high_place w.high w.high_in t) u → IfSome end (λ e. has made t ≡ true)
   pub tells : (t : Rational) → Lies on t → Reaches on w a b t ↔ (IsTrue (closed end made t) ⊎ ReachesSome on w p q t)
 
+-- before the first stretches nothing is made
 pub reached_first : (on : Domain) (w : Window) (a b made : Times) (p q : Rational → Bool) → made.starts ≡ false → made.turns.items ≡ []
     → ((t : Rational) → has made t ≡ false) → ((t : Rational) → p t ≡ has a t) → ((t : Rational) → q t ≡ has b t) → ReachedSoFar on w a b None made p q
 reached_first on w a b made p q e f off runs parts = record {
@@ -152,7 +157,8 @@ module _ (on run part : Domain) (w : Window) (a b : Times) (end : Option Turn) (
       here : Before (place run.from) (record { at = t; after = true })
       here = before_through (place run.from) (record { at = t; after = true }) t past.after (le_refl t)
 
-      by_order : Before (record { at = t; after = true }) (high_place w.high w.high_in t) ⊎ Same (record { at = t; after = true }) (high_place w.high w.high_in t)
+      by_order : Before (record { at = t; after = true }) (high_place w.high w.high_in t)
+          ⊎ Same (record { at = t; after = true }) (high_place w.high w.high_in t)
           ⊎ Before (high_place w.high w.high_in t) (record { at = t; after = true })
           → (v : Rational) × After (place run.from) v × Upto (place run.to) v × (v ≤ʳ t) × Upto (high_place w.high w.high_in t) v
       by_order (inl b) =
@@ -162,16 +168,19 @@ module _ (on run part : Domain) (w : Window) (a b : Times) (end : Option Turn) (
           let m = share (place run.from) (place run.to) (place run.from) (record { at = t; after = true }) is.inside.order here here is.inside.order in
           (m.0, m.1, m.2, m.4, upto_same (record { at = t; after = true }) (high_place w.high w.high_in t) m.0 s m.4)
       by_order (inr (inr b)) =
-          let m = share (place run.from) (place run.to) (place run.from) (high_place w.high w.high_in t) is.inside.order past.run_begins past.run_begins is.inside.order in
+          let m = share (place run.from) (place run.to) (place run.from) (high_place w.high w.high_in t) is.inside.order past.run_begins past.run_begins
+          is.inside.order in
           (m.0, m.1, m.2, upto_of_before (high_place w.high w.high_in t) (record { at = t; after = true }) m.0 b m.4, m.4)
 
+  -- what the next two stretches make can be added
   pub reached_can : CanAdd on end (IsPast w run part) made
   reached_can = record {
     grown = so.grown;
     goes_on = λ t l past.
         let v = pick t past in
         let i = is.inside.within v.0 v.1 v.2 in
-        let u = share (place part.from) (place part.to) (place part.from) (high_place w.high w.high_in t) is'.inside.order past.part_begins past.part_begins is'.inside.order in
+        let u = share (place part.from) (place part.to) (place part.from) (high_place w.high w.high_in t) is'.inside.order past.part_begins past.part_begins
+        is'.inside.order in
         let j = is'.inside.within u.0 u.1 u.2 in
         so.goes_on t u.0 v.0 l j i ((is'.splits u.0 j).1 (inl (u.1, u.2))) ((is.splits v.0 i).1 (inl (v.1, v.2))) v.3 v.4 u.4;
   }
@@ -184,6 +193,7 @@ module _ (on run part : Domain) (w : Window) (a b : Times) (end : Option Turn) (
     part_begins = before_through (place part.from) (high_place w.high w.high_in t) u x k;
   }
 
+  -- and was, and the run is done with
   pub reached_run : (end' : Option Turn) (made' : Times) → Adds on end end' (IsPast w run part) (Meets w run part) made made'
       → Before (place run.to) (place part.to) → ReachedSoFar on w a b end' made' p' q
   reached_run end' made' adds before = record {
@@ -192,6 +202,7 @@ module _ (on run part : Domain) (w : Window) (a b : Times) (end : Option Turn) (
     tells = λ t l. regroup _ _ _ _ _ _ (so.tells t l) (run_done on run part w p p' q q' is is' t l before) (adds.tells t l);
   }
 
+  -- and was, and the part is done with
   pub reached_part : (end' : Option Turn) (made' : Times) → Adds on end end' (IsPast w run part) (Meets w run part) made made'
       → ¬ (Before (place run.to) (place part.to)) → ReachedSoFar on w a b end' made' p q'
   reached_part end' made' adds past = record {
@@ -200,6 +211,7 @@ module _ (on run part : Domain) (w : Window) (a b : Times) (end : Option Turn) (
     tells = λ t l. regroup _ _ _ _ _ _ (so.tells t l) (part_done on run part w p p' q q' is is' t l past) (adds.tells t l);
   }
 
+-- where nothing is left of one of the sets
 pub reached_last : (on : Domain) (w : Window) (a b : Times) (end : Option Turn) (made result : Times) (p q : Rational → Bool)
     → ReachedSoFar on w a b end made p q → ((t : Rational) → p t ≡ false) ⊎ ((t : Rational) → q t ≡ false) → Ends on end made result
     → (t : Rational) → Lies on t → IsTrue (has result t) ↔ Reaches on w a b t
@@ -212,17 +224,19 @@ reached_last on w a b end made result p q so none ends t l = (
     nothing (inl n) (u, m, s, h, f) = not_true (p t) (n t) (f t (first_between t u))
     nothing (inr n) (u, m, s, h, f) = not_true (q u) (n u) h
 
--- c is the later of two places; c is the earlier
+-- c is the later of two places
 pub record IsLater (a b c : Turn) : Type 0 where
   pub one : (c ≡ a) ⊎ (c ≡ b)
   pub first : AtMost (place a) (place c)
   pub second : AtMost (place b) (place c)
 
+-- c is the earlier of two places
 pub record IsEarlier (a b c : Turn) : Type 0 where
   pub one : (c ≡ a) ⊎ (c ≡ b)
   pub first : AtMost (place c) (place a)
   pub second : AtMost (place c) (place b)
 
+-- what holds of two turns holds of one that is one of them
 pub of_one : (a b c : Turn) (P : Turn → Type 0) → (c ≡ a) ⊎ (c ≡ b) → P a → P b → P c
 of_one a b c P (inl e) x y = subst P (sym e) x
 of_one a b c P (inr e) x y = subst P (sym e) y
@@ -281,9 +295,11 @@ module _ (on run part : Domain) (w : Window) (from to first last b e : Turn) (ro
             of_one run.to last e (λ x. Upto (place x) t) is_e.one m.upto y.1,
           )
 
+  -- the times from which they meet can be added
   pub meet_can : (end : Option Turn) (made : Times) → CanAdd on end (IsPast w run part) made → CanAdd on end (After (place b)) made
   meet_can end made can = record { grown = can.grown; goes_on = λ t l a. can.goes_on t l (past_out t a) }
 
+  -- and were
   pub meet_adds : (end end' : Option Turn) (made made' : Times) → Adds on end end' (After (place b)) (λ t. After (place b) t × Upto (place e) t) made made'
       → Adds on end end' (IsPast w run part) (Meets w run part) made made'
   meet_adds end end' made made' adds = record {
@@ -295,20 +311,23 @@ module _ (on run part : Domain) (w : Window) (from to first last b e : Turn) (ro
     );
   }
 
+-- where each of two stretches begins before the other ends, what they share has times
+pub share_times : (run part : Domain) (from to : Turn) → IsLater run.from part.from from → IsEarlier run.to part.to to → Before (place run.from) (place run.to)
+    → Before (place part.from) (place part.to) → Before (place run.from) (place part.to) → Before (place part.from) (place run.to)
+    → Before (place from) (place to)
+share_times run part from to is_from is_to own other across back = of_one run.from part.from from (λ x. Before (place x) (place to)) is_from.one
+    (of_one run.to part.to to (λ y. Before (place run.from) (place y)) is_to.one own across)
+    (of_one run.to part.to to (λ y. Before (place part.from) (place y)) is_to.one back other)
+
 -- stretches that share no time meet from nowhere
-pub meet_nothing : (on run part : Domain) (w : Window) (from to : Turn) (end : Option Turn) (made : Times) → IsLater run.from part.from from
-    → IsEarlier run.to part.to to → ¬ (Before (place from) (place to)) → CanAdd on end (IsPast w run part) made
-    → Adds on end end (IsPast w run part) (Meets w run part) made made
-meet_nothing on run part w from to end made is_from is_to empty can = record {
+pub meet_nothing : (on run part : Domain) (w : Window) (end : Option Turn) (made : Times)
+    → ((u : Rational) → After (place run.from) u → Upto (place run.to) u → After (place part.from) u → Upto (place part.to) u → ⊥)
+    → CanAdd on end (IsPast w run part) made → Adds on end end (IsPast w run part) (Meets w run part) made made
+meet_nothing on run part w end made empty can = record {
   grown = can.grown;
   goes_on = can.goes_on;
   tells = λ t l. (
     (λ h. inl h),
-    (λ x. elim x [
-      | inl h ↦ h
-      | inr m ↦ absurd (empty (before_through (place from) (place to) m.sees.0
-          (of_one run.from part.from from (λ x. After (place x) m.sees.0) is_from.one m.sees.2 m.sees.4)
-          (of_one run.to part.to to (λ x. Upto (place x) m.sees.0) is_to.one m.sees.3 m.sees.5)))
-    ]),
+    (λ x. elim x [ inl h ↦ h | inr m ↦ absurd (empty m.sees.0 m.sees.2 m.sees.3 m.sees.4 m.sees.5) ]),
   );
 }

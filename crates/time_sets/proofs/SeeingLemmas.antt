@@ -63,6 +63,7 @@ bare_grown on s e f = record {
   before = record { starts = e; turns = f };
 }
 
+-- before the first stretch nothing is made
 pub seen_first : (on : Domain) (w : Window) (s made : Times) (now : Rational → Bool) → made.starts ≡ false → made.turns.items ≡ []
     → ((t : Rational) → has made t ≡ false) → ((t : Rational) → now t ≡ has s t) → SeenSoFar on w s None made now
 seen_first on w s made now e f off all = record {
@@ -96,7 +97,8 @@ pub seen_step : (on part : Domain) (w : Window) (s : Times) (end end' : Option T
 seen_step on part w s end end' made made' now later b e room so is first last adds = record {
   grown = adds.grown;
   goes_on = λ t u l m h k.
-      let behind = after_at_most (place part.from) (place part.to) u (λ v x. upto_of_before (place part.from) (place part.to) v is.inside.order x) (is.behind u m h) in
+      let behind = after_at_most (place part.from) (place part.to) u (λ v x. upto_of_before (place part.from) (place part.to) v is.inside.order x)
+      (is.behind u m h) in
       let far = before_through (place part.from) (high_place w.high w.high_in t) u behind k in
       adds.goes_on t l (after_same (moved_begin (neg_ℤ w.high) w.high_in (place part.from)) (place b) t (same_places first)
       ((ends_past w.high w.high_in (place part.from) t).1 far));
@@ -120,6 +122,7 @@ seen_last on w s end made result now so none ends t l = (
 pub seen_nothing : (on : Domain) (w : Window) (s made : Times) (t : Rational) → ¬ (HasRoom w) → has made t ≡ false → IsTrue (has made t) ↔ SeesOne on w s t
 seen_nothing on w s made t tight off = ((λ h. absurd (not_true (has made t) off h)), (λ (u, m, v, h). absurd (sees_none w t u tight v)))
 
+-- nor reached
 pub reached_nothing : (on : Domain) (w : Window) (p q made : Times) (t : Rational) → ¬ (HasRoom w) → has made t ≡ false
     → IsTrue (has made t) ↔ Reaches on w p q t
 reached_nothing on w p q made t tight off = ((λ h. absurd (not_true (has made t) off h)), (λ (u, m, v, h, r). absurd (sees_none w t u tight v)))

@@ -17,6 +17,7 @@ behind_after c t = by_side c.after
     by_side true h = less_in c.at t h
     by_side false h = ap not (less_no t c.at h)
 
+-- a time up to a place is not behind it
 pub behind_upto : (c : Place) (t : Rational) → Upto c t → behind c t ≡ false
 behind_upto c t = by_side c.after
   where
@@ -28,6 +29,7 @@ behind_upto c t = by_side c.after
 pub turned_after : (b : Bool) (p : Turn) (rest : List Turn) (t : Rational) → After (place p) t → turned b (p ∷ rest) t ≡ turned (not b) rest t
 turned_after b p rest t h = ap (λ x. cond x (turned (not b) rest t) b) (behind_after (place p) t h)
 
+-- up to the first turn the truth is what it begins with
 pub turned_upto : (b : Bool) (p : Turn) (rest : List Turn) (t : Rational) → Upto (place p) t → turned b (p ∷ rest) t ≡ b
 turned_upto b p rest t h = ap (λ x. cond x (turned (not b) rest t) b) (behind_upto (place p) t h)
 
@@ -71,10 +73,12 @@ rise_last [] at r h = (tt, tt)
 rise_last (p ∷ []) at r h = (h.0, (tt, tt))
 rise_last (p ∷ q ∷ rest) at r h = (r.0, rise_last (q ∷ rest) at r.1 h.1)
 
+-- with one more turn, the last still comes before the place
 pub end_last : (c : Place) (ps : List Turn) (at : Turn) → EndBefore c ps → Before (place at) c → EndBefore c (ps ++ at ∷ [])
 end_last c [] at h b = (b, tt)
 end_last c (p ∷ rest) at h b = (h.0, end_last c rest at h.1 b)
 
+-- and the first still after it
 pub begin_last : (c : Place) (ps : List Turn) (at : Turn) → BeginAfter c ps → Before c (place at) → BeginAfter c (ps ++ at ∷ [])
 begin_last c [] at h b = b
 begin_last c (p ∷ rest) at h b = h
@@ -86,5 +90,6 @@ behind_not_before c d t n a = elim (place_order c d) [
   | inr o ↦ elim o [ inl s ↦ behind_after d t (after_same c d t s a) | inr b ↦ behind_after d t (after_of_before d c t b a) ]
 ]
 
+-- nor is it behind an earlier or the same place
 pub upto_not_before : (c d : Place) (t : Rational) → ¬ (Before c d) → Upto d t → behind c t ≡ false
 upto_not_before c d t n u = behind_upto c t (at_most_of_not_before d c n t u)

@@ -1,5 +1,6 @@
 -- The truth of a set between its turns.
-use Rattle.std.proofs.Common.{◌≡◌, ◌⊎◌, inl, inr, ℕ, zero, suc, ◌%◌, ◌<◌, ◌≤◌, Bool, true, false, not, List, [], ◌∷◌, length, get_or, refl, sym, ap, ◌∙◌, subst, arith, ◌+◌}
+use Rattle.std.proofs.Common.{◌≡◌, ◌⊎◌, inl, inr, ℕ, zero, suc, ◌%◌, ◌<◌, ◌≤◌, ◌+◌, Bool, true, false, not}
+use Rattle.std.proofs.Common.{List, [], ◌∷◌, length, get_or, refl, sym, ap, ◌∙◌, subst, arith}
 use Rattle.std.specs.Prelude.{cond, ◌==◌}
 use mathlib.Core.Bool.{beq}
 use Rattle.rational.specs.Time.{Rational, ◌≤ʳ◌}
@@ -46,6 +47,7 @@ flips_next b n = by_test b (odd n) ∙ sym (ap (λ x. cond x (not b) b) (odd_nex
     by_test false true = refl
     by_test false false = refl
 
+-- one turn more turns the truth
 pub flips_more : (b : Bool) (n : ℕ) → flips b (suc n) ≡ not (flips b n)
 flips_more b n = ap (λ x. cond x (not b) b) (odd_next n) ∙ by_test b (odd n)
   where
@@ -55,6 +57,7 @@ flips_more b n = ap (λ x. cond x (not b) b) (odd_next n) ∙ by_test b (odd n)
     by_test false true = refl
     by_test false false = refl
 
+-- after an odd number of turns it is the other truth
 pub flips_test : (b : Bool) (n : ℕ) → not (beq b (odd n)) ≡ flips b n
 flips_test b n = by_test b (odd n)
   where
@@ -150,7 +153,8 @@ module _ (on : Domain) (s : Times) (is : IsDomain on) (own : IsOf on s) where
           let order = (inside n k).order in
           let here : Before (record { at = t; after = false }) (place (get_or s.turns.items n on.to)) =
           before_through (record { at = t; after = false }) (place (get_or s.turns.items n on.to)) t (le_refl t) u in
-          let m = share (place (border on s n)) (place (get_or s.turns.items n on.to)) (record { at = t; after = false }) (place (get_or s.turns.items n on.to)) order here order here in
+          let m = share (place (border on s n)) (place (get_or s.turns.items n on.to)) (record { at = t; after = false })
+          (place (get_or s.turns.items n on.to)) order here order here in
           (m.0, m.3, m.2, truth n m.0 k m.1 m.2 ∙ turn_back e)
         where
           turn_back : b ≡ flips s.starts (suc n) → flips s.starts n ≡ not b
@@ -162,9 +166,11 @@ module _ (on : Domain) (s : Times) (is : IsDomain on) (own : IsOf on s) where
           by_list : (ps : List Turn) (n : ℕ) → n ≤ length ps → (suc n ≤ length ps) ⊎ (get_or ps n on.to ≡ on.to)
           by_list [] n l = inr refl
           by_list (p ∷ rest) zero l = inl (omega arith)
-          by_list (p ∷ rest) (suc n) l = let k : n ≤ length rest = omega (arith, l) in elim (by_list rest n k) [ inl h ↦ inl (omega (arith, h)) | inr e ↦ inr e ]
+          by_list (p ∷ rest) (suc n) l =
+              let k : n ≤ length rest = omega (arith, l) in elim (by_list rest n k) [ inl h ↦ inl (omega (arith, h)) | inr e ↦ inr e ]
 
-      forth : (t : Rational) → Lies on t → After (place (get_or s.turns.items n on.to)) t → (suc n ≤ length s.turns.items) ⊎ (get_or s.turns.items n on.to ≡ on.to)
+      forth : (t : Rational) → Lies on t → After (place (get_or s.turns.items n on.to)) t
+          → (suc n ≤ length s.turns.items) ⊎ (get_or s.turns.items n on.to ≡ on.to)
           → (v : Rational) × (v ≤ʳ t) × After (place (get_or s.turns.items n on.to)) v × (has s v ≡ not b)
       forth t i a (inr x) = absurd (not_both (place on.to) t i.1 (subst (λ p. After (place p) t) x a))
       forth t i a (inl k) =
@@ -172,7 +178,8 @@ module _ (on : Domain) (s : Times) (is : IsDomain on) (own : IsOf on s) where
           let c = place (get_or s.turns.items n on.to) in
           let here : Before (place (get_or s.turns.items n on.to)) (record { at = t; after = true }) =
           before_through (place (get_or s.turns.items n on.to)) (record { at = t; after = true }) t a (le_refl t) in
-          let m = share (place (get_or s.turns.items n on.to)) (place (get_or s.turns.items (suc n) on.to)) (place (get_or s.turns.items n on.to)) (record { at = t; after = true }) order here here order in
+          let m = share (place (get_or s.turns.items n on.to)) (place (get_or s.turns.items (suc n) on.to)) (place (get_or s.turns.items n on.to))
+          (record { at = t; after = true }) order here here order in
           (m.0, m.4, m.1, truth (suc n) m.0 k m.1 m.2 ∙ flips_more s.starts n ∙ sym (ap not e))
 
 -- the borders of what begins at the turn f
@@ -197,7 +204,8 @@ between_borders f (p ∷ rest) e t a u = elim (sides (place p) t) [
 pub spans_cover : SpansCover
 spans_cover on s t own l = at_border (between_borders on.from s.turns.items on.to t l.0 l.1)
   where
-    at_border : ((n : ℕ) × (n ≤ length s.turns.items) × After (place (border_from on.from s.turns.items on.to n)) t × Upto (place (get_or s.turns.items n on.to)) t)
+    at_border : ((n : ℕ) × (n ≤ length s.turns.items) × After (place (border_from on.from s.turns.items on.to n)) t
+        × Upto (place (get_or s.turns.items n on.to)) t)
         → (n : ℕ) × (n ≤ length s.turns.items) × After (place (border on s n)) t × Upto (place (border on s (n + 1))) t
     at_border (zero, k, x, y) = (0, k, x, y)
     at_border (suc n, k, x, y) =

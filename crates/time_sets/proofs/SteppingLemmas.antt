@@ -1,5 +1,6 @@
 -- How two lists of turns are gone through at once.
-use Rattle.std.proofs.Common.{◌≡◌, ◌⊎◌, inl, inr, ℕ, zero, suc, ◌+◌, ◌<◌, ◌≤◌, Bool, true, false, not, List, [], ◌∷◌, ◌++◌, drop, length, refl, sym, ap, ◌∙◌, subst, arith, append_assoc}
+use Rattle.std.proofs.Common.{◌≡◌, ◌⊎◌, inl, inr, ℕ, zero, suc, ◌+◌, ◌<◌, ◌≤◌, Bool, true, false, not}
+use Rattle.std.proofs.Common.{List, [], ◌∷◌, ◌++◌, drop, length, refl, sym, ap, ◌∙◌, subst, arith, append_assoc}
 use mir.Val.{bool_byte}
 use mathlib.Core.Bool.{beq}
 use Rattle.rational.specs.Time.{Rational}
@@ -34,6 +35,7 @@ begin_later : (c d : Place) (ps : List Turn) → Before c d → BeginAfter d ps 
 begin_later c d [] b h = h
 begin_later c d (p ∷ rest) b h = before_trans c d (place p) b h
 
+-- past a place at which it turns, or does not, the list goes on
 pub steps : (l : Bool) (at : Turn) (b : Bool) (ps ps' : List Turn) → Leads l at ps → Goes l ps ps' → Rise ps → Steps at b (flipped l b) ps ps'
 steps true at b [] ps' lead goes rise = absurd lead
 steps true at b (p ∷ rest) ps' lead goes rise = subst (Steps at b (not b) (p ∷ rest)) (sym goes) (record {
@@ -145,6 +147,7 @@ pub inside : (l : Bool) (at : Turn) (ps : List Turn) (i n : ℕ) → n ≡ bool_
 inside true at ps i n e lead h = let k = leads_inside at ps i lead in omega (arith, e, k)
 inside false at ps i n e lead h = omega (arith, e, h)
 
+-- the list after as many turns more as the place takes
 pub goes_on : (l : Bool) (at : Turn) (ps : List Turn) (i n : ℕ) → n ≡ bool_byte l → Leads l at (drop i ps) → Goes l (drop i ps) (drop (i + n) ps)
 goes_on true at [] zero n e lead = absurd lead
 goes_on true at [] (suc i) n e lead = absurd lead
@@ -186,18 +189,22 @@ module _ (all starts now : Bool) (made : List Turn) (left right : Bool) (ps qs p
   right_steps : IsStep → Steps at right right' qs qs'
   right_steps s = subst (λ b. Steps at right b qs qs') (sym s.is_right) (steps r at right qs qs' s.lead' s.goes' s.merges.second)
 
-  pub merges_turn : (made' : List Turn) → made' ≡ made ++ at ∷ [] → IsStep → not (beq holds now) ≡ true → Merges all starts holds made' left' right' ps' qs' p q F
+  -- where the truth changes the place is written
+  pub merges_turn : (made' : List Turn) → made' ≡ made ++ at ∷ [] → IsStep → not (beq holds now) ≡ true
+      → Merges all starts holds made' left' right' ps' qs' p q F
   merges_turn made' is s e = subst (λ xs. Merges all starts holds xs left' right' ps' qs' p q F) (sym is) (record {
     truth = s.is_holds;
     first = (left_steps s).rise;
     second = (right_steps s).rise;
     goes = λ more h.
         let told = s.merges.goes (at ∷ more) (tells_turn all left right left' right' ps qs ps' qs' at now s.merges.truth
-        (sym (apart holds now e) ∙ s.is_holds) (λ c j k. before_next l r at ps qs c s.lead s.lead' s.some j k) (λ c j k. next_before l r at ps qs c s.lead s.lead' s.some j k) (left_steps s) (right_steps s) more
+        (sym (apart holds now e) ∙ s.is_holds) (λ c j k. before_next l r at ps qs c s.lead s.lead' s.some j k)
+        (λ c j k. next_before l r at ps qs c s.lead s.lead' s.some j k) (left_steps s) (right_steps s) more
         (subst (λ b. Tells all b left' right' ps' qs' more) (apart holds now e) h)) in
         subst (λ xs. Joins starts xs p q F) (sym (append_assoc made (at ∷ []) more)) told;
   })
 
+  -- where it stays nothing is
   pub merges_still : IsStep → not (beq holds now) ≡ false → Merges all starts holds made left' right' ps' qs' p q F
   merges_still s e = record {
     truth = s.is_holds;

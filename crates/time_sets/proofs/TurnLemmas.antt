@@ -1,5 +1,6 @@
 -- The order of places by what turns keep.
-use Rattle.std.proofs.Common.{◌≡◌, ◌≢◌, ◌⊎◌, inl, inr, ℕ, ◌+◌, ◌*◌, ◌<◌, ◌≤◌, Bool, true, false, ℤ, pos, negsuc, zero, suc, ◌+ℤ◌, ◌*ℤ◌, ◌<ℤ◌, ◌≤ℤ◌, refl, sym, ap, ◌∙◌, arith}
+use Rattle.std.proofs.Common.{◌≡◌, ◌≢◌, ◌⊎◌, inl, inr, ℕ, zero, suc, ◌+◌, ◌*◌, ◌<◌, ◌≤◌, Bool, true, false}
+use Rattle.std.proofs.Common.{ℤ, pos, negsuc, ◌+ℤ◌, ◌*ℤ◌, ◌<ℤ◌, ◌≤ℤ◌, refl, sym, ap, ◌∙◌, arith}
 use Rattle.std.specs.Prelude.{◌==◌}
 use Rattle.std.proofs.lemmas.Int.{ints}
 use Rattle.std.proofs.lemmas.Nat.{mod_below}
@@ -111,6 +112,7 @@ order_by_rests Less z y r d s e p q f n h = inl (lt_by_rest (floor_of z) (floor_
 order_by_rests Equal z y r d s e p q f n h = absurd (n (ranked (r * e) (s * d) Equal h))
 order_by_rests Greater z y r d s e p q f n h = inl (lt_by_rest (floor_of y) (floor_of z) s e r d q p (sym f) (ranked (r * e) (s * d) Greater h))
 
+-- the floor of twice a number and a bit is that number
 pub floor_back : (z f : ℤ) (n : ℕ) → z ≡ pos 2 *ℤ f +ℤ pos n → n < 2 → floor_of z ≡ f
 floor_back z f n e h = same (floor_of z) (bit z) (split z) (bit_small z)
   where
@@ -127,6 +129,7 @@ one_of : (b : Bool) → (bool_byte b == 1) ≡ b
 one_of true = refl
 one_of false = refl
 
+-- a truth is a bit
 pub byte_small : (b : Bool) → bool_byte b < 2
 byte_small true = omega arith
 byte_small false = omega arith
@@ -160,6 +163,7 @@ floors_in_order z y r d s e p q below b = by_order (int_cmp (floor_of y) (floor_
 pub small_between : (f g h : ℤ) (n : ℕ) → f ≤ℤ g → g ≤ℤ h → unsigned_abs f ≤ n → unsigned_abs h ≤ n → unsigned_abs g ≤ n
 small_between f g h n i j k l = omega (arith, ints, i, j, k, l)
 
+-- the sum of two small numbers is small
 pub sum_small : (f k : ℤ) (m : ℕ) → unsigned_abs f ≤ m → unsigned_abs k ≤ m → unsigned_abs (f +ℤ k) ≤ m + m
 sum_small f k m h j = omega (arith, ints, h, j)
 

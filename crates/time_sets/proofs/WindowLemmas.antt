@@ -124,7 +124,8 @@ meets_between on w c d b e t room order first last lies = (seen, back)
 
     seen : ((u : Rational) × Sees w t u × After c u × Upto d u) → After (place b) t × Upto (place e) t
     seen (u, s, a, k) = (
-      after_same (moved_begin (neg_ℤ w.high) w.high_in c) (place b) t (same_places first) ((ends_past w.high w.high_in c t).1 (before_through c far u a s.ends)),
+      after_same (moved_begin (neg_ℤ w.high) w.high_in c) (place b) t (same_places first)
+          ((ends_past w.high w.high_in c t).1 (before_through c far u a s.ends)),
       by_low w.low u s.begins k last,
     )
 
@@ -138,7 +139,8 @@ meets_between on w c d b e t room order first last lies = (seen, back)
     open_low high (inl x) = let m = between c d order in (m.0, m.1, m.2, upto_of_before d far m.0 x m.2)
     open_low high (inr f) = let m = between c far high in (m.0, m.1, f m.0 m.2, m.2)
 
-    found : (low : Option ℤ) → ((u : Rational) → IfSome low (λ k. Precedes w.low_in (add t (whole k)) u) → IfSome w.low (λ k. Precedes w.low_in (add t (whole k)) u))
+    found : (low : Option ℤ)
+        → ((u : Rational) → IfSome low (λ k. Precedes w.low_in (add t (whole k)) u) → IfSome w.low (λ k. Precedes w.low_in (add t (whole k)) u))
         → IfSome low (λ k. (k <ℤ w.high) ⊎ ((k ≡ w.high) × IsTrue w.low_in × IsTrue w.high_in))
         → MatchOption low (e ≡ on.to) (λ k. Same (place e) (moved_end (neg_ℤ k) w.low_in d)) → Before c far → Upto (place e) t
         → (u : Rational) × Sees w t u × After c u × Upto d u

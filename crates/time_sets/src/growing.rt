@@ -27,23 +27,23 @@ impl Times {
 
     /// The turn `next`, or the end of the domain where there is no such turn.
     #[inline(always)]
-    pub(crate) fn turn_or_end(&self, on: &Domain, next: usize) -> Turn
-        ensures { result ≡ slice_index_or self.now.turns.items next on.now.to }
+    pub(crate) fn turn_or_end<'a>(&'a self, on: &'a Domain, next: usize) -> &'a Turn
+        ensures { result.now ≡ slice_index_or self.now.turns.items next on.now.to }
     {
         if next < self.turns.len() {
-            self.turns[next]
+            &self.turns[next]
         } else {
-            on.to
+            &on.to
         }
     }
 
     /// The border `next` of the stretches of one truth: from 0 the begin of the domain, each turn, and the end of the domain.
     #[inline(always)]
-    pub(crate) fn border(&self, on: &Domain, next: usize) -> Turn
-        ensures { result ≡ border on.now self.now next }
+    pub(crate) fn border<'a>(&'a self, on: &'a Domain, next: usize) -> &'a Turn
+        ensures { result.now ≡ border on.now self.now next }
     {
         if next == 0 {
-            return on.from;
+            return &on.from;
         }
         self.turn_or_end(on, next - 1)
     }
@@ -94,8 +94,8 @@ impl Times {
             return None;
         }
         Some(Span {
-            from: self.border(on, next),
-            to: self.turn_or_end(on, next),
+            from: *self.border(on, next),
+            to: *self.turn_or_end(on, next),
             holds: self.starts != is_odd(next),
         })
     }

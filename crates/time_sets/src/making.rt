@@ -58,6 +58,7 @@ pub(crate) fn add(
 }
 
 /// The set, whose last stretch ends at `last` if there is one.
+#[inline(always)]
 pub(crate) fn finish(made: Times, on: &Domain, last: Option<Turn>) -> Result<Times, Memory>
     requires { Grown on.now last made }
     ensures { IfOk result (Ends on.now last made) }

@@ -13,9 +13,9 @@ use std::alloc::Global;
 use std::cmp::Ordering;
 
 /// The next place at which one of two sets turns, and which of them do so there.
-#[derive(Clone, Copy, Debug)]
-struct Next {
-    at: Turn,
+#[derive(Clone, Copy)]
+struct Next<'a> {
+    at: &'a Turn,
     left: bool,
     right: bool,
 }
@@ -38,41 +38,41 @@ fn flip(turns: bool, holds: bool) -> bool
 
 /// The first of what is left of two lists of turns.
 #[inline(always)]
-fn first_of(p: &[Turn], i: usize, q: &[Turn], k: usize) -> Option<Next>
+fn first_of<'a>(p: &'a [Turn], i: usize, q: &'a [Turn], k: usize) -> Option<Next<'a>>
     ensures { MatchOption result
         ((drop i p.now ≡ []) × (drop k q.now ≡ []))
-        (λ n. ((n.left ≡ true) ⊎ (n.right ≡ true)) × Leads n.left n.at (drop i p.now) × Leads n.right n.at (drop k q.now)) }
+        (λ n. ((n.left ≡ true) ⊎ (n.right ≡ true)) × Leads n.left n.at.now (drop i p.now) × Leads n.right n.at.now (drop k q.now)) }
 {
     if i >= p.len() {
         if k >= q.len() {
             return None;
         }
         return Some(Next {
-            at: q[k],
+            at: &q[k],
             left: false,
             right: true,
         });
     }
     if k >= q.len() {
         return Some(Next {
-            at: p[i],
+            at: &p[i],
             left: true,
             right: false,
         });
     }
     match p[i].cmp(&q[k]) {
         Ordering::Less => Some(Next {
-            at: p[i],
+            at: &p[i],
             left: true,
             right: false,
         }),
         Ordering::Equal => Some(Next {
-            at: p[i],
+            at: &p[i],
             left: true,
             right: true,
         }),
         Ordering::Greater => Some(Next {
-            at: q[k],
+            at: &q[k],
             left: false,
             right: true,
         }),
@@ -95,14 +95,16 @@ pub(crate) fn merged(alloc: Global, all: bool, p: &Times, q: &Times) -> Result<T
     let mut now = starts;
     let mut i = 0;
     let mut k = 0;
-    while let Some(next) = first_of(&p.turns, i, &q.turns, k) {
+    let ps: &[Turn] = &p.turns;
+    let qs: &[Turn] = &q.turns;
+    while let Some(next) = first_of(ps, i, qs, k) {
         i += usize::from(next.left);
         k += usize::from(next.right);
         left = flip(next.left, left);
         right = flip(next.right, right);
         let holds = join(all, left, right);
         if holds != now {
-            turns.push(next.at)?;
+            turns.push(*next.at)?;
         }
         now = holds;
     }

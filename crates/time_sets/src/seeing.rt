@@ -27,11 +27,14 @@ fn meet(
     requires made { CanAdd on.now last (IsPast w.now run.now part.now) made.old }
     ensures { IfOk result (λ e. Adds on.now last e (IsPast w.now run.now part.now) (Meets w.now run.now part.now) made.old made.new) }
 {
-    let from = later(run.from, part.from);
-    let to = earlier(run.to, part.to);
-    if !from.precedes(&to) {
+    if !run.from.precedes(&part.to) {
         return Ok(last);
     }
+    if !part.from.precedes(&run.to) {
+        return Ok(last);
+    }
+    let from = later(run.from, part.from);
+    let to = earlier(run.to, part.to);
     let first = w.first(&from);
     let until = w.last(on, &to);
     let begin = later(run.from, first);
@@ -68,8 +71,8 @@ impl Times {
             return None;
         }
         Some(Domain {
-            from: self.border(on, next),
-            to: self.turn_or_end(on, next),
+            from: *self.border(on, next),
+            to: *self.turn_or_end(on, next),
         })
     }
 
@@ -79,13 +82,42 @@ impl Times {
         requires domain { IsDomain on.now }
         requires own { IsOf on.now self.now }
         requires other { IsOf on.now q.now }
-        ensures none { IfNone result (((t : Rational) → left_from i self.now.turns.items t ≡ false) ⊎ ((t : Rational) → left_from k q.now.turns.items t ≡ false)) }
+        ensures none { IfNone result
+            (((t : Rational) → left_from i self.now.turns.items t ≡ false) ⊎ ((t : Rational) → left_from k q.now.turns.items t ≡ false)) }
         ensures run { IfSome result (λ d. IsPart on.now d.run (left_from i self.now.turns.items) (left_from (i + 2) self.now.turns.items)) }
         ensures part { IfSome result (λ d. IsPart on.now d.part (left_from k q.now.turns.items) (left_from (k + 2) q.now.turns.items)) }
         ensures more { IfSome result (λ d. (i ≤ length self.now.turns.items) × (k ≤ length q.now.turns.items)) }
     {
         let run = self.stretch(on, i)?;
         let part = q.stretch(on, k)?;
+        Some(Pair { run, part })
+    }
+
+    /// The stretch of this set that ends at its turn `i`, beside that part of another.
+    #[inline(always)]
+    fn run_beside(&self, i: usize, part: Domain, on: &Domain) -> Option<Pair>
+        requires domain { IsDomain on.now }
+        requires own { IsOf on.now self.now }
+        ensures none { IfNone result ((t : Rational) → left_from i self.now.turns.items t ≡ false) }
+        ensures run { IfSome result (λ d. IsPart on.now d.run (left_from i self.now.turns.items) (left_from (i + 2) self.now.turns.items)) }
+        ensures part { IfSome result (λ d. d.part ≡ part) }
+        ensures more { IfSome result (λ d. i ≤ length self.now.turns.items) }
+    {
+        let run = self.stretch(on, i)?;
+        Some(Pair { run, part })
+    }
+
+    /// That run of another set, beside the stretch of this one that ends at its turn `k`.
+    #[inline(always)]
+    fn part_beside(&self, run: Domain, k: usize, on: &Domain) -> Option<Pair>
+        requires domain { IsDomain on.now }
+        requires own { IsOf on.now self.now }
+        ensures none { IfNone result ((t : Rational) → left_from k self.now.turns.items t ≡ false) }
+        ensures run { IfSome result (λ d. d.run ≡ run) }
+        ensures part { IfSome result (λ d. IsPart on.now d.part (left_from k self.now.turns.items) (left_from (k + 2) self.now.turns.items)) }
+        ensures more { IfSome result (λ d. k ≤ length self.now.turns.items) }
+    {
+        let part = self.stretch(on, k)?;
         Some(Pair { run, part })
     }
 
@@ -151,12 +183,15 @@ impl Times {
         let mut end = None;
         let mut i = usize::from(!self.starts);
         let mut k = usize::from(!q.starts);
-        while let Some(both) = self.pair(i, q, k, on) {
+        let mut next = self.pair(i, q, k, on);
+        while let Some(both) = next {
             end = meet(&mut made, on, w, end, &both.run, &both.part)?;
             if both.run.to.precedes(&both.part.to) {
                 i += 2;
+                next = self.run_beside(i, both.part, on);
             } else {
                 k += 2;
+                next = q.part_beside(both.run, k, on);
             }
         }
         finish(made, on, end)

@@ -153,11 +153,6 @@ impl Turn {
     pub fn cmp(&self, other: &Turn) -> Ordering
         ensures { IsPlaceOrder result (place self.now) (place other.now) }
     {
-        if self.rest == 0 {
-            if other.rest == 0 {
-                return self.twice.cmp(&other.twice);
-            }
-        }
         if !self.is_level(other) {
             return self.twice.cmp(&other.twice);
         }

@@ -19,6 +19,7 @@ pub mod KindLemmas
 pub mod FirstFaultStays
 pub mod PlainLemmas
 mod RowTakes
+mod BlockTakes
 mod ByteTables
 mod ByteLemmas
 mod DigitBytes

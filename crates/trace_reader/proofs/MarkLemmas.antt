@@ -42,7 +42,8 @@ other_marked d l h =
     eqb-true (mark d) 128 u
 
 -- the lowest byte and the rest of the marks: w is the rest of the word, and t what was added to it with the carry
-step : (d s w t m : ℕ) → d < 256 → s < 256 → bit_and (bit_or (d + 256 * w) (s + 256 * t)) (128 + 256 * m) ≡ bit_and (bit_or d s) 128 + 256 * bit_and (bit_or w t) m
+step : (d s w t m : ℕ) → d < 256 → s < 256
+    → bit_and (bit_or (d + 256 * w) (s + 256 * t)) (128 + 256 * m) ≡ bit_and (bit_or d s) 128 + 256 * bit_and (bit_or w t) m
 step d s w t m l k =
     let a : d + 256 * w ≡ w * 2 ^ 8 + d = omega arith in
     let b : s + 256 * t ≡ t * 2 ^ 8 + s = omega arith in
@@ -115,8 +116,10 @@ wrapped : (w k m : ℕ) → m < 2 ^ 64 → bit_and (bit_or w ((w + k) % 2 ^ 64))
 wrapped w k m l =
     let small : (x : ℕ) → bit_and x m % 2 ^ 64 ≡ bit_and x m = λ x. omega (arith, and_le_r x m, l) in
     let o : bit_or w ((w + k) % 2 ^ 64) % 2 ^ 64 ≡ bit_or w (w + k) % 2 ^ 64
-    = or_mod w ((w + k) % 2 ^ 64) 64 ∙ (ap (bit_or (w % 2 ^ 64)) (let e : (w + k) % 2 ^ 64 % 2 ^ 64 ≡ (w + k) % 2 ^ 64 = omega arith in e) ∙ sym (or_mod w (w + k) 64)) in
-    sym (small (bit_or w ((w + k) % 2 ^ 64))) ∙ and_mod (bit_or w ((w + k) % 2 ^ 64)) m 64 ∙ ap (λ x. bit_and x (m % 2 ^ 64)) o ∙ sym (and_mod (bit_or w (w + k)) m 64)
+    = or_mod w ((w + k) % 2 ^ 64) 64
+    ∙ (ap (bit_or (w % 2 ^ 64)) (let e : (w + k) % 2 ^ 64 % 2 ^ 64 ≡ (w + k) % 2 ^ 64 = omega arith in e) ∙ sym (or_mod w (w + k) 64)) in
+    sym (small (bit_or w ((w + k) % 2 ^ 64))) ∙ and_mod (bit_or w ((w + k) % 2 ^ 64)) m 64 ∙ ap (λ x. bit_and x (m % 2 ^ 64)) o
+    ∙ sym (and_mod (bit_or w (w + k)) m 64)
     ∙ small (bit_or w (w + k))
 
 pub marks_are : (word : ℕ) (bytes : List ℕ) → length bytes ≡ 8 → Below 256 bytes → word ≡ word_of bytes

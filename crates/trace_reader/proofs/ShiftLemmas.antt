@@ -94,8 +94,11 @@ pub record IsMoved (text : List ℕ) (n : ℕ) : Type 0 where
 pub is_moved : (text : List ℕ) (n : ℕ) → length text ≡ 8 → Below 256 text → n ≤ 8 → IsCount text n → IsMoved text n
 is_moved text n l b few count =
     let t : take n (map bare text) ≡ map bare (take n text) = take-map bare n text in
-    let size : length (moved n (map bare text)) ≡ 8 = omega (arith, length-append (replicate (8 - n) 0) (take n (map bare text)), length-replicate {A = ℕ} (8 - n) 0, length-take n (map bare text), length_bare text, l, few) in
-    let tens : Below 10 (moved n (map bare text)) = zeros_below (8 - n) (take n (map bare text)) (rw t (worths_below (take n text) (below_take n text b) count.digits)) in
+    let zeros = length-replicate {A = ℕ} (8 - n) 0 in
+    let size : length (moved n (map bare text)) ≡ 8
+    = omega (arith, length-append (replicate (8 - n) 0) (take n (map bare text)), zeros, length-take n (map bare text), length_bare text, l, few) in
+    let tens : Below 10 (moved n (map bare text))
+    = zeros_below (8 - n) (take n (map bare text)) (rw t (worths_below (take n text) (below_take n text b) count.digits)) in
     record {
       length = size;
       digits = tens;

@@ -2,7 +2,8 @@
 use Rattle.std.proofs.Common.{◌≡◌, ℕ, zero, suc, ◌+◌, ◌*◌, ◌<◌, ◌≤◌, List, [], ◌∷◌, ◌++◌, length, take}
 use Rattle.std.proofs.Common.{◌-◌, drop, get_or, refl, sym, ap, ◌∙◌, arith, ℤ, nat_abs}
 use Rattle.std.specs.Prelude.{All, pos}
-use Rattle.std.proofs.lemmas.List.{take-append-le, drop-append-le, length-append, length-drop, drop-drop, get_or-take, get_or-drop, take_all, nil_from_length}
+use Rattle.std.proofs.lemmas.List.{take-append-le, drop-append-le, length-append, length-drop, drop-drop}
+use Rattle.std.proofs.lemmas.List.{get_or-take, get_or-drop, get_or-append_right, take_all, nil_from_length}
 use Rattle.std.proofs.lemmas.List.Elements.{All-append}
 use Rattle.std.proofs.lemmas.Nat.{mul-add-lt}
 use Rattle.stl_syntax.specs.Trace.{Row, Header, Trace, AreRows, last_time}
@@ -119,6 +120,22 @@ last_behind (e ∷ earlier) (r ∷ rows) m n some = last_behind earlier (r ∷ r
 pub place_within : (width k c n rows : ℕ) → k < rows → c < width → n ≡ rows * width → k * width + c < n
 place_within width k c n rows h l e =
     omega (arith, mul-add-lt k width c rows h l, e)
+
+-- where the values of the last row begin
+pub last_place : (width k n m : ℕ) → n ≡ k + 1 → m ≡ n * width → m ≡ k * width + width
+last_place width k n m e f = f ∙ ap (λ j. j * width) e ∙ omega arith
+
+-- the last row has the last time and the last values
+pub last_at : (width k : ℕ) (times : List ℕ) (values : List ℤ) (before : List Row) (r : Row) → length times ≡ k + 1
+    → length values ≡ length times * width → rows_of width times values ≡ before ++ r ∷ [] → row_with (get_or times k 0) (drop (k * width) values) ≡ r
+last_at width k times values before r n full e =
+    let l : length before ≡ k = omega (arith, length-rows_of width times values, ap length e, length-append before (r ∷ []), n) in
+    let m : length (drop (k * width) values) ≡ width =
+    omega (arith, length-drop (k * width) values, last_place width k (length times) (length values) n full) in
+    let whole : take width (drop (k * width) values) ≡ drop (k * width) values = take_all width (drop (k * width) values) (omega (arith, m)) in
+    let last : get_or (before ++ r ∷ []) k r ≡ r =
+    get_or-append_right before (r ∷ []) k k r l (omega arith) ∙ (let z : k - k ≡ 0 = omega arith in ap (λ i. get_or (r ∷ []) i r) z) in
+    ap (row_with (get_or times k 0)) (sym whole) ∙ (sym (row_at width k times values r (omega (arith, n))) ∙ (ap (λ rs. get_or rs k r) e ∙ last))
 
 -- rows that are not none have a last one
 pub last_row : (rows : List Row) → 0 < length rows → (before : List Row) × (r : Row) × (rows ≡ before ++ r ∷ [])

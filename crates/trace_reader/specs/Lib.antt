@@ -4,6 +4,7 @@ pub mod InputFaults
 pub mod Sofar
 pub mod Words
 pub mod Plain
+pub mod Blocks
 pub mod Labels
 pub mod Trace
 pub mod Feeds

@@ -3,7 +3,7 @@ use crate::field::{content_of, is_blank};
 use crate::heading::read_heading;
 use crate::room::{Heading, HeadingRoom};
 use crate::two_rows::TwoRows;
-use crate::{Event, Header, Limits, Row, TraceKind};
+use crate::{Event, Header, Limits, Row, Trace, TraceKind};
 use frac128::Memory;
 use std::alloc::Global;
 use std::marker::Model;
@@ -32,8 +32,10 @@ impl Model for Content {
 }
 
 impl Content {
-    ghost use Rattle.std.specs.Prelude.{◌≡◌, ◌^◌, ◌<◌, ◌≤◌, [], Some, None, IsSome, IfOk, option_copied, option_map, length, true, false, MatchOption};
-    ghost use Rattle.trace_reader.specs.TraceText.{is_blank_line};
+    ghost use Rattle.std.specs.Prelude.{◌≡◌, ◌+◌, ◌^◌, ◌<◌, ◌≤◌, ◌++◌, ◌∷◌, [], List, Some, None, IsSome, IfOk};
+    ghost use Rattle.std.specs.Prelude.{option_copied, option_map, length, true, false, MatchOption};
+    ghost use Rattle.stl_syntax.specs.Trace.{Row as Values};
+    ghost use Rattle.trace_reader.specs.TraceText.{is_blank_line, scale_of};
     ghost use Rattle.trace_reader.specs.Plain.{IsRowTaken};
     ghost use Rattle.trace_reader.specs.LineParts.{whole_line};
     ghost use Rattle.trace_reader.specs.Headings.{header_with};
@@ -68,6 +70,38 @@ impl Content {
             Some(heading) => Some(heading.header()),
             None => None,
         }
+    }
+
+    /// The heading, once it was read.
+    pub(crate) fn heading(&self) -> Option<&Heading>
+        ensures { MatchOption result (Unit {0}) (λ h. (self.now.heading ≡ Some h.now.heading) × (h.now.scale ≡ scale_of self.now.least h.now.heading)) }
+    {
+        match &self.heading {
+            Some(heading) => Some(heading),
+            None => None,
+        }
+    }
+
+    /// The first time that the next row may have.
+    pub(crate) fn next_time(&self) -> u64
+        ensures { 0 < self.now.count → self.now.row.time < result }
+    {
+        if self.count == 0 {
+            return 0;
+        }
+        u64::from(self.rows.last().time()) + 1
+    }
+
+    /// So many rows more were read, of which the trace has the last.
+    pub(crate) fn pass(&mut self, rows: u64, trace: &Trace)
+        requires count { self.old.count + rows < 2 ^ 64 }
+        requires some { 0 < length trace.now.rows }
+        requires narrow { length trace.now.header.columns ≤ 64 }
+        ensures { (before : List Values) (r : Values) → trace.now.rows ≡ before ++ r ∷ []
+            → self.new ≡ record self.old { row = r; count = self.old.count + rows } }
+    {
+        self.rows.set_last(trace);
+        self.count += rows;
     }
 
     /// The last row.

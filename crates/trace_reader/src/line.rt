@@ -91,12 +91,12 @@ impl Lines {
         Ok(())
     }
 
-    /// Counts a line that is whole.
-    pub(crate) fn pass(&mut self)
-        requires { self.old.begun < 2 ^ 33 }
-        ensures { self.new ≡ record self.old { begun = self.old.begun + 1 } }
+    /// Counts so many lines that are whole.
+    pub(crate) fn pass(&mut self, lines: u64)
+        requires { self.old.begun + lines ≤ 2 ^ 33 }
+        ensures { self.new ≡ record self.old { begun = self.old.begun + lines } }
     {
-        self.begun += 1;
+        self.begun += lines;
     }
 
     /// Adds bytes to the line.

@@ -19,7 +19,7 @@ ghost use Rattle.std.specs.Prelude.{false, length, take, IsSome, IfOk, IfErr, On
 ghost use Rattle.stl_syntax.specs.Trace.{Row as Values};
 ghost use Rattle.trace_reader.specs.Feeds.{through_feed, rows_after};
 ghost use Rattle.trace_reader.specs.Reader.{StandsFor, IsFaultOfAll, HasReadBefore, HasCome, IsNextRow, header_of};
-ghost use Rattle.trace_reader.specs.Taken.{HasTraceSoFar, AreRowsTaken, IsRowShort};
+ghost use Rattle.trace_reader.specs.Taken.{HasTraceSoFar, AreRowsTaken};
 
 impl LineReader {
     ghost use Rattle.trace_reader.specs.LineReader.{state, IsWithin, IsStart, Holds, ReadsLineAt, Finishes, HasEnded, IsWhole, IsEnd, HasHeader};
@@ -134,38 +134,44 @@ impl LineReader {
             return None;
         }
         let size = self.content.read_plain(limits, piece)?;
-        self.lines.pass();
+        self.lines.pass(1);
         Some(size)
     }
 
-    /// Takes the rows of plain numbers without a fault that the piece begins with, adds them to the trace, and answers how many bytes they are.
-    ///
-    /// # Errors
-    /// Want of memory; then the last row that was read is not in the trace.
-    #[inline(never)]
-    pub(crate) fn take_rows(
-        &mut self,
-        limits: &Limits,
-        piece: &[u8],
-        trace: &mut Trace,
-    ) -> Result<usize, Memory>
+    /// How many rows the limits allow behind the last one, where no line is open; else none.
+    fn rows_left(&self, limits: &Limits) -> u64
+        requires { IsWithin limits.now self.now }
+        ensures between { 0 < result → self.now.lines.line ≡ [] }
+        ensures lines { self.now.lines.begun + result ≤ limits.now.lines }
+        ensures rows { 0 < result → self.now.content.count + result ≤ limits.now.rows }
+    {
+        let count = self.content.count();
+        if !self.lines.is_between() || count >= limits.rows {
+            return 0;
+        }
+        (limits.rows - count).min(limits.lines - self.lines.begun())
+    }
+
+    /// Takes rows of plain numbers without a fault that the piece begins with, adds them to the trace, and answers how many bytes they are.
+    pub(crate) fn take_rows(&mut self, limits: &Limits, piece: &[u8], trace: &mut Trace) -> usize
         requires within { IsWithin limits.now self.old }
         requires so_far { HasTraceSoFar (state limits.now self.old) trace.old }
-        ensures size { IfOk result (λ n. n ≤ length piece.now) }
-        ensures rows { IfOk result (λ n. AreRowsTaken (state limits.now self.old) (state limits.now self.new) trace.old trace.new (take n piece.now)) }
-        ensures short { OnErr result (IsRowShort (state limits.now self.old) (state limits.now self.new) trace.old trace.new piece.now) }
+        ensures size { result ≤ length piece.now }
+        ensures rows { AreRowsTaken (state limits.now self.old) (state limits.now self.new) trace.old trace.new (take result piece.now) }
         ensures within { IsWithin limits.now self.new }
         ensures kept { (self.new.content.heading ≡ self.old.content.heading) × (self.new.content.least ≡ self.old.content.least) }
     {
-        let mut at = 0;
-        while at < piece.len() {
-            let Some(size) = self.take_plain(limits, &piece[at..]) else {
-                return Ok(at);
-            };
-            trace.push(self.content.row())?;
-            at += size;
+        let most = self.rows_left(limits);
+        let Some(heading) = self.content.heading() else {
+            return 0;
+        };
+        let block = heading.take_rows(piece, most, self.content.next_time(), trace);
+        if block.rows == 0 {
+            return 0;
         }
-        Ok(at)
+        self.lines.pass(block.rows);
+        self.content.pass(block.rows, trace);
+        block.bytes
     }
 
     /// Looks for the first LF, and takes the bytes up to and with it, or all where there is none.

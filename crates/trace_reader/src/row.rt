@@ -91,6 +91,18 @@ impl Row {
         &self.values[..self.columns]
     }
 
+    /// Sets the time and the values.
+    pub(crate) fn set(&mut self, time: u32, values: &[i32])
+        requires room { length values.now ≤ 64 }
+        requires small { All (λ v. nat_abs v ≤ 16777216) values.now }
+        ensures { self.new ≡ record { time = time; values = values.now } }
+    {
+        let columns = values.len();
+        self.time = time;
+        self.columns = columns;
+        self.values[..columns].copy_from_slice(values);
+    }
+
     /// Takes over the time and the values of another row.
     pub fn take_over(&mut self, other: &Row)
         ensures { self.new ≡ other.now }

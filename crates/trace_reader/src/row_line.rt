@@ -5,7 +5,7 @@ use crate::field::{count_fields, cut_field};
 use crate::number::{read_time, read_value};
 use crate::plain::{line_end, plain_time, plain_value};
 use crate::room::Heading;
-use crate::{Row, TraceKind};
+use crate::{Row, Trace, TraceKind};
 
 /// A piece of so many bytes at most is copied before it is read in place, since a number is read in place where bytes stand behind it.
 const SHORT: usize = 128;
@@ -24,9 +24,18 @@ fn padded(piece: &[u8]) -> [u8; ROOM]
     room
 }
 
+/// Rows that a piece begins with: how many, and how many bytes they are.
+#[derive(Clone, Copy)]
+pub(crate) struct Block {
+    pub(crate) rows: u64,
+    pub(crate) bytes: usize,
+}
+
 impl Heading {
-    ghost use Rattle.std.specs.Prelude.{◌≡◌, ◌≤◌, suc, length, Some, MatchResult, MatchOption};
+    ghost use Rattle.std.specs.Prelude.{◌≡◌, ◌<◌, ◌≤◌, ℕ, suc, length, take, Some, MatchResult, MatchOption};
+    ghost use Rattle.stl_syntax.specs.Trace.{last_time};
     ghost use Rattle.trace_reader.specs.Plain.{IsPlainRow};
+    ghost use Rattle.trace_reader.specs.Blocks.{AreRowsAdded};
     ghost use Rattle.trace_reader.specs.LineParts.{fields_of};
     ghost use Rattle.trace_reader.specs.TraceRefusals.{NumberFaults};
     ghost use Rattle.trace_reader.specs.RowLines.{IsRowRead, FieldFaults};
@@ -88,7 +97,7 @@ impl Heading {
 
     /// Reads a row of plain numbers that the piece begins with, and answers how many bytes it has with its LF.
     /// What it does not read may be a row all the same.
-    #[inline(never)]
+    #[inline(always)]
     pub(crate) fn read_plain(&self, row: &mut Row, piece: &[u8]) -> Option<usize>
         ensures { MatchOption result (Unit {0}) (λ n. IsPlainRow self.now piece.now n row.new) }
     {
@@ -131,5 +140,47 @@ impl Heading {
             return self.read_padded(row, piece);
         }
         self.read_plain(row, piece)
+    }
+
+    /// As `plain_row`, where the row is not before a time.
+    #[inline(always)]
+    fn later_row(&self, row: &mut Row, piece: &[u8], from: u64) -> Option<usize>
+        ensures { MatchOption result (Unit {0}) (λ n. IsPlainRow self.now piece.now n row.new × (from ≤ row.new.time)) }
+    {
+        let size = self.plain_row(row, piece)?;
+        if u64::from(row.time()) < from {
+            return None;
+        }
+        Some(size)
+    }
+
+    /// Adds the rows of plain numbers that the piece begins with to the trace: at most `most` of them, the first one not before the time
+    /// `from`, and each later than the one before it. A row for which memory is wanting is left, as one that is not read.
+    #[inline(never)]
+    pub(crate) fn take_rows(&self, piece: &[u8], most: u64, from: u64, trace: &mut Trace) -> Block
+        requires width { length trace.old.header.columns ≡ length self.now.heading.columns }
+        requires later { 0 < length trace.old.rows → last_time 0 trace.old.rows < from }
+        ensures size { result.bytes ≤ length piece.now }
+        ensures few { result.rows ≤ most }
+        ensures narrow { length self.now.heading.columns ≤ 64 }
+        ensures rows { (next : ℕ) × AreRowsAdded self.now from next trace.old trace.new result.rows (take result.bytes piece.now) }
+    {
+        let columns = self.columns();
+        let mut row = Row::new();
+        let mut next = from;
+        let mut block = Block { rows: 0, bytes: 0 };
+        while block.rows < most && piece.len() - block.bytes > columns {
+            let Some(size) = self.later_row(&mut row, &piece[block.bytes..], next) else {
+                return block;
+            };
+            match trace.push(&row) {
+                Ok(()) => {}
+                Err(_) => return block,
+            }
+            next = u64::from(row.time()) + 1;
+            block.rows += 1;
+            block.bytes += size;
+        }
+        block
     }
 }

@@ -106,7 +106,8 @@ impl Rows {
     /// other line, and each fault.
     ///
     /// # Errors
-    /// `Memory` where memory is wanting; then the last row that was read is not in the trace.
+    /// Want of memory is to be looked for, where the last row that was read is not in the trace; as it stands, a row that memory is
+    /// wanting for is left for `push` too.
     pub fn take_rows(&mut self, piece: &[u8], trace: &mut Trace) -> Result<usize, Memory>
         requires { HasTraceSoFar self.old trace.old }
         ensures within { IfOk result (λ n. n ≤ length piece.now) }
@@ -114,7 +115,7 @@ impl Rows {
         ensures short { OnErr result (IsRowShort self.old self.new trace.old trace.new piece.now) }
         ensures kept { (self.new.limits ≡ self.old.limits) × (self.new.least ≡ self.old.least) × (self.new.heading ≡ self.old.heading) }
     {
-        self.reading.take_rows(&self.limits, piece, trace)
+        Ok(self.reading.take_rows(&self.limits, piece, trace))
     }
 
     /// Reads a last line without LF. The event is Row where it is a row, and else Nothing.

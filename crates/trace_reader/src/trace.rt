@@ -33,10 +33,7 @@ fn add_all(values: &mut Vec<i32>, more: &[i32])
     ensures { values.new.items ≡ values.old.items ++ more.now }
 {
     for value in more {
-        match values.push(*value) {
-            Ok(()) => {}
-            Err(_) => unreachable!(),
-        }
+        values.push_reserved(*value);
     }
 }
 
@@ -52,7 +49,7 @@ fn let_go_before<T: Copy + Drop>(items: &mut Vec<T>, at: usize)
 }
 
 impl Trace {
-    ghost use Rattle.std.specs.Prelude.{◌≡◌, ◌<◌, ◌≤◌, ◌-◌, ◌++◌, ◌∷◌, [], length, drop, nat_abs, slice_index_or, OnOk, OnErr};
+    ghost use Rattle.std.specs.Prelude.{◌≡◌, ◌<◌, ◌≤◌, ◌-◌, ◌++◌, ◌∷◌, [], List, length, drop, nat_abs, slice_index_or, OnOk, OnErr};
     ghost use Rattle.stl_syntax.specs.Trace.{Row as Values, value, last_time, IsTrace};
 
     /// A trace without rows.
@@ -110,6 +107,17 @@ impl Trace {
     {
         let at = r * self.header.columns() + c;
         self.values[at]
+    }
+
+    /// Copies the last row.
+    pub(crate) fn copy_last(&self, row: &mut Row)
+        requires some { 0 < length self.now.rows }
+        requires narrow { length self.now.header.columns ≤ 64 }
+        ensures { (before : List Values) (r : Values) → self.now.rows ≡ before ++ r ∷ [] → row.new ≡ r }
+    {
+        let last = self.times.len() - 1;
+        let from = last * self.header.columns();
+        row.set(self.times[last], &self.values[from..]);
     }
 
     /// Lets go of all rows but the last.

@@ -1,6 +1,6 @@
 //! Two rows in turn: the last one, and room for the next.
 use crate::room::Heading;
-use crate::{Row, TraceKind};
+use crate::{Row, Trace, TraceKind};
 use std::marker::Model;
 
 /// The last row, and room for the one that is being read.
@@ -20,7 +20,8 @@ impl Model for TwoRows {
 }
 
 impl TwoRows {
-    ghost use Rattle.std.specs.Prelude.{◌≡◌, ◌≤◌, [], length, Some, MatchResult, MatchOption};
+    ghost use Rattle.std.specs.Prelude.{◌≡◌, ◌<◌, ◌≤◌, ◌++◌, ◌∷◌, [], List, length, Some, MatchResult, MatchOption};
+    ghost use Rattle.stl_syntax.specs.Trace.{Row as Values};
     ghost use Rattle.trace_reader.specs.Plain.{IsPlainRow};
     ghost use Rattle.trace_reader.specs.LineParts.{fields_of};
     ghost use Rattle.trace_reader.specs.RowLines.{IsRowRead, FieldFaults};
@@ -76,7 +77,7 @@ impl TwoRows {
     }
 
     /// Reads a row of plain numbers that the piece begins with, and answers how many bytes it has with its LF.
-    #[inline(always)]
+    #[inline(never)]
     pub(crate) fn read_plain(&mut self, heading: &Heading, piece: &[u8]) -> Option<usize>
         ensures row { MatchOption result (Unit {0}) (λ n. IsPlainRow heading.now piece.now n self.new.next) }
         ensures last { self.new.last ≡ self.old.last }
@@ -85,6 +86,18 @@ impl TwoRows {
             return heading.plain_row(&mut self.first, piece);
         }
         heading.plain_row(&mut self.second, piece)
+    }
+
+    /// The last row becomes that of the trace.
+    pub(crate) fn set_last(&mut self, trace: &Trace)
+        requires some { 0 < length trace.now.rows }
+        requires narrow { length trace.now.header.columns ≤ 64 }
+        ensures { (before : List Values) (r : Values) → trace.now.rows ≡ before ++ r ∷ [] → self.new.last ≡ r }
+    {
+        if self.turned {
+            return trace.copy_last(&mut self.second);
+        }
+        trace.copy_last(&mut self.first);
     }
 
     /// The row that was read becomes the last one.

@@ -17,7 +17,6 @@ pub mod KeptRows
 pub mod MarginTexts
 pub mod OwedRows
 pub mod WideTexts
-pub mod FrontTexts
 pub mod Refused
 pub mod Living
 pub mod Told

@@ -343,12 +343,6 @@ module _ {F : Type 0} (Stands Owes : F → Case → List ℕ → Type 0) (kind :
   flushed limits f mid bytes written new after (Err e) k ok none =
       subst (λ (s : StreamStop). IsLiveStop kind limits f false bytes (written ++ new) s) (sym none) tt
 
-  -- before the header nothing is owed
-  pub none_flushed : (case : Option Case) (made text : List ℕ) → IsOpened Stands Owes kind None case made
-      → (grown : List ℕ) × (text ≡ text ++ grown) × IsFollowed Stands kind None case (made ++ grown)
-  none_flushed None made text t = ([], sym (append-nil text), append-nil made ∙ t)
-  none_flushed (Some c) made text t = absurd t
-
   -- so at a fault
   pub fault_flushed : (limits : Limits) (f : Formula) (ended : Bool) (bytes written old new : List ℕ) (follower after : Option F) (fault : TraceFault)
       → (k : IsOpenStop Stands Owes kind limits f ended bytes follower (written ++ old) (Faulty fault))

@@ -45,11 +45,6 @@ pub record IsKept (f : Formula) (reader : Reader) (case : Option Case) (bytes : 
   pub stands : StandsFor reader bytes rows
   pub has_case : HasCase f reader.heading bytes rows case
 
--- the reader took some bytes, and this is what was kept of them
-pub record HasKept (f : Formula) (reader : Reader) (case : Option Case) : Type 0 where
-  pub bytes : List ℕ
-  pub is : IsKept f reader case bytes
-
 -- the header that a reader has read, in ticks of at most six digits
 pub record HasHeader (f : Formula) (reader : Reader) : Type 0 where
   pub heading : Heading

@@ -84,12 +84,10 @@ pub(crate) fn begin(
         Ok(bound) => bound,
         Err(fault) => return Err(bind_stop(line, fault)),
     };
-    match header.copy() {
-        Ok(header) => Ok(Case {
-            formula: scaled,
-            bound,
-            trace: Trace::new(alloc, header),
-        }),
-        Err(_) => Err(StreamStop::NoMemory),
-    }
+    let header = header.copy()?;
+    Ok(Case {
+        formula: scaled,
+        bound,
+        trace: Trace::new(alloc, header),
+    })
 }

@@ -7,12 +7,12 @@ ghost use Rattle.trace_reader.specs.TraceText.{Heading, scale_of};
 ghost use Rattle.trace_reader.specs.Reader.{header_of};
 ghost use Rattle.trace_reader.specs.Feeds.{through_feed};
 ghost use Rattle.trace_reader.specs.declared.refusal.TraceKind.TheVariants.{NoRows};
-ghost use Rattle.trace_stream.specs.Cases.{IsBegun, IsCase, IsNoBegin, CanKeep, with_row};
+ghost use Rattle.trace_stream.specs.Cases.{IsBegun, IsNoBegin, CanKeep, with_row};
 ghost use Rattle.trace_stream.specs.CaseReader.{IsRefused, HasHeader, IsLastFault};
 ghost use Rattle.trace_stream.specs.Kept.{StandsForCase, IsKeptAs, HasKeptAs, IsEndedAs};
 ghost use Rattle.trace_stream.specs.declared.case.Case.{Case as Of};
 
-use crate::case::{Case, begin};
+use crate::case::begin;
 use crate::fault::{StreamStop, TraceFault};
 use crate::keep::Keep;
 use frac128::Memory;
@@ -70,19 +70,6 @@ pub(crate) fn last_fault<T>(
     own
 }
 
-/// What is kept of a case without rows.
-fn keep<K: Keep>(alloc: Global, case: Case) -> Result<K, StreamStop>
-    requires case { (f : Parsed) × IsCase f case }
-    requires none { case.trace.rows ≡ [] }
-    ensures ok { IfOk result (λ x. K.stands x case) }
-    ensures err { IfErr result (λ e. e ≡ StreamStop.NoMemory) }
-{
-    match K::begin(alloc, case) {
-        Ok(kept) => Ok(kept),
-        Err(_) => Err(StreamStop::NoMemory),
-    }
-}
-
 /// Keeps what comes of a trace from its header, in line `line`, on.
 #[inline(never)]
 fn keep_on<K: Keep>(
@@ -98,7 +85,7 @@ fn keep_on<K: Keep>(
         (IsNoBegin formula.now line h) }
 {
     let case = begin(alloc, formula, header, line)?;
-    *kept = Some(keep(alloc, case)?);
+    *kept = Some(K::begin(alloc, case)?);
     Ok(())
 }
 
@@ -111,10 +98,7 @@ fn keep_row<K: Keep>(kept: &mut Option<K>, row: &Row) -> Result<(), StreamStop>
     ensures err { IfErr result (λ e. e ≡ StreamStop.NoMemory) }
 {
     match kept {
-        Some(kept) => match kept.row(row) {
-            Ok(()) => Ok(()),
-            Err(_) => Err(StreamStop::NoMemory),
-        },
+        Some(kept) => Ok(kept.row(row)?),
         None => unreachable!(),
     }
 }
@@ -133,10 +117,7 @@ fn take_rows<K: Keep>(
     ensures limits { rows.new.limits ≡ rows.old.limits }
 {
     match kept {
-        Some(kept) => match kept.take_rows(rows, piece) {
-            Ok(bytes) => Ok(bytes),
-            Err(_) => Err(StreamStop::NoMemory),
-        },
+        Some(kept) => Ok(kept.take_rows(rows, piece)?),
         None => Ok(0),
     }
 }

@@ -1,4 +1,6 @@
 //! Why a stream stops.
+use crate::follow::FollowFault;
+use frac128::Memory;
 use stl_syntax::UnitFault;
 use trace_reader::TraceRefusal;
 
@@ -22,4 +24,29 @@ pub enum StreamStop {
     NoMemory,
     /// The robustness at node `node` needs this denominator, of 2^60 or more.
     Wide { node: u32, den: u128 },
+}
+
+impl From<Memory> for StreamStop {
+    ghost use Rattle.std.specs.Prelude.{◌≡◌};
+    ghost use Rattle.trace_stream.specs.declared.fault.StreamStop.TheVariants.{NoMemory};
+
+    ghost from_gives = { λ _ stop. stop ≡ NoMemory };
+
+    fn from(_: Memory) -> StreamStop {
+        StreamStop::NoMemory
+    }
+}
+
+impl From<FollowFault> for StreamStop {
+    ghost use Rattle.std.specs.Prelude.{◌≡◌};
+    ghost use Rattle.trace_stream.specs.Following.{stop_of};
+
+    ghost from_gives = { λ fault stop. stop ≡ stop_of fault };
+
+    fn from(fault: FollowFault) -> StreamStop {
+        match fault {
+            FollowFault::Memory => StreamStop::NoMemory,
+            FollowFault::Wide { node, den } => StreamStop::Wide { node, den },
+        }
+    }
 }

@@ -6,16 +6,16 @@ ghost use Rattle.stl_syntax.specs.Trace.{IsTrace};
 ghost use Rattle.stl_syntax.specs.WellFormed.{IsScale};
 ghost use Rattle.trace_reader.specs.TraceText.{Heading, scale_of};
 ghost use Rattle.trace_reader.specs.Reader.{header_of};
-ghost use Rattle.trace_stream.specs.Cases.{IsBegun, IsCase, IsNoBegin, CanKeep, with_row};
+ghost use Rattle.trace_stream.specs.Cases.{IsBegun, IsNoBegin, CanKeep, with_row};
 ghost use Rattle.trace_stream.specs.Streams.{HasStream};
-ghost use Rattle.trace_stream.specs.Following.{Follows, IsFollowed, IsOpened, IsEndedOut, IsHeldUp, IsLive, HasLived};
-ghost use Rattle.trace_stream.specs.Following.{IsLiveOpen, HasLivedOpen, IsLastTaken, IsOver, IsLiveStop, IsOpenStop, stop_of};
+ghost use Rattle.trace_stream.specs.Following.{IsFollowed, IsOpened, IsEndedOut, IsHeldUp, IsLive, HasLived};
+ghost use Rattle.trace_stream.specs.Following.{IsLiveOpen, HasLivedOpen, IsLastTaken, IsOver, IsLiveStop, IsOpenStop};
 ghost use Rattle.trace_stream.specs.declared.case.Case.{Case as Of};
 
-use crate::case::{Case, begin};
+use crate::case::begin;
 use crate::case_reader::{last_fault, next_bytes};
 use crate::fault::{StreamStop, TraceFault};
-use crate::follow::{Follow, FollowFault};
+use crate::follow::Follow;
 use frac128::Memory;
 use std::alloc::Global;
 use stl_syntax::{Formula, Text};
@@ -32,20 +32,6 @@ pub struct Live<F> {
     formula: Formula,
     follower: Option<F>,
     text: Text,
-}
-
-/// What follows a case without rows.
-fn follow<F: Follow>(alloc: Global, case: Case) -> Result<F, StreamStop>
-    requires case { (f : Parsed) × IsCase f case }
-    requires none { case.trace.rows ≡ [] }
-    requires streamed { HasStream F.kind case.formula }
-    ensures ok { IfOk result (λ x. Follows (F.stands x) F.kind case []) }
-    ensures err { IfErr result (λ e. e ≡ StreamStop.NoMemory) }
-{
-    match F::begin(alloc, case) {
-        Ok(follower) => Ok(follower),
-        Err(_) => Err(StreamStop::NoMemory),
-    }
 }
 
 /// What follows a trace from its header, in line `line`, on. It is a call of its own, so that the rows pay nothing for it.
@@ -65,18 +51,8 @@ fn follow_on<F: Follow>(
     ensures kept { OnErr result (follower.new ≡ follower.old) }
 {
     let case = begin(alloc, formula, header, line)?;
-    *follower = Some(follow(alloc, case)?);
+    *follower = Some(F::begin(alloc, case)?);
     Ok(())
-}
-
-/// The reason to stop that a fault of what follows the rows is.
-fn stop_from(fault: FollowFault) -> StreamStop
-    ensures { result ≡ stop_of fault }
-{
-    match fault {
-        FollowFault::Memory => StreamStop::NoMemory,
-        FollowFault::Wide { node, den } => StreamStop::Wide { node, den },
-    }
 }
 
 /// Takes a row. What it answers is added to the text now, or by `flush`.
@@ -95,10 +71,7 @@ fn take_row<F: Follow>(
         → IfErr result (λ e. IsFollowed F.stands F.kind follower.old case made ⊎ (e ≡ StreamStop.NoMemory)) }
 {
     match follower {
-        Some(follower) => match follower.row(row, text) {
-            Ok(()) => Ok(()),
-            Err(fault) => Err(stop_from(fault)),
-        },
+        Some(follower) => Ok(follower.row(row, text)?),
         None => unreachable!(),
     }
 }
@@ -111,10 +84,7 @@ fn flush<F: Follow>(follower: &mut Option<F>, text: &mut Text) -> Result<(), Str
     ensures err { IfErr result (λ e. e ≡ StreamStop.NoMemory) }
 {
     match follower {
-        Some(follower) => match follower.flush(text) {
-            Ok(()) => Ok(()),
-            Err(_) => Err(StreamStop::NoMemory),
-        },
+        Some(follower) => Ok(follower.flush(text)?),
         None => Ok(()),
     }
 }
@@ -128,10 +98,7 @@ fn take_end<F: Follow>(follower: &mut Option<F>, text: &mut Text) -> Result<bool
         → IfErr result (IsHeldUp F.kind (Some c) true text.old text.new) }
 {
     match follower {
-        Some(follower) => match follower.end(text) {
-            Ok(holds) => Ok(holds),
-            Err(fault) => Err(stop_from(fault)),
-        },
+        Some(follower) => Ok(follower.end(text)?),
         None => unreachable!(),
     }
 }

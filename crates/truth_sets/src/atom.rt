@@ -48,11 +48,10 @@ fn go_over(times: &mut Times, first: u32, passage: &Passage) -> Result<(), Memor
     requires inside { (to : ℕ) × TurnsInside (whole (pos first)) (whole (pos to)) passage.now }
     ensures { OnOk result (GoesOver first passage.now times.old times.new) }
 {
-    let begin = row_turn(first, true);
     match passage {
-        Passage::Steady(holds) => times.set_from(begin, *holds),
+        Passage::Steady(holds) => times.set_from(row_turn(first, true), *holds),
         Passage::Turns { before, at, after } => {
-            times.set_from(begin, *before)?;
+            times.set_from(row_turn(first, true), *before)?;
             times.set_from(crossing_turn(at, *after), !*before)
         }
     }

@@ -1,9 +1,7 @@
 mod SignalComposition
 mod LimitLemmas
-mod CourseLemmas
 mod PlayLemmas
 mod SinceLemmas
 mod WalkLemmas
 mod UntilLemmas
 mod SignalExistence
-mod FaultLemmas

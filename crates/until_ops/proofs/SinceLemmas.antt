@@ -14,7 +14,7 @@ use Rattle.pl_signal.specs.declared.knot.Knot.{Knot}
 use Rattle.pl_signal.specs.Knots.{start, IsSignal, IsWorth}
 use Rattle.pl_signal.proofs.Values.{one_value, worth_same}
 use Rattle.pl_signal.proofs.SupLemmas.{signal_inf}
-use Rattle.until_ops.specs.declared.course.Gap.{Gap}
+use Rattle.courses.specs.declared.course.Gap.{Gap}
 use Rattle.rational.specs.Onward.{InOrder, IsOnward}
 use Rattle.until_ops.specs.Untils.{SinceOf}
 use Rattle.rational.proofs.AffineMeetings.{between}
@@ -64,13 +64,14 @@ module _ {P : Type 0} {shape : ShapeOf P} {p q : List (Knot P)} (two : AreSignal
       (at_start shape.lowest shape.highest (IsWorth shape p) (IsWorth shape q) (one_of p two.left) (one_of q two.right) (start p)
       (at x (start p)) (at y (start p)) v here here' (two.laws.highest_is_greatest x (start p)) lesser low)
 
-  module _ {gap : Gap P} (on : Follows shape p q gap)
+  -- over a gap where the since is worth the shape before as it begins
+  module _ {gap : Gap P} (on : Follows shape p q gap) (here : SinceOf shape p q (value gap.from) (at gap.before (value gap.from)))
       (in_order : InOrder (shape.function gap.left) (shape.function gap.right) (value gap.from) (value gap.to)) where
     abbrev OnwardTo : Rational → Extended → Type 0
     OnwardTo t v = IsOnward (at gap.before (value gap.from)) (shape.function gap.left) (shape.function gap.right) (value gap.from) t v
 
     since_here : Since shape.lowest shape.highest (IsWorth shape p) (IsWorth shape q) true (start p) (value gap.from) (at gap.before (value gap.from))
-    since_here = since_of shape.lowest shape.highest (IsWorth shape p) (IsWorth shape q) (start p) (value gap.from) _ on.here
+    since_here = since_of shape.lowest shape.highest (IsWorth shape p) (IsWorth shape q) (start p) (value gap.from) _ here
 
     -- on the gap, up to a time of it that is in or out
     onward : (inside : Bool) (t : Rational) (v : Extended) → value gap.from <ʳ t
@@ -96,9 +97,9 @@ module _ {P : Type 0} {shape : ShapeOf P} {p q : List (Knot P)} (two : AreSignal
     pub end_value : (x y : P) (limit k v : Extended) → OnwardTo (value gap.to) limit
         → IsWorth shape p (value gap.to) (at x (value gap.to)) → IsWorth shape q (value gap.to) (at y (value gap.to))
         → IsGreatest (at y (value gap.to)) limit k → IsLeast (at x (value gap.to)) k v → SinceOf shape p q (value gap.to) v
-    end_value x y limit k v goes here here' greatest lesser =
+    end_value x y limit k v goes left right greatest lesser =
         of_since shape.lowest shape.highest (IsWorth shape p) (IsWorth shape q) (start p) (value gap.to) v
         (at_point shape.lowest shape.highest (IsWorth shape p) (IsWorth shape q) (one_of p two.left) (one_of q two.right) infs (start p) (value gap.to)
         (le_trans on.inside.above (le_of_lt on.later)) limit (at x (value gap.to)) (at y (value gap.to)) k v
-        (onward false (value gap.to) limit on.later (λ u m. m.below) in_order goes) here here'
+        (onward false (value gap.to) limit on.later (λ u m. m.below) in_order goes) left right
         (two.laws.highest_is_greatest x (value gap.to)) greatest lesser (two.laws.lowest_is_least x (value gap.to)))

@@ -1,49 +1,24 @@
 -- A signal that is mirrored about 0 runs back, and stays limited; the until of two signals is the since of the mirrored ones, mirrored.
-use Rattle.std.proofs.Common.{◌≡◌, ◌≤◌, ◌^◌, ◌⊎◌, inl, inr, List, IsTrue, ℤ, pos, ◌-ℤ◌, arith}
+use Rattle.std.proofs.Common.{◌≡◌, ◌^◌, ◌⊎◌, inl, inr, List, IsTrue, ℤ, pos, ◌-ℤ◌, arith}
 use Rattle.value_laws.specs.Members.{ShapeOf, ShapeLaws}
 use Rattle.std.proofs.lemmas.Int.{ints}
-use Rattle.std.specs.Int.RustNames.{unsigned_abs}
-use Rattle.rational.specs.Rational.{Rational, negate, subtract, whole, IsWithin, ◌≈◌}
-use Rattle.rational.specs.Time.{Within}
+use Rattle.rational.specs.Rational.{negate, subtract, whole, ◌≈◌}
 use Rattle.rational.proofs.Order.{le_of_same, ge_of_same, le_trans, same_sym, same_trans}
 use Rattle.rational.proofs.Field.{le_negate, same_negate}
 use Rattle.rational.proofs.Mixed.{within_negate, within_same}
 use Rattle.rational.proofs.AffineLemmas.{same_reflᵉ}
-use Rattle.frac128.specs.Value.{value}
 use Rattle.pl_signal.specs.declared.knot.Knot.{Knot}
-use Rattle.pl_signal.specs.declared.faults.WidePair.TheVariants.{Cross, Value}
-use Rattle.pl_signal.specs.declared.faults.OpFault.{OpFault}
-use Rattle.pl_signal.specs.declared.faults.OpFault.TheVariants as F
-use Rattle.pl_signal.specs.Faults.{CanMirror, OfPair}
 use Rattle.pl_signal.specs.Knots.{start, stop, HasShape, IsSignal, IsWorth}
 use Rattle.pl_signal.specs.Limits.{IsLimited}
 use Rattle.pl_signal.specs.Moves.{Tells, BasesFrom}
 use Rattle.pl_signal.proofs.Values.{worth_within, worth_same}
 use Rattle.pl_signal.proofs.Telling.{told}
 use Rattle.until_ops.specs.Untils.{SinceOf, UntilOf, BasesOfTwo}
-use Rattle.until_ops.specs.Walks.{IsPairWithin}
 use Rattle.pl_signal.proofs.Limits.{limited, limited_start, limited_stop, worth_bounded}
 use Rattle.rational.proofs.UntilBounds.{since_bounded}
 use Rattle.rational.proofs.TimeFunctions.{until_is_function}
 use Rattle.rational.proofs.PlayBack.{AreBack}
 use Rattle.rational.proofs.RunningBack.{RunsBack, about_zero, until_runs_back}
-
--- a fault with times in a domain within 2^34 may be mirrored about 0
-pub can_mirror : {A : Type 0} {shape : ShapeOf A} {from to : Rational} (laws : ShapeLaws shape) (e : OpFault A) → IsWithin (2 ^ 34) from → IsWithin (2 ^ 34) to
-    → IsPairWithin from to e → OfPair (CanMirror shape (pos 0)) e
-can_mirror {A} {shape} {from} {to} laws e low high h = by_fault e h
-  where
-    near : (t : Rational) → Within from to t → IsWithin (2 ^ 34) t
-    near t w = (le_trans low.0 w.above, le_trans w.below high.1)
-
-    size : (b : ℤ) → unsigned_abs b ≤ 2 ^ 34 → unsigned_abs (pos 0 -ℤ b) ≤ 2 ^ 34
-    size b h = omega (arith, ints, h)
-
-    by_fault : (e : OpFault A) → IsPairWithin from to e → OfPair (CanMirror shape (pos 0)) e
-    by_fault F.Memory h = tt
-    by_fault (F.Wide (Cross p q a b den)) h =
-        (size (shape.base p) (laws.base_within p), size (shape.base q) (laws.base_within q), near (value a) h.0, near (value b) h.1)
-    by_fault (F.Wide (Value p at den)) h = (size (shape.base p) (laws.base_within p), near (value at) h)
 
 -- the signal of the one list, which is limited, is that of the other, mirrored about 0
 pub record IsMirrorOf {P : Type 0} (shape : ShapeOf P) (ks new : List (Knot P)) : Type 0 where

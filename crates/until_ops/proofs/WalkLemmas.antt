@@ -22,13 +22,13 @@ use Rattle.pl_signal.specs.Knots.{time, start, stop, HasShape, IsWorth}
 use Rattle.pl_signal.proofs.Telling.{TellsSoFar, tells_first, tells_join}
 use Rattle.pl_signal.proofs.Values.{one_value, worth_at, shape_at, shape_after}
 use Rattle.pl_signal.proofs.Moving.{first_is, same_knot, at_knot_within, clip_within}
-use Rattle.until_ops.specs.declared.course.Course.{Course}
-use Rattle.until_ops.specs.declared.course.Gap.{Gap}
-use Rattle.until_ops.specs.declared.course.Meet.{Meet}
+use Rattle.courses.specs.declared.course.Course.{Course}
+use Rattle.courses.specs.declared.course.Gap.{Gap}
+use Rattle.courses.specs.declared.course.Meet.{Meet}
 use Rattle.until_ops.specs.declared.since.Stand.{Stand}
 use Rattle.pl_signal.specs.Joining.{Joins}
 use Rattle.pl_signal.specs.Places.{IsPlace}
-use Rattle.until_ops.specs.Courses.{IsPointOf, IsOfGap, IsPlayed, IsCourse, IsMeet, IsGap}
+use Rattle.courses.specs.Courses.{IsPointOf, IsOfGap, IsPlayed, IsCourse, IsMeet, IsGap}
 use Rattle.until_ops.specs.Untils.{SinceOf, BasesOfTwo}
 use Rattle.until_ops.specs.Walks.{AreOperands, CrossHere, BreakHere, Stands, rest}
 use Rattle.until_ops.proofs.LimitLemmas.{after_small}
@@ -224,7 +224,6 @@ module _ {P : Type 0} {shape : ShapeOf P} {p q built : List (Knot P)} {now : Sta
       part_on_gap shape q now.right l t w.stands.right w.at.at_l w.at.at_n (le_trans b w.at.right) x y,
       same_reflᵉ _,
     );
-    here = w.stands.here;
     event = event_of now.met refl w.stands.event;
   }
 
@@ -295,7 +294,7 @@ module _ {P : Type 0} {shape : ShapeOf P} {p q built : List (Knot P)} {now : Sta
   played_small to x t (inl e) a b = subst (IsSmall shape t) (sym e) (left_small t a b)
   played_small to x t (inr (inl e)) a b = subst (IsSmall shape t) (sym e) (right_small t a b)
   played_small to x t (inr (inr (o, of_gap, fixed, still))) a b =
-      bounded_same (2 ^ 31) (value_at (shape.function x) t) (value_at (shape.function o) (value now.at)) (fixed t) (of_gap_small to o of_gap)
+      bounded_same (2 ^ 31) (value_at (shape.function x) t) (value_at (shape.function o) (value now.at)) (fixed t) (of_gap_small to o of_gap.0)
 
   -- a shape that is in play on it is bounded
   pub played_level : (to : Frac) (x : P) → IsPlayed shape (gap_to now k l to) x → HasBoundedLevel (2 ^ 31) (shape.function x)
@@ -351,8 +350,8 @@ module _ {P : Type 0} {shape : ShapeOf P} {p q built : List (Knot P)} {now : Sta
   follows = gap_follows w turn.time e.turning.after e.turning.not_later
 
   here : SinceOf shape p q (value turn.time) (value_at (shape.function v) (value turn.time))
-  here = end_value w.two follows e.turning.in_order x.shape y.shape e.point.limit e.point.most _
-      (e.goes.onward (value turn.time) e.point.limit e.turning.after (le_refl (value turn.time)) e.point.is_limit)
+  here = end_value w.two follows w.stands.here e.turning.in_order x.shape y.shape e.point.limit e.point.most _
+      (e.goes.onward (value turn.time) e.point.limit (le_of_lt e.turning.after) (le_refl (value turn.time)) e.point.is_limit)
       e.left.worth e.right.worth e.point.is_most e.point.is_value
 
   small : (v ≡ course.first) ⊎ (v ≡ course.second) ⊎ (v ≡ x.shape) ⊎ (v ≡ y.shape) → IsSmall shape (value turn.time) v
@@ -430,7 +429,7 @@ module _ {P : Type 0} {shape : ShapeOf P} {p q built : List (Knot P)} {now : Sta
           (record { signal = w.stands.signal; worth = w.stands.worth }) joins
           (λ t u after before h.
           let after' = subst (λ e. e <ʳ t) w.stands.ends after in
-          gap_value w.two follows e.turning.in_order t u after' before (e.goes.onward t u after' (le_of_lt before) h))
+          gap_value w.two follows w.stands.here e.turning.in_order t u after' before (e.goes.onward t u (le_of_lt after') (le_of_lt before) h))
           here
 
       by_shape : (r : P) → HasShape built r ⊎ (r ≡ course.first) ⊎ (r ≡ course.second) ⊎ (r ≡ v) → IsOfOperands shape p q r

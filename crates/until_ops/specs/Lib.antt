@@ -1,3 +1,2 @@
 pub mod Untils
-pub mod Courses
 pub mod Walks

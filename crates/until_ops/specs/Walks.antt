@@ -8,25 +8,11 @@ use Rattle.rational.specs.InPlay.{IsBreakpoint, IsCrossing}
 use Rattle.frac128.specs.Value.{value}
 use Rattle.value_laws.specs.Members.{ShapeOf}
 use Rattle.pl_signal.specs.declared.knot.Knot.{Knot}
-use Rattle.pl_signal.specs.declared.faults.WidePair.{WidePair}
-use Rattle.pl_signal.specs.declared.faults.WidePair.TheVariants.{Cross, Value}
-use Rattle.pl_signal.specs.declared.faults.OpFault.{OpFault}
-use Rattle.pl_signal.specs.declared.faults.OpFault.TheVariants as F
 use Rattle.pl_signal.specs.Knots.{start, stop, HasShape, IsSignal, IsWorth}
 use Rattle.pl_signal.specs.Limits.{IsLimited}
 use Rattle.until_ops.specs.declared.since.Stand.{Stand}
 use Rattle.pl_signal.specs.Places.{IsPlace}
 use Rattle.until_ops.specs.Untils.{SinceOf}
-
--- the times of the pair lie from the one to the other
-abbrev pub PairWithin : {P : Type 0} → Rational → Rational → WidePair P → Type 0
-PairWithin from to (Cross p q a b den) = Within from to (value a) × Within from to (value b)
-PairWithin from to (Value p at den) = Within from to (value at)
-
--- the times of a pair that is refused do
-abbrev pub IsPairWithin : {P : Type 0} → Rational → Rational → OpFault P → Type 0
-IsPairWithin from to F.Memory = Unit {0}
-IsPairWithin from to (F.Wide pair) = PairWithin from to pair
 
 -- what remains of both signals, and of the crossing before the next knot
 abbrev pub rest : {P : Type 0} → List (Knot P) → List (Knot P) → Stand P → ℕ

@@ -1,7 +1,6 @@
 //! `until` and `since` over signals.
 #![tactic(auto)]
 
-mod course;
 pub mod laws;
 mod since;
 mod until;

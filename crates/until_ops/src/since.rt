@@ -14,9 +14,10 @@ ghost use Rattle.pl_signal.specs.Wide.{HasCause};
 ghost use Rattle.frac128.specs.declared.frac.Frac.{Frac};
 ghost use Rattle.pl_signal.specs.Joining.{IsGapFault, Joins};
 ghost use Rattle.until_ops.specs.Untils.{BasesOfTwo, SinceOf, SinceStep};
-ghost use Rattle.until_ops.specs.Walks.{AreOperands, IsPairWithin, Stands, rest};
+ghost use Rattle.courses.specs.Pairs.{IsPairWithin};
+ghost use Rattle.until_ops.specs.Walks.{AreOperands, Stands, rest};
 
-use crate::course::{Course, Gap, course_over, is_under, point, turning};
+use courses::{Course, Gap, course_over, is_under, point, turning};
 use frac128::{Frac, Memory};
 use pl_signal::{Builder, Next, OpFault, Side, Signal, WidePair, chosen, fault_of};
 use std::cmp::Ordering;

@@ -6,7 +6,7 @@ ghost use Rattle.pl_signal.specs.Limits.{IsLimited};
 ghost use Rattle.pl_signal.specs.Moves.{Tells};
 ghost use Rattle.pl_signal.specs.Wide.{HasCause};
 ghost use Rattle.until_ops.specs.Untils.{BasesOfTwo, UntilOf, UntilStep};
-ghost use Rattle.until_ops.specs.Walks.{IsPairWithin};
+ghost use Rattle.courses.specs.Pairs.{IsPairWithin};
 
 use crate::since_from_start;
 use pl_signal::{OpFault, Signal};

@@ -2,7 +2,7 @@
 -- on downward has an edge.
 use Rattle.std.proofs.Common.{◌⊎◌, inl, inr, List, [], ◌∷◌, pos, subst, arith, mul-pos}
 use Rattle.rational.specs.Rational.{Rational, ◌<ʳ◌, ◌≤ʳ◌, whole, add, subtract, negate, middle}
-use Rattle.rational.specs.Extended.{Extended, minus_infinity, finite, infinity, ◌≤ᵉ◌, ◌<ᵉ◌, ◌≈ᵉ◌, opposite, IsLeast, IsGreatest}
+use Rattle.rational.specs.Extended.{Extended, minus_infinity, finite, infinity, ◌≤ᵉ◌, ◌<ᵉ◌, opposite, IsLeast, IsGreatest}
 use Rattle.rational.proofs.Order.{le_or_lt, left_of_middle, right_of_middle}
 use Rattle.rational.proofs.ExtendedLemmas.{le_totalᵉ, clashᵉ, le_transᵉ, lt_of_lt_of_leᵉ, lt_of_le_of_ltᵉ, le_of_ltᵉ, lt_opposite, opposite_twice}
 use Rattle.values_exist.proofs.Sums.{Sum, value}
@@ -30,13 +30,6 @@ number_between (finite x) infinity h = (add x (whole (pos 1)), more x, tt)
     more : (x : Rational) → x <ʳ add x (whole (pos 1))
     more x = record { lt = omega (arith, mul-pos x.positive x.positive) }
 number_between infinity w h = absurd h
-
--- one value by two pairs is one edge
-pub edge_same : {C : Rational → Type 0} (r s : Extended) → r ≈ᵉ s → IsEdge C r → IsEdge C s
-edge_same r s e h = record {
-  bound = λ x c. le_transᵉ (finite x) r s (h.bound x c) e.at_most;
-  reached = λ x l. h.reached x (lt_of_lt_of_leᵉ (finite x) s r l e.at_least);
-}
 
 -- sets with the same members have one edge
 pub edge_alike : {C D : Rational → Type 0} (r : Extended) → ((x : Rational) → C x → D x) → ((x : Rational) → D x → C x) → IsEdge C r → IsEdge D r

@@ -65,7 +65,8 @@ module _ (v : Verdicts) (c : Case) (made : List ℕ) where
       absurd (false≢true (sym o.no_atom ∙ ap (λ (f : Formula). node_is_atom f.nodes (length f.nodes - 1)) (sym o.formula) ∙ e))
 
   -- a row more, whose text is owed
-  pub owes_on : IsOpened → length v.times.items < most_rows → node_is_atom v.network.formula.nodes (length v.network.formula.nodes - 1) ≡ false → (after : Verdicts) (r : Row)
+  pub owes_on : IsOpened → length v.times.items < most_rows
+      → node_is_atom v.network.formula.nodes (length v.network.formula.nodes - 1) ≡ false → (after : Verdicts) (r : Row)
       → ((nodes : List Node) (header : Header) (events : List Event) → Stands nodes header v.network.net events
       → Stands nodes header after.network.net (events ++ row r ∷ [])) → KeepsTime v after r → IsOwing after (with_row r c) made
   owes_on (inl k) room e after r stands by =

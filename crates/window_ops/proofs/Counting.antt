@@ -85,9 +85,6 @@ module _ {P : Type 0} (shape : ShapeOf P) (laws : ShapeLaws shape) (knots : List
       by_case t (inl m) = inl (h t m)
       by_case t (inr m) = inr m
 
-  start_eq : value way.start ≡ start knots
-  start_eq = is_way.starts
-
   module _ (piece : Piece P) (value' : P) (clamped : Turn) (is_clamped : IsClamped way piece.from clamped) (v : IsValueOf shape knots way piece value')
       (order : value way.start ≤ʳ value way.stop) where
     abbrev part : Part P

@@ -23,7 +23,6 @@ use Rattle.envelope.specs.Standing.{Part, Counts, IsOneOf}
 use Rattle.envelope.proofs.TurnOrder.{at_of_come}
 use Rattle.envelope.proofs.Bests.{no_better_same, no_better_trans}
 use Rattle.window_ops.specs.declared.offsets.Way.{Way}
-use Rattle.window_ops.specs.declared.counted.Piece.{Piece}
 use Rattle.window_ops.specs.Over.{Over}
 use Rattle.window_ops.specs.Going.{CanCount, Goes, HasCounted, InDomain, IsCovered, IsLeft, IsPiece, IsSpare, IsWay, StandsAt, turn_of}
 use Rattle.window_ops.proofs.Counting.{goes_later, within_domain}
@@ -179,9 +178,6 @@ module _ {P : Type 0} (shape : ShapeOf P) (laws : ShapeLaws shape) (knots : List
   -- the point of a knot
   module _ (i : ℕ) (k : Knot P) (here : slice_get knots i ≡ Some k) (from until : Turn)
       (span : Span shape laws knots way is_way k.time k.time (not way.over.high_in) way.over.low_in from until) where
-    abbrev point_piece : Piece P
-    point_piece = record { at = k.time; from = from; item = record { value = k.point; until = until; slope = None } }
-
     point_over : (t : Rational) → HasCome from t → IsToCome until t → Over (start knots) (stop knots) way.over t (time k)
     point_over t h m = record {
       inside = knot_in shape laws knots way is_way i k here;

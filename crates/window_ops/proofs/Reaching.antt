@@ -4,15 +4,14 @@ use Rattle.std.specs.Prelude.{slice_get}
 use Rattle.std.proofs.lemmas.Bool.{false≢true}
 use Rattle.rational.specs.Rational.{whole, middle}
 use Rattle.rational.specs.Time.{Rational, Within, Precedes, shifted, ◌≤ʳ◌, ◌<ʳ◌, ◌≈◌}
-use Rattle.rational.specs.Extended.{Extended, Affine, value_at, ◌≈ᵉ◌}
+use Rattle.rational.specs.Extended.{Affine, value_at, ◌≈ᵉ◌}
 use Rattle.rational.specs.Affine.{IsSteady}
 use Rattle.rational.specs.InPlay.{HasTime, IsConstant}
 use Rattle.rational.proofs.Order.{le_refl, le_of_lt, le_of_same, ge_of_same, le_or_lt, le_trans, lt_of_le_of_lt}
 use Rattle.rational.proofs.Order.{lt_of_lt_of_le, same_refl, left_of_middle}
 use Rattle.rational.proofs.Order.{right_of_middle}
 use Rattle.rational.proofs.LimitLemmas.{earlier_end, later_end}
-use Rattle.rational.proofs.Shift.{le_shift_by}
-use Rattle.rational.proofs.TimeLemmas.{precedes_of_lt, shifted-add, later_of}
+use Rattle.rational.proofs.TimeLemmas.{precedes_of_lt, later_of}
 use Rattle.rational.proofs.AffineLemmas.{same_symᵉ, same_transᵉ}
 use Rattle.frac128.specs.Value.{value}
 use Rattle.frac128.specs.declared.frac.Frac.{Frac}
@@ -50,14 +49,6 @@ to_come_precedes false k u (inl h) = h
 to_come_precedes false k u (inr h) = absurd (false≢true h.1)
 
 module _ {P : Type 0} (shape : ShapeOf P) (laws : ShapeLaws shape) (knots : List (Knot P)) (way : Way) (is_way : IsWay shape knots way) where
-  abbrev F : Rational → Extended → Type 0
-  F = IsWorth shape knots
-
-  -- the low end is not past the high end
-  pub low_before_high : (t : Rational) → shifted t way.over.low ≤ʳ shifted t way.over.high
-  low_before_high t = le_trans (le_of_same (shifted-add t way.over.low))
-      (le_trans (le_shift_by t is_way.small.order) (ge_of_same (shifted-add t way.over.high)))
-
   -- a knot lies in the domain
   pub knot_in : (i : ℕ) (k : Knot P) → slice_get knots i ≡ Some k → Within (start knots) (stop knots) (time k)
   knot_in i k h = worth_within shape knots (time k) (value_at (shape.function k.point) (time k)) is_way.signal
@@ -103,10 +94,6 @@ module _ {P : Type 0} (shape : ShapeOf P) (laws : ShapeLaws shape) (knots : List
           gap_over t u (lt_of_le_of_lt m.1 (left_of_middle e.1)) (lt_of_lt_of_le (right_of_middle e.1) e.2)
               (lt_of_le_of_lt m.2 (left_of_middle e.1)) (lt_of_lt_of_le (right_of_middle e.1) e.3),
         )
-
-    -- a stretch of the gap up to its end, or up to the window's high end
-    pub stretch : (t l : Rational) → l <ʳ time n → l <ʳ shifted t way.over.high → (r : Rational) × (l <ʳ r) × (r ≤ʳ time n) × (r ≤ʳ shifted t way.over.high)
-    stretch t l a b = earlier_end a b
 
     -- a limit at the first knot is in play
     pub right_in_play : (t : Rational) (line : Affine) → time k <ʳ shifted t way.over.high → shifted t way.over.low ≤ʳ time k

@@ -2,9 +2,8 @@
 use Rattle.std.proofs.Common.{arith, ◌≡◌, ◌⊎◌, inl, inr, ℤ, pos, ◌^◌, List, Bool, true, not, refl, sym, ◌∙◌, subst}
 use Rattle.std.specs.Prelude.{neg_ℤ, ◌≤ℤ◌, ◌<ℤ◌, ◌↔◌}
 use Rattle.std.proofs.lemmas.Bool.{false≢true}
-use Rattle.std.proofs.Math.Nat.{mul-lt-mul_of_pos_right}
 use Rattle.rational.specs.Rational.{IsWithin, add, whole}
-use Rattle.rational.specs.Time.{Rational, Within, shifted, later, ◌≤ʳ◌, ◌<ʳ◌, ◌≈◌}
+use Rattle.rational.specs.Time.{Rational, Within, shifted, ◌≤ʳ◌, ◌<ʳ◌, ◌≈◌}
 use Rattle.rational.proofs.Order.{le_refl, le_of_same, le_trans, lt_of_le_of_lt, lt_of_lt_of_le, same_refl, same_sym, same_trans}
 use Rattle.rational.proofs.Mixed.{within_more, within_same}
 use Rattle.rational.proofs.TimeLemmas.{lt_offsets, le_ahead, behind_le}
@@ -20,10 +19,6 @@ use Rattle.window_ops.specs.declared.offsets.Way.{Way}
 use Rattle.window_ops.specs.Going.{IsNonEmpty, IsWay, turn_of}
 use Rattle.window_ops.proofs.Ends.{at_is, come_moved, ge_from, gt_from, le_from}
 use Rattle.window_ops.proofs.Shifts.{high_from, high_to, low_from, low_to, turned_from, turned_to, within_sum}
-
--- a time lies before what is a tick later
-after_tick : (t : Rational) → t <ʳ later t 1
-after_tick t = let m = mul-lt-mul_of_pos_right t.positive t.positive in record { lt = omega (arith, m) }
 
 module _ {P : Type 0} (shape : ShapeOf P) (laws : ShapeLaws shape) (knots : List (Knot P)) (way : Way) (is_way : IsWay shape knots way) where
   -- a piece counts from the turn at which the high end comes to the one time, until that at which the low end comes to the other

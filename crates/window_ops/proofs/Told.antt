@@ -65,9 +65,6 @@ best_is_function shape knots over Least = record {
 
 module _ {P : Type 0} (shape : ShapeOf P) (laws : ShapeLaws shape) (knots : List (Knot P)) (way : Way) (is_way : IsWay shape knots way) (walk : Walk P)
     (met : HasMet shape knots way walk) where
-  none : Extended
-  none = none_of way.side shape.lowest shape.highest
-
   -- no value in the window is better than the best of the parts
   bound : (t : Rational) (v : Extended) → InDomain shape knots way t → IsBestOf shape way.side met.parts t v
       → (w : Extended) → ((u : Rational) × Over (start knots) (stop knots) way.over t u × IsWorth shape knots u w) → IsNoBetter way.side w v

@@ -3,7 +3,7 @@ use Rattle.std.proofs.Common.{◌⊎◌, inl, inr}
 use Rattle.rational.specs.Time.{Rational, ◌<ʳ◌, ◌≈◌}
 use Rattle.rational.specs.Extended.{Extended, Affine, value_at, ◌≈ᵉ◌}
 use Rattle.rational.specs.Windows.{Function, Window}
-use Rattle.rational.proofs.ExtendedLemmas.{le_totalᵉ, lt_of_lt_of_leᵉ, lt_of_le_of_ltᵉ, clashᵉ}
+use Rattle.rational.proofs.ExtendedLemmas.{lt_of_lt_of_leᵉ, lt_of_le_of_ltᵉ, clashᵉ}
 use Rattle.rational.proofs.AffineLemmas.{near_start, near_stop, above_start, above_stop, value_same}
 use Rattle.pl_signal.specs.declared.joining.Side.{Side}
 use Rattle.pl_signal.specs.declared.joining.Side.TheVariants.{Least, Greatest}
@@ -16,11 +16,6 @@ use Rattle.window_ops.specs.Going.{Reaches}
 pub worse_than_better : (side : Side) (w v x : Extended) → IsWorse side w v → IsNoBetter side v x → IsWorse side w x
 worse_than_better Greatest w v x h k = lt_of_lt_of_leᵉ w v x h k
 worse_than_better Least w v x h k = lt_of_le_of_ltᵉ x v w k h
-
--- a value is no better than another, or that one is worse
-pub no_better_or_worse : (side : Side) (v w : Extended) → IsNoBetter side v w ⊎ IsWorse side w v
-no_better_or_worse Greatest v w = le_totalᵉ v w
-no_better_or_worse Least v w = le_totalᵉ w v
 
 -- not both
 pub worse_clash : {X : Type 0} (side : Side) (v w : Extended) → IsWorse side w v → IsNoBetter side v w → X

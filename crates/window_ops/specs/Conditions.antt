@@ -1,16 +1,10 @@
 -- What a window asks of the bases of the shapes of a signal, and what it says of its own.
-use Rattle.std.specs.Prelude.{◌≡◌, ◌⊎◌, ℕ, ◌≤◌, ◌^◌, ◌-ℤ◌, ◌+ℤ◌, ◌≤ℤ◌, pos, neg_ℤ, IsTrue, List, Option, Some, None}
-use Rattle.std.specs.Int.RustNames.{unsigned_abs}
-use Rattle.rational.specs.Time.{◌≤ʳ◌, later}
+use Rattle.std.specs.Prelude.{◌≡◌, ◌⊎◌, ℕ, ◌^◌, ◌-ℤ◌, ◌+ℤ◌, ◌≤ℤ◌, pos, neg_ℤ, IsTrue, List, Option, Some, None}
 use Rattle.value_laws.specs.Members.{ShapeOf}
 use Rattle.pl_signal.specs.declared.knot.Knot.{Knot}
-use Rattle.pl_signal.specs.Knots.{HasShape, start, stop}
+use Rattle.pl_signal.specs.Knots.{HasShape}
 
 module _ {P : Type 0} (shape : ShapeOf P) where
-  -- the shapes may be moved by k
-  abbrev pub HaveRoom : ℕ → List (Knot P) → Type 0
-  HaveRoom k knots = (p : P) → HasShape knots p → unsigned_abs (shape.base p -ℤ pos k) ≤ 2 ^ 34
-
   -- each base is a time from -2^32 to 2^33
   abbrev pub AreNear : List (Knot P) → Type 0
   AreNear knots = (p : P) → HasShape knots p → (neg_ℤ (pos (2 ^ 32)) ≤ℤ shape.base p) × (shape.base p ≤ℤ pos (2 ^ 33))
@@ -20,11 +14,6 @@ module _ {P : Type 0} (shape : ShapeOf P) where
   abbrev pub BasesAhead : ℕ → ℕ → List (Knot P) → List (Knot P) → Type 0
   BasesAhead a b old new = (p : P) → HasShape new p → IsTrue (shape.moves p) → (q : P) × HasShape old q
       × IsTrue (shape.moves q) × ((shape.base p ≡ shape.base q -ℤ pos a) ⊎ (shape.base p ≡ shape.base q -ℤ pos b))
-
-  -- the same, where the larger bound counts only if it does not reach beyond the domain from the very start
-  abbrev pub BasesReached : ℕ → ℕ → List (Knot P) → List (Knot P) → Type 0
-  BasesReached a b old new = (p : P) → HasShape new p → IsTrue (shape.moves p) → (q : P) × HasShape old q
-      × IsTrue (shape.moves q) × ((shape.base p ≡ shape.base q -ℤ pos a) ⊎ ((shape.base p ≡ shape.base q -ℤ pos b) × (later (start old) b ≤ʳ stop old)))
 
   -- more by one of the finite bounds
   abbrev pub BasesBehind : ℕ → Option ℕ → List (Knot P) → List (Knot P) → Type 0

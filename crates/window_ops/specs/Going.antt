@@ -272,10 +272,6 @@ module _ {P : Type 0} (shape : ShapeOf P) (knots : List (Knot P)) where
     abbrev pub ComesTo : ℕ → Bool → ℕ → Bool → Walk P → Walk P → Type 0
     ComesTo i after j after' old new = (parts : List (Part P)) → StandsBy i after parts old → (parts' : List (Part P)) × StandsBy j after' parts' new
 
-    -- a refusal on the way has a cause
-    abbrev pub Stops : ℕ → Bool → Walk P → Option (WidePair P) → Walk P → Type 0
-    Stops i after old fault new = (parts : List (Part P)) → StandsBy i after parts old → HasRefused fault new
-
     -- the walk has met all of the signal
     pub record HasMet (walk : Walk P) : Type 0 where
       pub high : Turn

@@ -78,7 +78,7 @@ pub(crate) fn at_high<P: Shape>(over: &Offsets, shape: &P) -> P
     shape.shift(over.high)
 }
 
-/// The same of the low end.
+/// The shape that is at each time what this one is where the low end of the window is.
 pub(crate) fn at_low<P: Shape>(over: &Offsets, shape: &P) -> P
     requires small { IsSmall over.now }
     requires room { unsigned_abs (P.base shape.now -ℤ over.now.low) ≤ 2 ^ 34 }

@@ -46,7 +46,7 @@ returns c =
     let read = read_next k c.args.trace.now c.loop-at.at c.loop-at.step.gap c.loop-at.step.next c.atom-atom.ensures.sound.limit i.step in
     way_is c.args.bound.now c.args.node k c.atom-atom.ensures.at c.args.trace.now c.args.r c.loop-at.at (c.loop-at.at + 1)
     c.loop-at.step.gap c.loop-at.step.next
-    (to_z w64 (of_z w64 c.loop-at.step.next)) c.passage_over.result c.holds.result (record {
+    (to_z w64 (of_z w64 c.loop-at.step.next)) c.passage_over.result c.holds-holds.result (record {
       count = omega arith;
       begins = i.begins;
       order = i.order;
@@ -54,6 +54,6 @@ returns c =
       step = i.step;
       as_read = read;
       passes = c.passage_over.ensures;
-      at_end = c.holds.ensures ∙ c.truth_at.ensures ∙ ap (λ m. compares k.rel (whole m)) read;
+      at_end = c.holds-holds.ensures ∙ c.truth_at.ensures ∙ ap (λ m. compares k.rel (whole m)) read;
       stays = i.stays;
     })

@@ -6,8 +6,8 @@ use Rattle.frac128.specs.Value.{value}
 use Rattle.rational.specs.Places.{After, Before}
 use Rattle.rational.proofs.PlaceLemmas.{after_at_most, upto_earlier}
 use Rattle.frac128.specs.Cuts.{is_after, place}
-use Rattle.early_verdict.specs.Spans.{IsOn, Lies}
-use Rattle.early_verdict.specs.declared.stretch.Stretch.{Stretch}
+use Rattle.growing_sets.specs.Spans.{IsOn, Lies}
+use Rattle.growing_sets.specs.declared.stretch.Stretch.{Stretch}
 use Rattle.early_verdict.proofs.AnewLemmas.{after_earlier, time_before}
 use Rattle.early_verdict.proofs.anew.decisive.Goals as goal
 

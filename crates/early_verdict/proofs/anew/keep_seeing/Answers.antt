@@ -4,12 +4,12 @@ use Rattle.rational.specs.Rational.{FitsFloor, add, whole}
 use Rattle.frac128.specs.Value.{value}
 use Rattle.rational.specs.Places.{Same, moved_begin}
 use Rattle.frac128.specs.Cuts.{place}
-use Rattle.early_verdict.specs.Spans.{AreTidy, Lies}
+use Rattle.growing_sets.specs.Spans.{AreTidy, Lies}
 use Rattle.early_verdict.proofs.AnewLemmas.{after_moved, after_shared, first_begins, sees_one}
-use Rattle.early_verdict.proofs.HoldingLemmas.{among_at}
+use Rattle.growing_sets.proofs.HoldingLemmas.{among_at}
 use Rattle.rational.proofs.PlaceLemmas.{after_same, same_places}
 use Rattle.rational.proofs.Mixed.{move_fits}
-use Rattle.early_verdict.proofs.WindowLemmas.{near_fits, bound_near}
+use Rattle.growing_sets.proofs.WindowLemmas.{near_fits, bound_near}
 use Rattle.early_verdict.proofs.SetsTell.{none_of}
 use Rattle.early_verdict.proofs.anew.keep_seeing.Goals as goal
 

@@ -1,5 +1,5 @@
 use Rattle.std.proofs.Common.{◌⊎◌}
-use Rattle.early_verdict.specs.Spans.{IsOn}
+use Rattle.growing_sets.specs.Spans.{IsOn}
 use Rattle.early_verdict.proofs.SetsTell.{says_of, was_said, had_yes, had_no, neither, not_with}
 use Rattle.early_verdict.proofs.connectives.step_implication.Goals as goal
 

@@ -1,4 +1,4 @@
-use Rattle.early_verdict.specs.Spans.{IsOn}
+use Rattle.growing_sets.specs.Spans.{IsOn}
 use Rattle.early_verdict.proofs.SetsTell.{says_of, was_said, had_yes, had_no}
 use Rattle.early_verdict.proofs.connectives.step_negation.Goals as goal
 

@@ -1,6 +1,6 @@
 use Rattle.std.proofs.Common.{sym, subst}
 use Rattle.frac128.specs.Value.{value}
-use Rattle.early_verdict.specs.Spans.{Lies}
+use Rattle.growing_sets.specs.Spans.{Lies}
 use Rattle.early_verdict.proofs.LettingLemmas.{asked_at}
 use Rattle.early_verdict.proofs.Splitting.{at_split}
 use Rattle.early_verdict.proofs.letting.ask_from.Goals as goal

@@ -5,7 +5,7 @@ use Rattle.rational.proofs.Order.{ge_of_same, le_of_same, le_trans}
 use Rattle.rational.proofs.TimeLemmas.{later-add}
 use Rattle.rational.proofs.Mixed.{move_fits}
 use Rattle.frac128.specs.Value.{value}
-use Rattle.early_verdict.proofs.WindowLemmas.{near_fits, bound_near}
+use Rattle.growing_sets.proofs.WindowLemmas.{near_fits, bound_near}
 use Rattle.early_verdict.proofs.letting.cut_after.Goals as goal
 
 pub shift_begin-requires : goal.shift_begin-requires

@@ -5,7 +5,7 @@ use Rattle.rational.proofs.Order.{le_of_same}
 use Rattle.rational.proofs.Mixed.{move_fits}
 use Rattle.frac128.specs.Value.{value}
 use Rattle.early_verdict.proofs.Windowing.{le_back}
-use Rattle.early_verdict.proofs.WindowLemmas.{near_fits}
+use Rattle.growing_sets.proofs.WindowLemmas.{near_fits}
 use Rattle.early_verdict.proofs.letting.cut_before.Goals as goal
 
 pub shift_begin-requires : goal.shift_begin-requires

@@ -3,7 +3,7 @@ use Rattle.std.specs.Prelude.{MatchOption}
 use Rattle.frac128.specs.Value.{value}
 use Rattle.early_verdict.specs.Fitting.{ArePartsTidy}
 use Rattle.early_verdict.specs.Letting.{ArePartsCut, IsFailingInside, IsHoldingInside}
-use Rattle.early_verdict.specs.declared.stretch.Stretch.{Stretch}
+use Rattle.growing_sets.specs.declared.stretch.Stretch.{Stretch}
 use Rattle.early_verdict.specs.declared.sets.Parts.{Parts}
 use Rattle.early_verdict.proofs.letting.cut_run.Goals as goal
 

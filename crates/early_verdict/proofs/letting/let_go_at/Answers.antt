@@ -8,7 +8,7 @@ use Rattle.stl_syntax.specs.declared.node.Node.TheVariants.{Since, Until}
 use Rattle.stl_syntax.proofs.PostOrderLemmas.{placed, child_below}
 use Rattle.stl_syntax.proofs.FormulaLemmas.{below_later}
 use Rattle.frac128.specs.Cuts.{place}
-use Rattle.early_verdict.specs.Spans.{AreTidy, Lies}
+use Rattle.growing_sets.specs.Spans.{AreTidy, Lies}
 use Rattle.early_verdict.specs.declared.sets.Sets.{Sets}
 use Rattle.early_verdict.specs.Fitting.{AreSetsTidy, Lists}
 use Rattle.early_verdict.specs.Letting.{AreAskedBy, IsDecisive, IsEndlessCutAt}

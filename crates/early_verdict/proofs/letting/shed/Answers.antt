@@ -1,5 +1,5 @@
 use Rattle.std.proofs.Common.{◌⊎◌, inl, inr, sym, subst}
-use Rattle.early_verdict.specs.Spans.{IsOn, Lies}
+use Rattle.growing_sets.specs.Spans.{IsOn, Lies}
 use Rattle.early_verdict.proofs.LettingLemmas.{told_early}
 use Rattle.early_verdict.proofs.letting.shed.Goals as goal
 

@@ -1,5 +1,5 @@
 use Rattle.std.proofs.Common.{◌∙◌, inl, inr, refl}
-use Rattle.early_verdict.proofs.HoldingLemmas.{among_at}
+use Rattle.growing_sets.proofs.HoldingLemmas.{among_at}
 use Rattle.early_verdict.proofs.LettingLemmas.{take_one}
 use Rattle.early_verdict.proofs.letting.show_first.Goals as goal
 

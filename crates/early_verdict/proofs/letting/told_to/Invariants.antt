@@ -2,7 +2,7 @@ use Rattle.std.proofs.Common.{◌⊎◌}
 use Rattle.rational.specs.Time.{Rational}
 use Rattle.rational.specs.Places.{After, Upto}
 use Rattle.frac128.specs.Cuts.{place}
-use Rattle.early_verdict.specs.Spans.{IsOn}
+use Rattle.growing_sets.specs.Spans.{IsOn}
 use Rattle.early_verdict.proofs.letting.told_to.Given as goal
 
 abbrev pub invariant-runs : goal.invariant-runs

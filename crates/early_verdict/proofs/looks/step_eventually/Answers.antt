@@ -1,7 +1,7 @@
 use Rattle.std.proofs.Common.{false}
 use Rattle.stl_syntax.specs.Trace.{start}
 use Rattle.frac128.specs.Cuts.{place}
-use Rattle.early_verdict.specs.Spans.{IsOn}
+use Rattle.growing_sets.specs.Spans.{IsOn}
 use Rattle.early_verdict.specs.Readings.{SomeAhead, OnlyAhead}
 use Rattle.early_verdict.proofs.SetsTell.{says_of}
 use Rattle.early_verdict.proofs.LookLemmas.{told_yes, told_no, had_list_yes, had_list_no, was_sure, was_only, sure_says, only_says, kept_from, yes_after}

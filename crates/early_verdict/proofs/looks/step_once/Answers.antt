@@ -1,6 +1,6 @@
 use Rattle.stl_syntax.specs.Trace.{start}
 use Rattle.frac128.specs.Cuts.{place}
-use Rattle.early_verdict.specs.Spans.{IsOn}
+use Rattle.growing_sets.specs.Spans.{IsOn}
 use Rattle.early_verdict.specs.Readings.{SomeBehind, OnlyBehind}
 use Rattle.early_verdict.proofs.SetsTell.{says_of}
 use Rattle.early_verdict.proofs.LookLemmas.{told_yes, told_no, had_list_yes, had_list_no, was_one, was_back, one_says, back_says, kept_from, yes_after}

@@ -1,4 +1,4 @@
-use Rattle.early_verdict.proofs.WindowLemmas.{on_good}
+use Rattle.growing_sets.proofs.WindowLemmas.{on_good}
 use Rattle.early_verdict.proofs.net.step_node.Goals as goal
 
 pub returns-in_default : goal.returns-in_default

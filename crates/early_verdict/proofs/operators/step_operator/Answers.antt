@@ -1,7 +1,7 @@
 use Rattle.std.proofs.Common.{subst, sym}
 use Rattle.std.specs.Prelude.{OnOk}
 use Rattle.early_verdict.specs.Standing.{GoesBy}
-use Rattle.early_verdict.proofs.WindowLemmas.{on_good}
+use Rattle.growing_sets.proofs.WindowLemmas.{on_good}
 use Rattle.early_verdict.proofs.operators.step_operator.Goals as goal
 
 pub returns-in-Const-clause-fits : goal.returns-in-Const-clause-fits

@@ -1,8 +1,8 @@
 use Rattle.std.proofs.Common.{◌⊎◌, true, Some, inl, sym, subst, ◌∙◌}
 use Rattle.rational.specs.Time.{Rational}
 use Rattle.frac128.specs.Cuts.{place}
-use Rattle.early_verdict.specs.Spans.{Lies, IsOn}
-use Rattle.early_verdict.specs.Reaching.{GoesBackBy}
+use Rattle.growing_sets.specs.Spans.{Lies, IsOn}
+use Rattle.growing_sets.specs.Reaching.{GoesBackBy}
 use Rattle.early_verdict.specs.Readings.{SomeBehind}
 use Rattle.early_verdict.specs.Fitting.{Says}
 use Rattle.early_verdict.proofs.SetsTell.{says_of}

@@ -1,8 +1,8 @@
 use Rattle.std.proofs.Common.{true, Some, sym, subst}
 use Rattle.stl_syntax.specs.Trace.{start}
 use Rattle.frac128.specs.Cuts.{place}
-use Rattle.early_verdict.specs.Spans.{IsOn}
-use Rattle.early_verdict.specs.Reaching.{GoesBackBy}
+use Rattle.growing_sets.specs.Spans.{IsOn}
+use Rattle.growing_sets.specs.Reaching.{GoesBackBy}
 use Rattle.early_verdict.specs.Readings.{SomeBehind}
 use Rattle.early_verdict.specs.Fitting.{Says}
 use Rattle.early_verdict.proofs.SetsTell.{says_of}

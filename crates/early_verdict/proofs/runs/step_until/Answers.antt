@@ -1,5 +1,5 @@
 use Rattle.std.proofs.Common.{◌⊎◌}
-use Rattle.early_verdict.specs.Spans.{IsOn}
+use Rattle.growing_sets.specs.Spans.{IsOn}
 use Rattle.early_verdict.proofs.SetsTell.{says_of}
 use Rattle.early_verdict.proofs.PartSets.{fail_bounds_of, until_holding_was, until_failing_was, until_own_was}
 use Rattle.early_verdict.proofs.runs.step_until.Goals as goal

@@ -3,8 +3,8 @@ use Rattle.rational.specs.Time.{Rational}
 use Rattle.stl_syntax.specs.Trace.{start}
 use Rattle.stl_syntax.specs.Early.{OpenAhead}
 use Rattle.frac128.specs.Cuts.{place}
-use Rattle.early_verdict.specs.Spans.{Lies, IsOn}
-use Rattle.early_verdict.specs.Reaching.{GoesTo}
+use Rattle.growing_sets.specs.Spans.{Lies, IsOn}
+use Rattle.growing_sets.specs.Reaching.{GoesTo}
 use Rattle.early_verdict.proofs.SetsTell.{says_of}
 use Rattle.early_verdict.proofs.LookLemmas.{had_list_no, only_says}
 use Rattle.early_verdict.proofs.RunSets.{until_fail, until_stop, until_never, until_broken, until_broken_says}

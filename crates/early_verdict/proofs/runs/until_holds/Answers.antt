@@ -1,8 +1,8 @@
 use Rattle.std.proofs.Common.{true, false}
 use Rattle.stl_syntax.specs.Trace.{start}
 use Rattle.frac128.specs.Cuts.{place}
-use Rattle.early_verdict.specs.Spans.{IsOn}
-use Rattle.early_verdict.specs.Reaching.{GoesOn}
+use Rattle.growing_sets.specs.Spans.{IsOn}
+use Rattle.growing_sets.specs.Reaching.{GoesOn}
 use Rattle.early_verdict.specs.Readings.{SomeAhead}
 use Rattle.early_verdict.specs.Fitting.{sure_place}
 use Rattle.early_verdict.proofs.SetsTell.{says_of}

@@ -37,7 +37,8 @@ mark_from-requires-clause-lost c =
     let marks = c.args.marks.now.items in
     let told = subst (λ o. IfSome o (AreToldOfMore kleene_shape nodes tr (remaining c.args.left marks all))) c.in-Some-nodes.is c.requires.told in
     lost_told nodes tr all marks c.args.left c.in-Some.ground.signs.items c.in-Some-nodes.nodes c.in_ok-runs-in-Some-nodes.runs.items told
-    (subst (λ ss. AreShortEach kleene_shape ss c.in-Some-nodes.nodes c.in_ok-runs-in-Some-nodes.runs.items) c.deref.ensures.value c.in_ok-runs-in-Some-nodes.ensures.short)
+    (subst (λ ss. AreShortEach kleene_shape ss c.in-Some-nodes.nodes c.in_ok-runs-in-Some-nodes.runs.items)
+    c.deref.ensures.value c.in_ok-runs-in-Some-nodes.ensures.short)
 
 pub runs_of_cells-requires-clause-marks : goal.runs_of_cells-requires-clause-marks
 runs_of_cells-requires-clause-marks c = ap length c.deref-in-None.ensures.value ∙ c.requires.marks

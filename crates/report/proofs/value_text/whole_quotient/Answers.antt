@@ -19,4 +19,7 @@ returns c =
     let exact : size ≡ size / d * d = omega (arith, div-add-mod' size d) in
     let fits : SFits w64 c.with_sign.result = search rules in
     subst (λ z. number q ≈ whole z) (sym (to_z-of_z w64 c.with_sign.result fits ∙ c.with_sign.ensures))
-    (same_trans (fraction_is q.num q.den negative size d some (let e : to_z w128 (of_z w128 q.num) ≡ q.num = omega (arith, ints) in sym e ∙ c.sized-negative.ensures.is) same) (whole_is negative size d (size / d) some exact))
+    (same_trans
+    (fraction_is q.num q.den negative size d some (let e : to_z w128 (of_z w128 q.num) ≡ q.num = omega (arith, ints) in sym e ∙ c.sized-negative.ensures.is)
+    same)
+    (whole_is negative size d (size / d) some exact))

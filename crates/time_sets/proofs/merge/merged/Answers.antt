@@ -6,18 +6,18 @@ use Rattle.time_sets.proofs.SteppingLemmas.{Joins, IsStep, merges_turn, merges_s
 use Rattle.time_sets.proofs.merge.merged.Goals.{After-from-i, After-from-k, After-join-holds}
 use Rattle.time_sets.proofs.merge.merged.Goals as goal
 
-lead_left : (c : After-from-i) → Leads c.in-Some.next.left c.in-Some.next.at (drop c.loop-next.i c.args.p.now.turns.items)
-lead_left c = subst (λ xs. Leads c.in-Some.next.left c.in-Some.next.at (drop c.loop-next.i xs)) c.deref.ensures.value c.in-Some.ensures.1
+lead_left : (c : After-from-i) → Leads c.in-Some.next.left c.in-Some.next.at.now (drop c.loop-next.i c.args.p.now.turns.items)
+lead_left c = subst (λ xs. Leads c.in-Some.next.left c.in-Some.next.at.now (drop c.loop-next.i xs)) c.deref-ps.ensures.value c.in-Some.ensures.1
 
-lead_right : (c : After-from-i) → Leads c.in-Some.next.right c.in-Some.next.at (drop c.loop-next.k c.args.q.now.turns.items)
-lead_right c = subst (λ xs. Leads c.in-Some.next.right c.in-Some.next.at (drop c.loop-next.k xs)) c.deref-in-loop-next.ensures.value c.in-Some.ensures.2
+lead_right : (c : After-from-i) → Leads c.in-Some.next.right c.in-Some.next.at.now (drop c.loop-next.k c.args.q.now.turns.items)
+lead_right c = subst (λ xs. Leads c.in-Some.next.right c.in-Some.next.at.now (drop c.loop-next.k xs)) c.deref-qs.ensures.value c.in-Some.ensures.2
 
 left_in : (c : After-from-i) → c.loop-next.i + c.from-i.result ≤ length c.args.p.now.turns.items
-left_in c = inside c.in-Some.next.left c.in-Some.next.at c.args.p.now.turns.items c.loop-next.i c.from-i.result c.from-i.ensures (lead_left c)
+left_in c = inside c.in-Some.next.left c.in-Some.next.at.now c.args.p.now.turns.items c.loop-next.i c.from-i.result c.from-i.ensures (lead_left c)
     c.loop-next.invariant.left_in
 
 right_in : (c : After-from-k) → c.loop-next.k + c.from-k.result ≤ length c.args.q.now.turns.items
-right_in c = inside c.in-Some.next.right c.in-Some.next.at c.args.q.now.turns.items c.loop-next.k c.from-k.result c.from-k.ensures
+right_in c = inside c.in-Some.next.right c.in-Some.next.at.now c.args.q.now.turns.items c.loop-next.k c.from-k.result c.from-k.ensures
     (lead_right (goal.at.overflow_add-k c).After-from-i) c.loop-next.invariant.right_in
 
 pub overflow_add-i : goal.overflow_add-i
@@ -29,7 +29,7 @@ overflow_add-k c = let h = right_in c in let small = c.args.q.now.turns.small in
 step : (c : After-join-holds) → IsStep c.args.all c.join-starts.result c.loop-next.now c.loop-next.turns.items c.loop-next.left c.loop-next.right
     (drop c.loop-next.i c.args.p.now.turns.items) (drop c.loop-next.k c.args.q.now.turns.items) c.args.p.now.turns.items c.args.q.now.turns.items
     (λ t. joined c.args.all (has c.args.p.now t) (has c.args.q.now t))
-    c.in-Some.next.left c.in-Some.next.right c.in-Some.next.at
+    c.in-Some.next.left c.in-Some.next.right c.in-Some.next.at.now
     (drop (c.loop-next.i + c.from-i.result) c.args.p.now.turns.items) (drop (c.loop-next.k + c.from-k.result) c.args.q.now.turns.items)
     c.flip-left.result c.flip-right.result c.join-holds.result
 step c =
@@ -41,8 +41,8 @@ step c =
       some = c.in-Some.ensures.0;
       lead = lead;
       lead' = lead';
-      goes = goes_on c.in-Some.next.left c.in-Some.next.at c.args.p.now.turns.items c.loop-next.i c.from-i.result c.from-i.ensures lead;
-      goes' = goes_on c.in-Some.next.right c.in-Some.next.at c.args.q.now.turns.items c.loop-next.k c.from-k.result c.from-k.ensures lead';
+      goes = goes_on c.in-Some.next.left c.in-Some.next.at.now c.args.p.now.turns.items c.loop-next.i c.from-i.result c.from-i.ensures lead;
+      goes' = goes_on c.in-Some.next.right c.in-Some.next.at.now c.args.q.now.turns.items c.loop-next.k c.from-k.result c.from-k.ensures lead';
       is_left = c.flip-left.ensures;
       is_right = c.flip-right.ensures;
       is_holds = c.join-holds.ensures;
@@ -72,6 +72,6 @@ returns-clause-of c =
     let joins : Joins c.join-starts.result c.loop-next.turns.items c.args.p.now.turns.items c.args.q.now.turns.items
     (λ t. joined c.args.all (has c.args.p.now t) (has c.args.q.now t)) =
     merges_end _ _ _ _ _ _ _ _ _ _ _ c.loop-next.invariant.merges
-    (subst (λ xs. drop c.loop-next.i xs ≡ []) c.deref.ensures.value none.0)
-    (subst (λ xs. drop c.loop-next.k xs ≡ []) c.deref-in-loop-next.ensures.value none.1) in
+    (subst (λ xs. drop c.loop-next.i xs ≡ []) c.deref-ps.ensures.value none.0)
+    (subst (λ xs. drop c.loop-next.k xs ≡ []) c.deref-qs.ensures.value none.1) in
     λ on p q. record { rise = joins.rise; begins = joins.begins (place on.from) p.begins q.begins; ends = joins.ends (place on.to) p.ends q.ends }

@@ -54,7 +54,8 @@ returns-then-others-eq0 c =
     let count = subst (IsCount text) all r.count in
     let m = is_moved text 8 l b (omega arith) count in
     let e : moved 8 (map bare text) ≡ map bare text = take_all 8 (map bare text) (omega (arith, length_bare text, l)) in
-    let w : bit_xor c.first_word-word.result 3472328296227680304 ≡ word_of (moved 8 (map bare text)) = bare_is text c.first_word-word.result l b c.first_word-word.ensures ∙ ap word_of (sym e) in
+    let w : bit_xor c.first_word-word.result 3472328296227680304 ≡ word_of (moved 8 (map bare text))
+    = bare_is text c.first_word-word.result l b c.first_word-word.ensures ∙ ap word_of (sym e) in
     let v = c.number_of.ensures (moved 8 (map bare text)) m.length m.digits w in
     record { count = count; value = v ∙ m.number; small = omega (arith, v, m.small) }
 

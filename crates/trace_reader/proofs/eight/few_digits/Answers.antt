@@ -22,7 +22,13 @@ returns-then-eight-lt8 c =
     let e = c.eight_digits-eight.result in
     let few : e.len ≤ 8 = omega (arith, c.if-eight-lt8.true) in
     let f = front text e c.eight_digits-eight.ensures few in
-    record { some = omega (arith, c.if-eight-eq0.false); few = omega (arith, few); digits = f.0; value = f.1; small = omega (arith, c.eight_digits-eight.ensures.small) }
+    record {
+      some = omega (arith, c.if-eight-eq0.false);
+      few = omega (arith, few);
+      digits = f.0;
+      value = f.1;
+      small = omega (arith, c.eight_digits-eight.ensures.small);
+    }
 
 in_range : (b : ℕ) → 48 ≤ b → b ≤ 57 → is_digit b ≡ true
 in_range b low high = grind (arith, low, high)

@@ -24,10 +24,10 @@ returns-in-Err-bind c = λ h e.
     (lacks_scaled c.args.formula.now c.args.line c.args.header.now h e c.in-Ok.scaled (c.in-Ok.ensures.ok ∙ ap (scaled c.args.formula.now) c.scale.ensures)
     c.in-Err-bind.fault c.in-Err-bind.ensures.err)
 
-pub returns-in-Ok-copy : goal.returns-in-Ok-copy
-returns-in-Ok-copy c = λ h e.
+pub returns : goal.returns
+returns c = λ h e.
     begun c.args.formula.now c.args.line c.args.header.now h e (record { formula = c.in-Ok.scaled; bound = c.in-Ok-bind.bound; trace = c.new.result })
-    (c.new.ensures ∙ ap (λ (x : Header). record { header = x; rows = [] }) c.in-Ok-copy.ensures)
+    (c.new.ensures ∙ ap (λ (x : Header). record { header = x; rows = [] }) c.in_ok-header.ensures)
     (c.in-Ok.ensures.ok ∙ ap (scaled c.args.formula.now) c.scale.ensures)
     c.in-Ok-bind.ensures.ok c.in-Ok-bind.ensures.named
     (subst (λ s. (u : UnitFault) → ¬ IsUnitFault c.args.formula.now s u) c.scale.ensures

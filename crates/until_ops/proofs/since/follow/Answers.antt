@@ -8,7 +8,7 @@ use Rattle.pl_signal.specs.Joining.{IsGapFault, IsTakenAt}
 use Rattle.pl_signal.specs.Knots.{stop}
 use Rattle.pl_signal.proofs.JoiningLemmas.{joins_alone}
 use Rattle.pl_signal.proofs.Kept.{none_kept}
-use Rattle.until_ops.proofs.CourseLemmas.{chosen_of_itself}
+use Rattle.courses.proofs.CourseLemmas.{chosen_of_itself}
 use Rattle.until_ops.proofs.since.follow.Goals as goal
 
 pub returns-then-course-clause-ok : goal.returns-then-course-clause-ok

@@ -7,7 +7,7 @@ use Rattle.pl_signal.specs.Wide.{HasCause}
 use Rattle.pl_signal.proofs.Kept.{fault_kept}
 use Rattle.pl_signal.proofs.Telling.{told}
 use Rattle.until_ops.specs.Untils.{SinceOf, SinceStep, BasesOfTwo}
-use Rattle.until_ops.specs.Walks.{IsPairWithin}
+use Rattle.courses.specs.Pairs.{IsPairWithin}
 use Rattle.pl_signal.proofs.Places.{at_stop}
 use Rattle.until_ops.proofs.PlayLemmas.{is_since}
 use Rattle.until_ops.proofs.WalkLemmas.{bases_of_stand}

@@ -12,9 +12,11 @@ use Rattle.pl_signal.specs.declared.faults.OpFault.TheVariants as F
 use Rattle.pl_signal.proofs.Moving.{at_knot_within, same_knot}
 use Rattle.pl_signal.proofs.Places.{begun_before, more_knots}
 use Rattle.until_ops.proofs.LimitLemmas.{after_bounded}
-use Rattle.until_ops.proofs.PlayLemmas.{Follows, cross_cause, cross_within, left_plays, played, right_plays, value_cause, value_within}
+use Rattle.courses.proofs.PlayLemmas.{cross_cause, cross_within, left_plays, played, right_plays, value_cause, value_within}
+use Rattle.until_ops.specs.Untils.{SinceOf}
+use Rattle.until_ops.proofs.PlayLemmas.{Follows, is_since}
 use Rattle.until_ops.proofs.WalkLemmas.{IsNext, IsWalk, begins_before, gap_follows, gap_to, gap_within}
-use Rattle.until_ops.proofs.CourseLemmas.{goes_below}
+use Rattle.courses.proofs.CourseLemmas.{goes_below}
 use Rattle.until_ops.proofs.WalkLemmas.{is_gap, meets_here, meets_then, more_right, nearer, played_level, reaches_next, starts_within, walked}
 use Rattle.until_ops.proofs.since.walk.Given.{Over}
 use Rattle.until_ops.proofs.since.walk.Goals.{After-of-next, After-course_over, After-follow}
@@ -85,8 +87,10 @@ whole_gap g c = let w = walk g c in gap_follows w c.of-next.result.time (begins_
 pub returns-in_err-turn-clause-wide : goal.returns-in_err-turn-clause-wide
 returns-in_err-turn-clause-wide g c =
     let on = whole_gap g (goal.at.returns-in_err-turn-clause-wide g c).After-of-next in
+    let since = SinceOf g.P.Shape c.args.p.now c.args.q.now in
     on_err_anyway c.from_residual.result (IfSome_then c.turning.new.fault c.in_err-turn.ensures.wide
-    (λ pair h. cross_cause on c.knot.result.after c.knot-2.result.after (left_plays on) (right_plays on) c.args.now.now.at refl (F.Wide pair) h))
+    (λ pair h. cross_cause on since c.knot.result.after c.knot-2.result.after (left_plays on since) (right_plays on since) c.args.now.now.at
+    refl (F.Wide pair) h))
 
 pub returns-in_err-turn-clause-pair : goal.returns-in_err-turn-clause-pair
 returns-in_err-turn-clause-pair g c =
@@ -118,7 +122,8 @@ pub returns-in_err-course-clause-wide : goal.returns-in_err-course-clause-wide
 returns-in_err-course-clause-wide g c =
     let on = gap g (goal.at.returns-in_err-course-clause-wide g c).After-course_over in
     on_err_anyway c.from_residual-in_err-course.result (IfSome_then c.course_over.new.fault c.in_err-course.ensures.wide
-    (λ pair h. value_cause on c.in_ok-turn.ensures.ok.in_order (F.Wide pair) h))
+    (λ pair h. value_cause on (SinceOf g.P.Shape c.args.p.now c.args.q.now) (is_since g.P.Shape c.args.p.now c.args.q.now) c.requires.stands.here
+    c.in_ok-turn.ensures.ok.in_order (F.Wide pair) h))
 
 pub returns-in_err-course-clause-pair : goal.returns-in_err-course-clause-pair
 returns-in_err-course-clause-pair g c =
@@ -203,9 +208,10 @@ pub returns-in_err-follow-clause-wide : goal.returns-in_err-follow-clause-wide
 returns-in_err-follow-clause-wide g c =
     let on = gap g (goal.at.returns-in_err-follow-clause-wide g c).After-course_over in
     let course = c.in_ok-course.course in let order = c.in_ok-turn.ensures.ok.in_order in
+    let since = SinceOf g.P.Shape c.args.p.now c.args.q.now in let is = is_since g.P.Shape c.args.p.now c.args.q.now in
     on_err_anyway c.from_residual-in_err-follow.result (IfSome_then c.follow.new.fault c.in_err-follow.ensures.wide
-    (λ pair w. cross_cause on course.first course.second (played on order course.first c.in_ok-course.ensures.ok.first)
-    (played on order course.second c.in_ok-course.ensures.ok.second) w.0 (w.1 ∙ c.requires.stands.ends) (F.Wide pair) w.2))
+    (λ pair w. cross_cause on since course.first course.second (played on since is c.requires.stands.here order course.first c.in_ok-course.ensures.ok.first)
+    (played on since is c.requires.stands.here order course.second c.in_ok-course.ensures.ok.second) w.0 (w.1 ∙ c.requires.stands.ends) (F.Wide pair) w.2))
 
 pub returns-in_err-follow-clause-pair : goal.returns-in_err-follow-clause-pair
 returns-in_err-follow-clause-pair g c =

@@ -5,8 +5,8 @@ use Rattle.value_laws.proofs.MarginLemmas.{within_opposite}
 use Rattle.pl_signal.specs.Knots.{start, stop}
 use Rattle.pl_signal.specs.Limits.{IsLimited}
 use Rattle.pl_signal.proofs.Limits.{limited_start, limited_stop}
-use Rattle.until_ops.proofs.FaultLemmas.{cause_back, pair_turned}
-use Rattle.until_ops.proofs.UntilLemmas.{AreMirrors, are_back, can_mirror, mirror_limited, mirror_starts, mirror_stops}
+use Rattle.courses.proofs.FaultLemmas.{can_mirror, cause_back, pair_turned}
+use Rattle.until_ops.proofs.UntilLemmas.{AreMirrors, are_back, mirror_limited, mirror_starts, mirror_stops}
 use Rattle.until_ops.proofs.UntilLemmas.{since_limited, starts_back, stops_back, until_bases}
 use Rattle.until_ops.proofs.UntilLemmas.{until_told}
 use Rattle.until_ops.proofs.until.until_to_end.Given.{Over}

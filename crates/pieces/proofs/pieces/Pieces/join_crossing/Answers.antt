@@ -44,5 +44,6 @@ returns-clause-ok g c side turn =
     let old = ap (λ ps. chain_of (place c.self.inside.from) ps) c.reserve.ensures.items ∙ c.self.view_is in
     let (half, on, on') = c.put_two-2.ensures in
     joins_crossing_back g.P.Shape side c.args.self.now half (chain_of (place c.self.inside.from) c.put_two-2.new.items.items)
-    c.args.p.now c.args.q.now c.args.first (place c.args.from.now) (record { time = c.in_ok-time.time; side = 0 }) c.args.until.now c.if-first.false c.requires.begins turn meet
+    c.args.p.now c.args.q.now c.args.first (place c.args.from.now) (record { time = c.in_ok-time.time; side = 0 }) c.args.until.now
+    c.if-first.false c.requires.begins turn meet
     (subst (λ o. GoesOn g.P.Shape o (record { time = c.in_ok-time.time; side = 0 }) c.args.q.now half) old on) on'

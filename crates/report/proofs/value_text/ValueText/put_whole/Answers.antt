@@ -25,7 +25,8 @@ returns-then-is_whole c =
     )
 
 -- the text was made in its room
-made : (c : After-put_lowest-from) → Puts (IsNumberText c.args.digits (whole c.args.n)) 82 c.self.inside.room 96 c.put_lowest-from.new.buf c.put_lowest-from.result
+made : (c : After-put_lowest-from)
+    → Puts (IsNumberText c.args.digits (whole c.args.n)) 82 c.self.inside.room 96 c.put_lowest-from.new.buf c.put_lowest-from.result
 made c =
     let u = c.in_units.result in (
       _,

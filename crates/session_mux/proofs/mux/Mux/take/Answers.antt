@@ -1,4 +1,4 @@
-use Rattle.std.proofs.Common.{◌++◌, ◌∷◌, sym, subst, ◌∙◌, refl}
+use Rattle.std.proofs.Common.{◌++◌, ◌∷◌, sym, subst, refl}
 use Rattle.session_mux.specs.Sessions.{Tagged, followed}
 use Rattle.session_mux.specs.Knowing.{tags_of}
 use Rattle.session_mux.specs.Muxes.{Muxed, StandsFor, HasTags}

@@ -1,4 +1,4 @@
-use Rattle.std.proofs.Common.{sym, subst, true, false, refl, Option, Bool, ◌++◌}
+use Rattle.std.proofs.Common.{sym, subst, refl, Option, Bool, ◌++◌}
 use Rattle.trace_stream.specs.declared.live.Live.{Live}
 use Rattle.verdict_stream.specs.declared.verdicts.Verdicts.{Verdicts}
 use Rattle.session_mux.specs.Owning.{next_line}

@@ -14,4 +14,5 @@ returns-clause-part c =
     let e = c.len.ensures in
     let o = c.args.self.now.turns.ok.0 in
     let h : c.args.next ≤ length c.args.self.now.turns.items = omega arith in
-    part_at c.args.on.now c.args.self.now c.args.next c.border.result c.turn_or_end.result c.requires.domain c.requires.own h c.border.ensures c.turn_or_end.ensures
+    part_at c.args.on.now c.args.self.now c.args.next c.border.result.now c.turn_or_end.result.now c.requires.domain c.requires.own h c.border.ensures
+    c.turn_or_end.ensures

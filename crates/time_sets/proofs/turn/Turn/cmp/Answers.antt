@@ -1,27 +1,17 @@
-use Rattle.std.proofs.Common.{◌≡◌, inl, inr, ◌*◌, ◌∙◌, sym, ap, ℕ, arith}
+use Rattle.std.proofs.Common.{◌≡◌, inl, inr, ◌*◌, ◌∙◌, sym, ap, ℕ}
 use Rattle.std.specs.Ordering.{nat_cmp}
 use Rattle.time_sets.proofs.TurnLemmas.{order_by_twice, order_by_rests}
 use Rattle.time_sets.proofs.turn.Turn.cmp.Goals as goal
 
-no_rests : (r d s e : ℕ) → r ≡ 0 → s ≡ 0 → r * e ≡ s * d
-no_rests r d s e p q = omega (arith, ap (λ x. x * e) p, ap (λ x. x * d) q)
-
 products : (r d s e r' d' s' e' : ℕ) → r' ≡ r → e' ≡ e → s' ≡ s → d' ≡ d → (r' * e' ≡ r * e) × (s' * d' ≡ s * d)
 products r d s e r' d' s' e' p q i j = (ap (λ x. x * e') p ∙ ap (λ x. r * x) q, ap (λ x. x * d') i ∙ ap (λ x. s * x) j)
-
-pub returns-then-other-eq0 : goal.returns-then-other-eq0
-returns-then-other-eq0 c =
-    let f = c.args.self.now in
-    let g = c.args.other.now in
-    order_by_twice _ f.twice g.twice f.rest f.den g.rest g.den f.positive g.positive f.below g.below
-    (inr (no_rests f.rest f.den g.rest g.den c.if-self-eq0.true c.if-other-eq0.true)) c.cmp.ensures
 
 pub returns-then-not-is_level : goal.returns-then-not-is_level
 returns-then-not-is_level c =
     let f = c.args.self.now in
     let g = c.args.other.now in
     order_by_twice _ f.twice g.twice f.rest f.den g.rest g.den f.positive g.positive f.below g.below
-    (inl (λ e. let t = c.is_level.ensures.1 e in let f = c.if-not-is_level.true in cc)) c.cmp-then-not-is_level.ensures
+    (inl (λ e. let t = c.is_level.ensures.1 e in let f = c.if-not-is_level.true in cc)) c.cmp.ensures
 
 pub returns-then-left-right : goal.returns-then-left-right
 returns-then-left-right c =

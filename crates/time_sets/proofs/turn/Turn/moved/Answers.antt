@@ -13,7 +13,8 @@ returns c =
     let small : unsigned_abs (floor_of f.twice) ≤ 2 ^ 36 = c.requires.near in
     let is = c.floor.ensures in
     let by = c.requires.small in
-    let sum : to_z w64 (of_z w64 (to_z w64 (of_z w64 c.floor.result) +ℤ to_z w64 (of_z w64 c.args.by))) ≡ floor_of f.twice +ℤ c.args.by = omega (arith, ints) in (
+    let sum : to_z w64 (of_z w64 (to_z w64 (of_z w64 c.floor.result) +ℤ to_z w64 (of_z w64 c.args.by))) ≡ floor_of f.twice +ℤ c.args.by =
+    omega (arith, ints) in (
       mixed_shift (floor_of f.twice) (floor_of (to_z w64 (of_z w64 c.twice_of.result))) c.args.by f.rest f.den f.positive _
           (ap floor_of whole ∙ e.floor ∙ sum),
       ap is_after whole ∙ e.after,

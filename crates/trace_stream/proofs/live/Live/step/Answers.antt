@@ -1,4 +1,4 @@
-use Rattle.std.proofs.Common.{Some, [], ◌++◌, take, drop, false, inl, inr, refl, sym, ap, ◌∙◌, subst, append_assoc, take-append-drop}
+use Rattle.std.proofs.Common.{Some, [], ◌++◌, take, drop, false, inl, inr, sym, ap, ◌∙◌, subst, append_assoc, take-append-drop}
 use Rattle.std.proofs.lemmas.Result.{err_from_is_err_and}
 use Rattle.std.specs.Prelude.{option_map}
 use Rattle.std.proofs.lemmas.Bool.{false≢true}

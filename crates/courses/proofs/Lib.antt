@@ -1,0 +1,3 @@
+pub mod CourseLemmas
+pub mod PlayLemmas
+pub mod FaultLemmas

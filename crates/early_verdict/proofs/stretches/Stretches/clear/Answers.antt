@@ -1,5 +1,0 @@
-use Rattle.early_verdict.proofs.BlockLemmas.{counted_none}
-use Rattle.early_verdict.proofs.stretches.Stretches.clear.Goals as goal
-
-pub invariant_of-self : goal.invariant_of-self
-invariant_of-self c = counted_none c.clear.ensures.items

@@ -1,5 +1,0 @@
-use Rattle.early_verdict.proofs.BlockLemmas.{counted_none}
-use Rattle.early_verdict.proofs.stretches.Stretches.new.Goals as goal
-
-pub invariant_of-result : goal.invariant_of-result
-invariant_of-result c = counted_none c.new.ensures.items

@@ -1,7 +1,0 @@
-use Rattle.std.proofs.Common.{◌∙◌}
-use Rattle.early_verdict.proofs.WindowLemmas.{on_good}
-use Rattle.early_verdict.proofs.stretches.bring.Goals as goal
-
-pub returns : goal.returns
-returns c =
-    on_good c.send_back.result c.send_back.ensures (λ e. e ∙ c.in_ok-send_on.ensures.same ∙ c.in_ok-add_seam.ensures.same)

@@ -1,9 +1,0 @@
-use Rattle.std.proofs.Common.{◌≡◌, length}
-use Rattle.early_verdict.specs.Listed.{joined}
-use Rattle.early_verdict.proofs.stretches.send_back.Given as goal
-
-abbrev pub invariant-loop : goal.invariant-loop
-invariant-loop l = record {
-  same : joined l.blocks.items ≡ joined l.initial.blocks.items;
-  count : length l.blocks.items ≡ length l.initial.blocks.items;
-}

@@ -1,8 +1,0 @@
-use Rattle.early_verdict.proofs.BlockLemmas.{here, spot_remove}
-use Rattle.early_verdict.proofs.stretches.take_out.Goals as goal
-
-pub remove-requires : goal.remove-requires
-remove-requires c = here c.spot_of-here.ensures.spot c.index_mut.result.now c.index_mut.ensures.value
-
-pub returns : goal.returns
-returns c = spot_remove c.spot_of-here.ensures.spot c.index_mut.result.now c.index_mut.ensures.value c.remove.new.self c.remove.ensures

@@ -1,0 +1,11 @@
+pub mod Spans
+pub mod Joining
+pub mod Ending
+pub mod Listed
+pub mod Bounds
+pub mod Windows
+pub mod Steps
+pub mod Sure
+pub mod Lasting
+pub mod Reaching
+pub mod Showing

@@ -1,0 +1,60 @@
+//! What the inputs of a set gained, added to it at the same times.
+ghost use Rattle.std.specs.Prelude.{◌≡◌, ◌⊎◌, OnOk};
+ghost use Rattle.growing_sets.specs.Spans.{AreTidy, Grows, Lies};
+ghost use Rattle.growing_sets.specs.Steps.{BySome, Common};
+
+use crate::grown::Grown;
+use crate::stretch::Stretch;
+use crate::stretches::Stretches;
+use crate::touching::begins_by;
+use frac128::Memory;
+
+/// Adds each of the stretches.
+pub(crate) fn add_all(own: &mut Grown, parts: &[Stretch]) -> Result<(), Memory>
+    requires { AreTidy own.old.spans.items }
+    ensures tidy { OnOk result (AreTidy own.new.spans.items) }
+    ensures bounds { own.new.bounds ≡ own.old.bounds }
+    ensures ok { OnOk result (Grows own.old.bounds own.old.spans.items own.new.spans.items own.old.fresh.items own.new.fresh.items
+        (BySome Lies parts.now)) }
+{
+    for part in parts {
+        own.add(part.from, part.to)?;
+    }
+    Ok(())
+}
+
+/// Adds what the part and the spans have in common.
+pub(crate) fn add_common(own: &mut Grown, part: &Stretch, spans: &Stretches) -> Result<(), Memory>
+    requires own { AreTidy own.old.spans.items }
+    requires spans { AreTidy spans.now.items }
+    ensures tidy { OnOk result (AreTidy own.new.spans.items) }
+    ensures bounds { own.new.bounds ≡ own.old.bounds }
+    ensures ok { OnOk result (Grows own.old.bounds own.old.spans.items own.new.spans.items own.old.fresh.items own.new.fresh.items
+        (Common spans.now.items part.now)) }
+{
+    let mut at = spans.reaching(&part.from);
+    while let Some(next) = begins_by(spans, at, &part.to) {
+        own.add(part.from.later(next.from), part.to.earlier(next.to))?;
+        at += 1;
+    }
+    Ok(())
+}
+
+/// Adds what each of the parts and the spans have in common.
+pub(crate) fn add_all_common(
+    own: &mut Grown,
+    parts: &[Stretch],
+    spans: &Stretches,
+) -> Result<(), Memory>
+    requires own { AreTidy own.old.spans.items }
+    requires spans { AreTidy spans.now.items }
+    ensures tidy { OnOk result (AreTidy own.new.spans.items) }
+    ensures bounds { own.new.bounds ≡ own.old.bounds }
+    ensures ok { OnOk result (Grows own.old.bounds own.old.spans.items own.new.spans.items own.old.fresh.items own.new.fresh.items
+        (BySome (Common spans.now.items) parts.now)) }
+{
+    for part in parts {
+        add_common(own, part, spans)?;
+    }
+    Ok(())
+}

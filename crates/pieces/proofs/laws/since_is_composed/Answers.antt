@@ -1,0 +1,5 @@
+use Rattle.pieces.proofs.Composition.{since_of_chains as law}
+use Rattle.pieces.proofs.laws.since_is_composed.Goals as goal
+
+pub returns : goal.returns
+returns g c = law g.P.Shape (assumption g.met.P.Shape)

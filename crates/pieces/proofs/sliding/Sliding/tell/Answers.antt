@@ -1,0 +1,82 @@
+use Rattle.std.proofs.Common.{rules, ◌≡◌, ◌^◌, [], refl, sym, ◌∙◌, subst}
+use Rattle.std.proofs.lemmas.Bool.{false≢true}
+use Rattle.std.proofs.lemmas.List.{nil_from_length}
+use Rattle.std.proofs.lemmas.Result.{on_ok_weaker}
+use Rattle.rational.specs.Rational.{IsWithin}
+use Rattle.rational.specs.Places.{AtMost, Before}
+use Rattle.rational.proofs.Order.{le_trans}
+use Rattle.rational.proofs.PlaceLemmas.{at_most_of_not_before, le_of_at_most, same_of_at_most}
+use Rattle.frac128.specs.Cuts.{place}
+use Rattle.pl_signal.proofs.Kept.{on_err_anyway}
+use Rattle.pieces.specs.Chains.{stop}
+use Rattle.pieces.specs.Steps.{AreSteps}
+use Rattle.pieces.proofs.Ends.{at_most_itself, at_most_of_before}
+use Rattle.pieces.proofs.SlidingLemmas.{told_rest, told_fault, told_part, told_step}
+use Rattle.pieces.proofs.sliding.Sliding.tell.Goals as goal
+
+pub returns-in_default-clause-told : goal.returns-in_default-clause-told
+returns-in_default-clause-told g c =
+    let none' : c.pop_front.new.self.items ≡ [] = nil_from_length c.pop_front.new.self.items (search rules) in
+    let none : c.loop-side.self.steps.items ≡ [] = c.in_default.ensures.items ∙ none' in
+    let later = subst (λ s. Before s (place c.args.until.now)) c.until.ensures.value (c.precedes.ensures.0 c.loop-side-test.true) in
+    on_ok_weaker c.put.result (λ goes. told_rest g.P.Shape c.args.side c.args.gap.now c.args.self.now c.loop-side.self c.loop-side.invariant.told
+    (record { out = c.put.new.self; steps = c.pop_front.new.self }) c.args.until.now none none' later goes) c.put.ensures.ok
+
+pub write-requires-clause-rises : goal.write-requires-clause-rises
+write-requires-clause-rises g c = λ t u a k m. c.requires.rises t u
+    (le_trans (le_of_at_most (stop c.args.self.now.out) (stop c.loop-side.self.out) c.loop-side.invariant.told.on) a) k m
+
+pub write-requires-clause-most : goal.write-requires-clause-most
+write-requires-clause-most g c =
+    at_most_of_before (place c.args.until.now) (place c.in-Some.first.until) (c.precedes-in-loop-side.ensures.0 c.if-precedes.true)
+
+pub returns-in_err-write-clause-wide : goal.returns-in_err-write-clause-wide
+returns-in_err-write-clause-wide g c = on_err_anyway c.from_residual.result
+    (told_fault g.P.Shape c.args.side c.args.gap.now c.args.self.now c.loop-side.self c.loop-side.invariant.told c.in-Some.first
+    c.pop_front.new.self.items c.args.until.now (place c.args.until.now) c.write.new.fault c.in-Some.ensures.items
+    (at_most_of_before (place c.args.until.now) (place c.in-Some.first.until) (c.precedes-in-loop-side.ensures.0 c.if-precedes.true))
+    (at_most_itself (place c.args.until.now)) c.in_err-write.ensures.wide)
+
+pub returns-then-precedes-clause-told : goal.returns-then-precedes-clause-told
+returns-then-precedes-clause-told g c =
+    let before = c.precedes-in-loop-side.ensures.0 c.if-precedes.true in
+    told_part g.P.Shape c.args.side c.args.gap.now c.args.self.now c.loop-side.self c.loop-side.invariant.told
+    (record { out = c.write.new.out; steps = c.push_front_reserved.new.self }) c.in-Some.first c.pop_front.new.self.items c.args.until.now
+    c.in-Some.ensures.items (subst (λ s. Before s (place c.args.until.now)) c.until.ensures.value (c.precedes.ensures.0 c.loop-side-test.true))
+    (at_most_of_before (place c.args.until.now) (place c.in-Some.first.until) before) c.in_ok-write.ensures.ok c.push_front_reserved.ensures.items before
+    c.loop-side.invariant.told.steps
+
+pub write-requires-in-loop-side-clause-rises : goal.write-requires-in-loop-side-clause-rises
+write-requires-in-loop-side-clause-rises g c = λ t u a k m. c.requires.rises t u
+    (le_trans (le_of_at_most (stop c.args.self.now.out) (stop c.loop-side.self.out) c.loop-side.invariant.told.on) a) k
+    (le_trans m (le_of_at_most (place c.in-Some.first.until) (place c.args.until.now)
+    (at_most_of_not_before (place c.in-Some.first.until) (place c.args.until.now)
+    (λ b. false≢true (sym c.if-precedes.false ∙ c.precedes-in-loop-side.ensures.1 b)))))
+
+pub loop-side-preserved : goal.loop-side-preserved
+loop-side-preserved g c =
+    let written = c.in_ok-write-2.ensures.ok in
+    let step = (subst (AreSteps g.P.Shape c.args.side (stop c.loop-side.self.out)) c.in-Some.ensures.items c.loop-side.invariant.told.steps).0 in
+    record {
+      told = told_step g.P.Shape c.args.side c.args.gap.now c.args.self.now c.loop-side.self c.loop-side.invariant.told
+          (record { out = c.write-in-loop-side.new.out; steps = c.pop_front.new.self }) c.in-Some.first c.pop_front.new.self.items c.in-Some.first.until
+          c.in-Some.ensures.items step.later (at_most_itself (place c.in-Some.first.until)) written refl refl c.loop-side.invariant.told.steps;
+      order = subst (λ s. AtMost s (place c.args.until.now)) (sym written.ends)
+          (at_most_of_not_before (place c.in-Some.first.until) (place c.args.until.now)
+          (λ b. false≢true (sym c.if-precedes.false ∙ c.precedes-in-loop-side.ensures.1 b)));
+      within = subst (λ s. IsWithin (2 ^ 34) s.at) (sym written.ends) step.within;
+      still = c.in_ok-write-2.ensures.still;
+    }
+
+pub returns-in_err-write-2-clause-wide : goal.returns-in_err-write-2-clause-wide
+returns-in_err-write-2-clause-wide g c = on_err_anyway c.from_residual-in_err-write-2.result
+    (told_fault g.P.Shape c.args.side c.args.gap.now c.args.self.now c.loop-side.self c.loop-side.invariant.told c.in-Some.first
+    c.pop_front.new.self.items c.in-Some.first.until (place c.args.until.now) c.write-in-loop-side.new.fault c.in-Some.ensures.items
+    (at_most_itself (place c.in-Some.first.until))
+    (at_most_of_not_before (place c.in-Some.first.until) (place c.args.until.now)
+    (λ b. false≢true (sym c.if-precedes.false ∙ c.precedes-in-loop-side.ensures.1 b))) c.in_err-write-2.ensures.wide)
+
+pub returns-clause-ends : goal.returns-clause-ends
+returns-clause-ends g c = same_of_at_most (stop c.loop-side.self.out) (place c.args.until.now) c.loop-side.invariant.order
+    (at_most_of_not_before (place c.args.until.now) (stop c.loop-side.self.out)
+    (λ b. false≢true (sym c.loop-side-test.false ∙ c.precedes.ensures.1 (subst (λ s. Before s (place c.args.until.now)) (sym c.until.ensures.value) b))))

@@ -1,0 +1,5 @@
+use Rattle.row_runs.proofs.Standing.{runs_stand_for_rows as law}
+use Rattle.row_runs.proofs.laws.runs_stand_for_rows.Goals as goal
+
+pub returns : goal.returns
+returns c = law

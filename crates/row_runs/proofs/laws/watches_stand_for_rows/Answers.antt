@@ -1,0 +1,5 @@
+use Rattle.row_runs.proofs.Standing.{watches_stand_for_rows as law}
+use Rattle.row_runs.proofs.laws.watches_stand_for_rows.Goals as goal
+
+pub returns : goal.returns
+returns c = law
