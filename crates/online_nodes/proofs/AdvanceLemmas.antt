@@ -1,7 +1,8 @@
 -- From the parts of a step, the body's work, what is put, let go and noted, to what the step leaves.
-use Rattle.std.proofs.Common.{◌≡◌, ◌≢◌, inl, inr, refl, sym, ap, subst, ◌∙◌, ℕ, ◌+◌, ◌*◌, ◌^◌, ◌<◌, ◌≤◌, Bool, true, false}
+use Rattle.std.proofs.Common.{◌≡◌, ◌≢◌, ◌⊎◌, inl, inr, refl, sym, ap, subst, ◌∙◌, ℕ, ◌+◌, ◌*◌, ◌^◌, ◌<◌, ◌≤◌, Bool, true, false}
 use Rattle.std.proofs.Common.{Option, Some, None, List, [], ◌∷◌, ◌++◌, length, ℤ, pos, ◌+ℤ◌, arith, length-append}
 use Rattle.std.specs.Prelude.{◌-◌, min, option_map}
+use Rattle.std.proofs.lemmas.Bool.{cases_eq}
 use Rattle.rational.specs.Rational.{whole}
 use Rattle.stl_syntax.specs.Trace.{Header, Trace}
 use Rattle.stl_syntax.specs.Verdicts.{Describes}
@@ -15,7 +16,7 @@ use Rattle.online_nodes.specs.Stepping.{Situation, HasWorkedOut, IsBegun, IsDue,
 use Rattle.rational.specs.Places.{Before, Place, Same, begins, ends}
 use Rattle.frac128.specs.Cuts.{place}
 use Rattle.frac128.specs.declared.cut.Cut.{Cut}
-use Rattle.online_nodes.specs.Held.{Edge, Held, HasMore, Stand, edge_at, fresh_at, held_at, held_of, number_at, with_edge, with_number, IsDroppedBy}
+use Rattle.online_nodes.specs.Held.{Edge, Held, edge_at, fresh_at, held_at, held_of, number_at, with_edge, with_more, with_number, IsDroppedBy}
 use Rattle.online_nodes.specs.Kinds.{held_in, inputs_of, keeps_marks}
 use Rattle.online_nodes.specs.Laws.{beyond}
 use Rattle.online_nodes.specs.Operators.{KnowsBy}
@@ -27,12 +28,13 @@ use Rattle.online_nodes.specs.declared.kind.Kind.{Kind}
 use Rattle.online_nodes.specs.declared.kind.Kind.TheVariants.{Const as Constant, Not as Negation, Join as Connective}
 use Rattle.online_nodes.specs.declared.kind.Kind.TheVariants.{Ahead, Behind, Until as UntilOf, Since as SinceOf}
 use Rattle.online_nodes.specs.declared.operator.Operator.{Operator}
-use Rattle.online_nodes.proofs.BelongLemmas.{held_is, own_edge, own_reach_small, room_if_ready}
+use Rattle.online_nodes.proofs.BelongLemmas.{own_edge, own_reach_small, room_if_ready}
 use Rattle.online_nodes.proofs.BodyLemmas.{body_worked}
-use Rattle.online_nodes.proofs.DroppedLemmas.{dropped_number}
+use Rattle.online_nodes.proofs.DroppedLemmas.{dropped_joins, dropped_number}
 use Rattle.online_nodes.proofs.DueLemmas.{among_apart, begin_before, input_reader, kind_is}
+use Rattle.online_nodes.proofs.EdgeLaw.{reads_or_not}
 use Rattle.online_nodes.proofs.EmittedLaw.{front_shown}
-use Rattle.online_nodes.proofs.GotLemmas.{got-length, got-other, more-both, more_long}
+use Rattle.online_nodes.proofs.GotLemmas.{got-here, got-length, got-other, with_more-both}
 use Rattle.online_nodes.proofs.ReadLemmas.{edge_later, own_after, with_step}
 use Rattle.online_nodes.proofs.ReaderLemmas.{looks_is, reads_side}
 use Rattle.online_nodes.proofs.ReleasedLemmas.{released_knows}
@@ -53,21 +55,22 @@ side_input (SinceOf s) false j h = inr h
 side_input _ _ j h = absurd h
 
 -- more was put onto a node's edge
-put_on : {kind : Kind} {old mid put : Held} {own : ℕ} {more last : List Verdict} → ((j : ℕ) → IsInput kind j → j ≢ own)
-    → HasWorkedOn kind old mid own more → HasGot mid put own last → HasWorkedOn kind old put own (more ++ last)
-put_on {kind} {old} {mid} {put} {own} {more} {last} apart w got =
+put_on : {kind : Kind} {old mid put : Held} {own : ℕ} {more last : List Verdict} → own < length old.edges
+    → ((j : ℕ) → IsInput kind j → j ≢ own) → HasWorkedOn kind old mid own more → HasGot mid put own last → HasWorkedOn kind old put own (more ++ last)
+put_on {kind} {old} {mid} {put} {own} {more} {last} within apart w got =
+    let own_mid : own < length mid.edges = omega (arith, within, w.count) in
     record {
       count = got-length got ∙ w.count;
-      got = more-both w.got got.here;
+      got = got-here got own_mid ∙ ap (λ x. with_more x last) w.got ∙ with_more-both (edge_at old own) more last;
       read = λ j is. subst (λ (x : Edge). IsReadOn (edge_at old j) x) (sym (got-other got j (apart j is))) (w.read j is);
       others = λ j other none. got-other got j other ∙ w.others j other none;
       start = got.start ∙ w.start;
       spare = omega (arith, w.spare, got.spare, length-append more last);
     }
 
--- what grew by no more than `a`, and can be counted
-few_min : (n m k a b : ℕ) → n ≤ m + k → k ≤ a → n ≤ b → n ≤ m + min a b
-few_min n m k a b h l c = omega (arith, h, l, c)
+-- a list that fits in twice what is held, and in an edge that can be counted
+few_min : (n a b : ℕ) → n ≤ a → n ≤ b → n ≤ min a b
+few_min n a b h k = omega (arith, h, k)
 
 -- what a node that keeps nothing in mind knows of its inputs it knows whatever its marks are
 plain_knows : (k : Kind) → keeps_marks k ≡ false → (nodes : List Node) (tr : Trace) (e : Held) (at reach run other_reach other_run : Place)
@@ -108,7 +111,7 @@ module _ {x : Situation} {op : Operator} {old : Held} (d : IsDue x op old) {begu
   verdicts = work.more ++ a.finished.more
 
   all_put : HasWorkedOn op.kind old put op.node verdicts
-  all_put = put_on (among_apart d) work.worked last_got
+  all_put = put_on (own_edge d.belongs) (among_apart d) work.worked last_got
 
   -- there are as many edges as before once what was told was put
   pub put_count : length put.edges ≡ length old.edges
@@ -124,12 +127,12 @@ module _ {x : Situation} {op : Operator} {old : Held} (d : IsDue x op old) {begu
     same_count = r.count ∙ all_put.count
 
     -- the node's edge
-    own_new : edge_at new op.node ≡ with_number (edge_at put op.node) x.front
+    own_new : edge_at new op.node ≡ with_number (with_more (edge_at old op.node) verdicts) x.front
     own_new =
         let l = own_edge d.belongs in
         let within : op.node < length released.edges = omega (arith, l, same_count) in
         reached-here released new op.node x.front within noted
-        ∙ ap (λ (y : Edge). with_number y x.front) (r.others op.node (λ is. among_apart d op.node is refl))
+        ∙ ap (λ (y : Edge). with_number y x.front) (r.others op.node (λ is. among_apart d op.node is refl) ∙ all_put.got)
 
     -- the other ones
     other_new : (j : ℕ) → j ≢ op.node → edge_at new j ≡ edge_at released j
@@ -160,8 +163,35 @@ module _ {x : Situation} {op : Operator} {old : Held} (d : IsDue x op old) {begu
             by_front None = refl
             by_front (Some f) = refl
 
+    -- an input's edge joins where it joined
+    input_joins : (j : ℕ) (left : Bool) → IsReader d.belongs.stands.node left j → (edge_at new j).joins ≡ (edge_at old j).joins
+    input_joins j left reads =
+        let side : IsOperand op.kind left j =
+        subst (λ k. IsOperand k left j) (sym (kind_is d)) (reads_side d.belongs.stands.node left j reads) in
+        let read = work.worked.read j (side_input op.kind left j side) in
+        dropped_joins (lets_new j left side) ∙ read.joins
+
+    -- an edge that is neither the node's nor an input's stays
+    stays_new : (j : ℕ) → j ≢ op.node → ((left : Bool) → IsReader d.belongs.stands.node left j → ⊥) → edge_at new j ≡ edge_at old j
+    stays_new j apart none =
+        let no : IsInput op.kind j → ⊥ = λ is. (let q = input_reader d j is in none q.0 q.1) in
+        other_new j apart ∙ r.others j no ∙ all_put.others j apart no
+
+    -- no edge begins to join, and none ceases to
+    joins_new : (j : ℕ) → (edge_at new j).joins ≡ (edge_at old j).joins
+    joins_new j = by_place (cases_eq j op.node)
+      where
+        by_read : j ≢ op.node → ((left : Bool) × IsReader d.belongs.stands.node left j) ⊎ ((left : Bool) → IsReader d.belongs.stands.node left j → ⊥)
+            → (edge_at new j).joins ≡ (edge_at old j).joins
+        by_read apart (inl (left, reads)) = input_joins j left reads
+        by_read apart (inr none) = ap (λ (y : Edge). y.joins) (stays_new j apart none)
+
+        by_place : (j ≡ op.node) ⊎ (j ≢ op.node) → (edge_at new j).joins ≡ (edge_at old j).joins
+        by_place (inl same) = subst (λ (k : ℕ). (edge_at new k).joins ≡ (edge_at old k).joins) (sym same) (ap (λ (y : Edge). y.joins) own_new)
+        by_place (inr apart) = by_read apart (reads_or_not d.belongs.stands.node j)
+
     input_new : (j : ℕ) (left : Bool) → IsReader d.belongs.stands.node left j
-        → (number_at new j ≡ number_at old j) × IsJoinedEdge x.nodes x.header (x.events ++ step op.node ∷ []) j (held_at new j)
+        → (number_at new j ≡ number_at old j) × IsJoinedEdge x.nodes x.header (x.events ++ step op.node ∷ []) (edge_at new j).joins j (held_at new j)
     input_new j left reads =
         let side : IsOperand op.kind left j =
         subst (λ k. IsOperand k left j) (sym (kind_is d)) (reads_side d.belongs.stands.node left j reads) in
@@ -169,43 +199,45 @@ module _ {x : Situation} {op : Operator} {old : Held} (d : IsDue x op old) {begu
         let looks : looks_by op.kind left ≡ reach_back d.belongs.stands.node left =
         ap (λ k. looks_by k left) (kind_is d) ∙ looks_is d.belongs.stands.node left j reads (own_reach_small d.belongs) in (
           dropped_number (lets_new j left side) ∙ read.number,
-          edge_later d.belongs j left reads x.front d.allowed (held_at new j) d.low
+          subst (λ (t : Bool). IsJoinedEdge x.nodes x.header (x.events ++ step op.node ∷ []) t j (held_at new j)) (sym (input_joins j left reads))
+              (edge_later d.belongs j left reads x.front d.allowed (held_at new j) d.low
               (let_go_is (x.front +ℤ looks_by op.kind left) (edge_at a.mid j) (edge_at new j) (lets_new j left side)
               ∙ ap (λ (l : List Verdict). beyond (whole (x.front +ℤ looks_by op.kind left)) l) read.held
-              ∙ ap (λ (z : ℤ). beyond (whole (x.front +ℤ z)) (held_at old j)) looks),
+              ∙ ap (λ (z : ℤ). beyond (whole (x.front +ℤ z)) (held_at old j)) looks)),
         )
 
-    -- no more was put than was owed
-    most_put : length verdicts ≤ 2 * held_in old (inputs_of op.kind) + 2
-    most_put = omega (arith, work.owed, a.finished.owed, length-append work.more a.finished.more)
-
-    -- and the edge has no more than that in addition, as far as it can be counted
-    room_put : length (held_at put op.node) ≤ 2 ^ 64 - 1
-        → length (held_at put op.node) ≤ length (held_at old op.node) + room_of_step x.nodes x.events op.node old
-    room_put counted =
-        let grown : length (held_at put op.node) ≤ length (held_at old op.node) + length verdicts = more_long all_put.got in
-        subst (λ (m : ℕ). length (held_at put op.node) ≤ length (held_at old op.node) + m) (room_if_ready d.belongs d.ready)
-        (few_min (length (held_at put op.node)) (length (held_at old op.node)) (length verdicts) (2 * held_in old (inputs_of op.kind) + 2) (2 ^ 64 - 1)
-        grown most_put counted)
+    -- what was put can be counted
+    pub few_put : length (held_at put op.node) ≤ 2 ^ 64 - 1 → length verdicts ≤ room_of_step x.nodes x.events op.node old
+    few_put counted =
+        let here : length (held_at put op.node) ≡ length ((edge_at old op.node).seen ++ (fresh_at old op.node ++ verdicts)) =
+        ap (λ (y : Edge). length (held_of y)) all_put.got in
+        let all : length verdicts ≤ 2 ^ 64 - 1 =
+        omega (
+          arith,
+          counted,
+          here,
+          length-append (edge_at old op.node).seen (fresh_at old op.node ++ verdicts),
+          length-append (fresh_at old op.node) verdicts,
+        ) in
+        let most : length verdicts ≤ 2 * held_in old (inputs_of op.kind) + 2 =
+        omega (arith, work.owed, a.finished.owed, length-append work.more a.finished.more) in
+        subst (λ (m : ℕ). length verdicts ≤ m) (room_if_ready d.belongs d.ready)
+        (few_min (length verdicts) (2 * held_in old (inputs_of op.kind) + 2) (2 ^ 64 - 1) most all)
 
     -- the edges are those that a step leaves, if the operator's edge has room
     pub step_stepped : length (held_at put op.node) ≤ 2 ^ 64 - 1 → HasStepped x.nodes x.header x.events op.node old new
     step_stepped counted = record {
       verdicts = verdicts;
       emitted = emitted_here d.belongs x.front verdicts d.allowed d.ready d.low describes;
-      few = subst (λ (n : ℕ). length verdicts ≤ 2 * n + 2) (held_is d.belongs) most_put;
-      room = subst (λ (y : Edge). length (held_of y) ≤ length (held_at old op.node) + room_of_step x.nodes x.events op.node old) (sym own_new)
-          (room_put counted);
-      seen = ap (λ (y : Edge). y.seen) own_new ∙ all_put.got.seen;
-      got = subst (λ (y : Edge). Stand (edge_at old op.node).joins (fresh_at old op.node ++ verdicts) y.fresh) (sym own_new) all_put.got.fresh;
-      joins = ap (λ (y : Edge). y.joins) own_new ∙ all_put.got.joins;
+      few = few_put counted;
+      seen = ap (λ (y : Edge). y.seen) own_new;
+      got = ap (λ (y : Edge). y.fresh) own_new;
       number = ap (λ (y : Edge). y.number) own_new ∙ sym d.allowed;
       inputs = λ j n left at reads.
           let same : n ≡ d.belongs.stands.node = (let p = d.belongs.stands.at in cc) in
           input_new j left (subst (λ (m : Node). IsReader m left j) same reads);
-      others = λ j apart none.
-          let no : IsInput op.kind j → ⊥ = λ is. (let q = input_reader d j is in none d.belongs.stands.node q.0 d.belongs.stands.at q.1) in
-          other_new j apart ∙ r.others j no ∙ all_put.others j apart no;
+      others = λ j apart none. stays_new j apart (λ left reads. none d.belongs.stands.node left d.belongs.stands.at reads);
+      joins = joins_new;
       edges = reached-length released new op.node x.front noted ∙ same_count;
       start = ap (λ (y : Held). y.start) noted ∙ r.start ∙ all_put.start;
       spare = let s : new.spare ≡ released.spare = ap (λ (y : Held). y.spare) noted in omega (arith, s, r.spare, all_put.spare);

@@ -16,7 +16,7 @@ use Rattle.online_nodes.specs.declared.kind.Kind.{Kind}
 use Rattle.online_nodes.specs.declared.kind.Kind.TheVariants.{Const, Not, Join, Ahead, Behind, Until, Since}
 use Rattle.online_nodes.specs.declared.window.Window.{Window}
 use Rattle.online_nodes.specs.declared.writer.Out.{Out}
-use Rattle.online_nodes.proofs.GotLemmas.{got-length, got-other}
+use Rattle.online_nodes.proofs.GotLemmas.{got-here, got-length, got-other}
 use Rattle.online_nodes.proofs.WorkLemmas.{read_none}
 
 -- what was put and read, and up to where the node is told
@@ -43,7 +43,7 @@ told_all kind holds old mid out marks told own apart none g =
       more = g.said.more;
       worked = record {
         count = got-length g.said.got;
-        got = g.said.got.here;
+        got = got-here g.said.got own;
         read = λ j is. read_none _ _ (got-other g.said.got j (apart j is));
         others = λ j other _. got-other g.said.got j other;
         start = g.said.got.start;

@@ -17,7 +17,7 @@ use Rattle.online_nodes.specs.Network.{reach_back, shown, state, state_from, IsR
 use Rattle.online_nodes.specs.Needed.{AreMeeting, AreNeeded, IsJoinedEdge, IsReader}
 use Rattle.rational.specs.Places.{Place, AtMost}
 use Rattle.rational.proofs.Tests.{int_order}
-use Rattle.online_nodes.specs.Held.{Held, held_at}
+use Rattle.online_nodes.specs.Held.{Held, edge_at, held_at}
 use Rattle.online_nodes.specs.Laws.{answered_to, beyond, AreTiles, AreTold, IsWhole}
 use Rattle.online_nodes.specs.Operators.{place_of}
 use Rattle.online_nodes.specs.Belonging.{trace_of, Belongs}
@@ -31,7 +31,7 @@ use Rattle.online_nodes.proofs.ReaderLemmas.{child_all, one_reader, one_side}
 use Rattle.online_nodes.proofs.RisingLaw.{children_before}
 use Rattle.online_nodes.proofs.RunLaw.{none_is_none}
 use Rattle.online_nodes.proofs.StayLaw.{emitted_stays, shown_is}
-use Rattle.online_nodes.proofs.Stretches.{stretches_told, stretches_whole}
+use Rattle.online_nodes.proofs.Stretches.{stand_stretches, stretches_told, stretches_whole}
 
 -- the rows of a run are those of a trace, once one came
 AreRowsSoFar : ℕ → List Row → Type 0
@@ -113,7 +113,7 @@ place_at_start start = record { at = whole (pos start); after = false }
 
 module _ {nodes : List Node} {header : Header} {events : List Event} {op : Operator} {e : Held} {now : ℕ} {ended : Bool}
     (b : Belongs nodes header events op e now ended) (j : ℕ) (left : Bool) (reads : IsReader b.stands.node left j) where
-  abbrev pub edge : IsJoinedEdge nodes header events j (held_at e j)
+  abbrev pub edge : IsJoinedEdge nodes header events (edge_at e j).joins j (held_at e j)
   edge = (b.inputs j b.stands.node left b.stands.at reads).1
 
   -- the edge's reader is the operator's node
@@ -152,7 +152,8 @@ module _ {nodes : List Node} {header : Header} {events : List Event} {op : Opera
 
   -- its stretches lead without gap from the start to where the input is answered
   pub stretches_lead : IsWhole (first_time (state nodes events).rows) (shown (state nodes events) j) edge.stretches
-  stretches_lead = stretches_whole edge.are_joined (first_time (state nodes events).rows) (shown (state nodes events) j)
+  stretches_lead = stretches_whole (stand_stretches (edge_at e j).joins edge.stand) (first_time (state nodes events).rows)
+      (shown (state nodes events) j)
       (emitted_tiles nodes header b.formed.post_order events b.run j input_within edge.emitted edge.is_emitted)
 
   -- what the edge holds leads without gap to the input's front, and each verdict is its truth; before the front is at the start it holds nothing
@@ -177,7 +178,7 @@ module _ {nodes : List Node} {header : Header} {events : List Event} {op : Opera
   held_is = by_shown (shown (state nodes events) j) refl needs
     where
       told : AreTold (subformula nodes j) (trace_of header (state nodes events)) edge.stretches
-      told = stretches_told (subformula nodes j) (trace_of header (state nodes events)) edge.are_joined
+      told = stretches_told (subformula nodes j) (trace_of header (state nodes events)) (stand_stretches (edge_at e j).joins edge.stand)
           (emitted_stays nodes header b.formed.post_order events b.run j input_within edge.emitted edge.is_emitted
           (trace_of header (state nodes events)) (run_is_trace nodes header events (pos now) b.run b.last)
           (goes_on_itself header (state nodes events)))

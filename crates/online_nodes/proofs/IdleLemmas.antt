@@ -1,8 +1,10 @@
 -- A step that gives out nothing: of a node that is not ready, and one to a number below the start.
-use Rattle.std.proofs.Common.{◌≡◌, ◌≢◌, refl, sym, ap, subst, ◌∙◌, ℕ, ◌+◌, ◌*◌, ◌≤◌, Bool, true, false, Option, length}
+use Rattle.std.proofs.Common.{◌≡◌, ◌≢◌, ◌⊎◌, inl, inr, refl, sym, ap, subst, ◌∙◌, ℕ, ◌≤◌, Bool, true, false, Option}
 use Rattle.std.proofs.Common.{Some, None, List, [], ◌∷◌, ◌++◌, ℤ, pos, ◌<ℤ◌, arith}
 use Rattle.std.specs.Prelude.{◌&&◌, not, option_map, slice_get, IfSome}
+use Rattle.std.proofs.lemmas.Bool.{cases_eq}
 use Rattle.std.proofs.lemmas.Int.{ints}
+use Rattle.std.proofs.lemmas.List.{append-nil}
 use Rattle.std.proofs.lemmas.Option.{same_Some}
 use Rattle.rational.specs.Rational.{whole}
 use Rattle.stl_syntax.specs.Trace.{Header, first_time}
@@ -10,15 +12,14 @@ use Rattle.stl_syntax.specs.declared.node.Node.{Node}
 use Rattle.online_nodes.specs.Network.{Event, step, Front, State, EmittedAt, after_event, allowed_at, node_is_atom, reach_back}
 use Rattle.online_nodes.specs.Network.{same_front, shown, state}
 use Rattle.online_nodes.specs.Needed.{AreNeeded, IsJoinedEdge, IsReader}
-use Rattle.online_nodes.specs.Belonging.{Belongs, HasStepped, StandsForSteps, held_by_inputs, is_ready, room_of_step, trace_of}
+use Rattle.online_nodes.specs.Belonging.{Belongs, HasStepped, StandsForSteps, is_ready, room_of_step, trace_of}
 use Rattle.frac128.specs.Cuts.{place}
 use Rattle.online_nodes.specs.Stepping.{Situation, IsDue}
-use Rattle.online_nodes.specs.Held.{Edge, Held, Stand, edge_at, fresh_at, held_at, held_of, number_at, with_edge, with_number}
+use Rattle.online_nodes.specs.Held.{Edge, Held, edge_at, fresh_at, held_at, held_of, number_at, with_edge, with_number}
 use Rattle.online_nodes.specs.Operators.{KnowsBy}
 use Rattle.online_nodes.specs.declared.operator.Operator.{Operator}
 use Rattle.online_nodes.proofs.BelongLemmas.{no_atom_here, own_edge}
 use Rattle.online_nodes.proofs.FrameLaw.{nothing_given}
-use Rattle.online_nodes.proofs.GotLemmas.{more-none}
 use Rattle.online_nodes.proofs.HeldFacts.{edge, needs}
 use Rattle.online_nodes.proofs.ReadLemmas.{edge_low, edge_of, input_apart, never_less, others_after, own_after, with_step}
 use Rattle.online_nodes.proofs.StayLaw.{shown_is}
@@ -28,10 +29,6 @@ use Rattle.online_nodes.proofs.RisingLaw.{same_is}
 -- none is few
 pub none_few : (n : ℕ) → 0 ≤ n
 none_few n = omega arith
-
--- and so is what was held before
-more_few : (n m : ℕ) → n ≤ n + m
-more_few n m = omega arith
 
 module _ {nodes : List Node} {header : Header} {events : List Event} {op : Operator} {e : Held} {now : ℕ} {ended : Bool}
     (b : Belongs nodes header events op e now ended) where
@@ -59,7 +56,8 @@ module _ {nodes : List Node} {header : Header} {events : List Event} {op : Opera
     idle_shown = subst (λ (o : Front). shown (state nodes events) op.node
         ≡ shown (record { rows = (state nodes events).rows; closed = (state nodes events).closed; fronts = λ k. o }) op.node) (sym idle_front) refl
 
-    idle_edge : (j : ℕ) (left : Bool) → IsReader b.stands.node left j → IsJoinedEdge nodes header (events ++ step op.node ∷ []) j (held_at e j)
+    idle_edge : (j : ℕ) (left : Bool) → IsReader b.stands.node left j
+        → IsJoinedEdge nodes header (events ++ step op.node ∷ []) (edge_at e j).joins j (held_at e j)
     idle_edge j left r =
         edge_of b j left r (held_at e j)
         (subst (λ (o : Front). AreNeeded (first_time (state nodes events).rows)
@@ -74,14 +72,13 @@ module _ {nodes : List Node} {header : Header} {events : List Event} {op : Opera
       verdicts = [];
       emitted = subst (λ (s : State). EmittedAt nodes header op.node (state nodes events) s []) (sym (with_step b))
           (nothing_given nodes header op.node (state nodes events) (after_event nodes (state nodes events) (step op.node)) idle_shown);
-      few = none_few (2 * held_by_inputs nodes op.node e + 2);
-      room = more_few (length (held_at e op.node)) (room_of_step nodes events op.node e);
+      few = none_few (room_of_step nodes events op.node e);
       seen = refl;
-      got = (more-none (edge_at e op.node) (edge_at e op.node) refl).fresh;
-      joins = refl;
+      got = sym (append-nil (fresh_at e op.node));
       number = b.number ∙ sym idle_number;
       inputs = λ j n left at r. (refl, idle_edge j left (subst (λ (m : Node). IsReader m left j) (reader_here n at) r));
       others = λ j apart none. refl;
+      joins = λ j. refl;
       edges = refl;
       start = refl;
       spare = omega arith;
@@ -122,28 +119,33 @@ module _ {nodes : List Node} {header : Header} {events : List Event} {op : Opera
     low_other j apart = reached-other e new op.node f j apart noted
 
     low_input : (j : ℕ) (left : Bool) → IsReader b.stands.node left j
-        → (number_at new j ≡ number_at e j) × IsJoinedEdge nodes header (events ++ step op.node ∷ []) j (held_at new j)
+        → (number_at new j ≡ number_at e j) × IsJoinedEdge nodes header (events ++ step op.node ∷ []) (edge_at new j).joins j (held_at new j)
     low_input j left r =
         let same : edge_at new j ≡ edge_at e j = low_other j (input_apart b j left r) in (
           ap (λ (y : Edge). y.number) same,
-          subst (λ (y : Edge). IsJoinedEdge nodes header (events ++ step op.node ∷ []) j (held_of y)) (sym same) (edge_low b j left r f allowed low),
+          subst (λ (y : Edge). IsJoinedEdge nodes header (events ++ step op.node ∷ []) y.joins j (held_of y)) (sym same)
+              (edge_low b j left r f allowed low),
         )
+
+    low_joins : (j : ℕ) → (edge_at new j).joins ≡ (edge_at e j).joins
+    low_joins j = by_place (cases_eq j op.node)
+      where
+        by_place : (j ≡ op.node) ⊎ (j ≢ op.node) → (edge_at new j).joins ≡ (edge_at e j).joins
+        by_place (inl same) = subst (λ (k : ℕ). (edge_at new k).joins ≡ (edge_at e k).joins) (sym same) (ap (λ (y : Edge). y.joins) low_edge)
+        by_place (inr apart) = ap (λ (y : Edge). y.joins) (low_other j apart)
 
     -- a step to a number before the start puts nothing
     pub low_stepped : HasStepped nodes header events op.node e new
     low_stepped = record {
       verdicts = [];
       emitted = nothing_here b f allowed low;
-      few = none_few (2 * held_by_inputs nodes op.node e + 2);
-      room = subst (λ (y : Edge). length (held_of y) ≤ length (held_at e op.node) + room_of_step nodes events op.node e) (sym low_edge)
-          (more_few (length (held_at e op.node)) (room_of_step nodes events op.node e));
+      few = none_few (room_of_step nodes events op.node e);
       seen = ap (λ (y : Edge). y.seen) low_edge;
-      got = subst (λ (y : Edge). Stand (edge_at e op.node).joins (fresh_at e op.node ++ []) y.fresh) (sym low_edge)
-          (more-none (edge_at e op.node) (edge_at e op.node) refl).fresh;
-      joins = ap (λ (y : Edge). y.joins) low_edge;
+      got = ap (λ (y : Edge). y.fresh) low_edge ∙ sym (append-nil (fresh_at e op.node));
       number = ap (λ (y : Edge). y.number) low_edge ∙ sym allowed;
       inputs = λ j n left at r. low_input j left (subst (λ (m : Node). IsReader m left j) (reader_here n at) r);
       others = λ j apart none. low_other j apart;
+      joins = low_joins;
       edges = reached-length e new op.node f noted;
       start = ap (λ (y : Held). y.start) noted;
       spare = (let s : new.spare ≡ e.spare = ap (λ (y : Held). y.spare) noted in omega (arith, s));

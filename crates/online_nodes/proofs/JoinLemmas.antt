@@ -19,7 +19,7 @@ use Rattle.frac128.specs.declared.cut.Cut.{Cut}
 use Rattle.online_nodes.specs.declared.join.Join.{Join}
 use Rattle.online_nodes.specs.declared.join.Inputs.{Inputs}
 use Rattle.online_nodes.specs.declared.writer.Out.{Out}
-use Rattle.rational.proofs.PlaceLemmas.{between, same_places, upto_same, after_at_most, not_before_itself}
+use Rattle.rational.proofs.PlaceLemmas.{same_places, upto_same, after_at_most, not_before_itself}
 use Rattle.online_nodes.proofs.GotLemmas.{got-other}
 use Rattle.online_nodes.proofs.SaidLemmas.{passed-fresh, passed-one}
 use Rattle.online_nodes.proofs.WorkLemmas.{passed-other, first_and_rest, worked_none, worked_pass, worked_put, worked_both}
@@ -199,7 +199,7 @@ module _ {old mid : Held} {join : Join} {inputs : Inputs} {out next : Out} {v w 
   kept_right = ap (λ x. x.fresh) (got-other said.said.got inputs.right said.right_apart)
 
   put_only : HasWorked old mid out.edge inputs.left inputs.right said.said.more
-  put_only = worked_put said.left_apart said.right_apart said.said.got
+  put_only = worked_put said.own said.left_apart said.right_apart said.said.got
 
   module _ {n p q : Subformula} {tr : Trace} {begin : Place} {written : List Verdict} {left right stop_left stop_right : Place}
       (join_of : IsJoinOf join n p q tr)

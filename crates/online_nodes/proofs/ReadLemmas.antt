@@ -110,7 +110,7 @@ module _ {nodes : List Node} {header : Header} {events : List Event} {op : Opera
     pub input_apart : j ≢ op.node
     input_apart same = absurd (omega (arith, input_below, same))
 
-    abbrev held_edge : IsJoinedEdge nodes header events j (held_at e j)
+    abbrev held_edge : IsJoinedEdge nodes header events (edge_at e j).joins j (held_at e j)
     held_edge = edge b j left r
 
     -- an input's edge notes the input's number
@@ -181,7 +181,7 @@ module _ {nodes : List Node} {header : Header} {events : List Event} {op : Opera
     pub edge_of : (held : List Verdict) → AreNeeded (first_time (state nodes events).rows)
         (shown (after_event nodes (state nodes events) (step op.node)) j)
         ((after_event nodes (state nodes events) (step op.node)).fronts op.node) (reach_back b.stands.node left) held_edge.stretches held
-        → IsJoinedEdge nodes header (events ++ step op.node ∷ []) j held
+        → IsJoinedEdge nodes header (events ++ step op.node ∷ []) (edge_at e j).joins j held
     edge_of held h = record {
       reader = op.node;
       reading = b.stands.node;
@@ -191,7 +191,7 @@ module _ {nodes : List Node} {header : Header} {events : List Event} {op : Opera
       emitted = held_edge.emitted;
       is_emitted = other_step nodes header events op.node j held_edge.emitted input_apart held_edge.is_emitted;
       stretches = held_edge.stretches;
-      are_joined = held_edge.are_joined;
+      stand = held_edge.stand;
       is_needed = subst (λ (st : State). AreNeeded (first_time st.rows) (shown st j) (st.fronts op.node) (reach_back b.stands.node left)
           held_edge.stretches held) (sym with_step) h;
     }
@@ -204,7 +204,7 @@ module _ {nodes : List Node} {header : Header} {events : List Event} {op : Opera
 
       moved_edge : (held : List Verdict)
           → AreNeeded (first_time (state nodes events).rows) (shown (state nodes events) j) (Some f) (reach_back b.stands.node left)
-          held_edge.stretches held → IsJoinedEdge nodes header (events ++ step op.node ∷ []) j held
+          held_edge.stretches held → IsJoinedEdge nodes header (events ++ step op.node ∷ []) (edge_at e j).joins j held
       moved_edge held h =
           edge_of held
           (subst (λ (o : Front). AreNeeded (first_time (state nodes events).rows) o ((after_event nodes (state nodes events) (step op.node)).fronts
@@ -214,7 +214,8 @@ module _ {nodes : List Node} {header : Header} {events : List Event} {op : Opera
 
       -- after a step to a number that is not below the start it needs what ends beyond that number, moved by how far the node looks back
       pub edge_later : (held : List Verdict) → pos (first_time (state nodes events).rows) ≤ℤ f
-          → held ≡ beyond (whole (f +ℤ reach_back b.stands.node left)) (held_at e j) → IsJoinedEdge nodes header (events ++ step op.node ∷ []) j held
+          → held ≡ beyond (whole (f +ℤ reach_back b.stands.node left)) (held_at e j)
+          → IsJoinedEdge nodes header (events ++ step op.node ∷ []) (edge_at e j).joins j held
       edge_later held low is =
           moved_edge held
           (subst (λ l. AreNeeded S (shown (state nodes events) j) (Some f) k held_edge.stretches l) (sym is)
@@ -233,7 +234,8 @@ module _ {nodes : List Node} {header : Header} {events : List Event} {op : Opera
           by_front (Some g) w h = needs_later S g ((state nodes events).fronts op.node) f k held_edge.stretches (held_at e j) w low below_new h
 
       -- below the start all
-      pub edge_low : f <ℤ pos (first_time (state nodes events).rows) → IsJoinedEdge nodes header (events ++ step op.node ∷ []) j (held_at e j)
+      pub edge_low : f <ℤ pos (first_time (state nodes events).rows)
+          → IsJoinedEdge nodes header (events ++ step op.node ∷ []) (edge_at e j).joins j (held_at e j)
       edge_low low = moved_edge (held_at e j) (by_front (shown (state nodes events) j) (needs b j left r))
         where
           S : ℕ

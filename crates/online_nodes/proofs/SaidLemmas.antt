@@ -48,7 +48,7 @@ answered_twice {old} {mid} {new} {before} {middle} {after} {first} {second} with
       more = one.more ++ two.more;
       few = omega (arith, one.few, two.few, length-append one.more two.more);
       owed = omega (arith, one.owed, two.owed, length-append one.more two.more);
-      got = got_both one.got (subst (λ i. HasGot mid new i two.more) one.edge two.got);
+      got = got_both within one.got (subst (λ i. HasGot mid new i two.more) one.edge two.got);
       edge = two.edge ∙ one.edge;
       end = two.end ∙ one.end;
       sound = two.sound;
@@ -106,4 +106,4 @@ pub worked_read : {old mid new : Held} {own i : ℕ} {v : Verdict} {more : List 
     → HasGot old mid own more → HasPassed mid new i v → HasWorked old new own i i more
 worked_read {old} {mid} {new} {own} {i} {v} {more} within apart got passed =
     subst (λ l. HasWorked old new own i i l) (append-nil more)
-    (worked_both (worked_put apart apart got) (worked_pass passed (λ same. apart (sym same)) (inl refl)))
+    (worked_both (worked_put within apart apart got) (worked_pass passed (λ same. apart (sym same)) (inl refl)))

@@ -221,7 +221,7 @@ module _ {old mid : Held} {s : Since} {c : Wrote} {out : Out} {held begin last r
 
   moved_by : {new : Held} {more : List Verdict} → HasWorked mid new c.out.edge s.window.of s.right more
       → HasWorked old new c.out.edge s.window.of s.right (g.said.more ++ more)
-  moved_by worked = worked_both (worked_put g.at.left_apart g.at.right_apart g.said.got) worked
+  moved_by worked = worked_both (worked_put g.at.own g.at.left_apart g.at.right_apart g.said.got) worked
 
   -- the right verdict was read
   pub counts_right : {new : Held} → CanMoveRun s.window c → HasReadRight mid new s v w
@@ -231,7 +231,7 @@ module _ {old mid : Held} {s : Since} {c : Wrote} {out : Out} {held begin last r
         more = g.said.more;
         few = g.said.few;
         owed = g.said.owed;
-        worked = worked_then_pass (worked_put g.at.left_apart g.at.right_apart g.said.got) read.passed (λ same. g.at.right_apart (sym same))
+        worked = worked_then_pass (worked_put g.at.own g.at.left_apart g.at.right_apart g.said.got) read.passed (λ same. g.at.right_apart (sym same))
             (inr refl);
         fewer = omega (
           arith,
@@ -263,7 +263,7 @@ module _ {old mid : Held} {s : Since} {c : Wrote} {out : Out} {held begin last r
         more = g.said.more;
         few = g.said.few;
         owed = g.said.owed;
-        worked = worked_then_pass (worked_put g.at.left_apart g.at.right_apart g.said.got) passed (λ same. g.at.left_apart (sym same))
+        worked = worked_then_pass (worked_put g.at.own g.at.left_apart g.at.right_apart g.said.got) passed (λ same. g.at.left_apart (sym same))
             (inl refl);
         fewer = omega (
           arith,
@@ -321,7 +321,7 @@ module _ {old mid : Held} {s : Since} {c : Wrote} {out : Out} {held begin last r
           ap length last_right,
         );
         worked = moved_by (subst (λ i. HasWorked mid new i s.window.of s.right rested.said.more) g.said.edge
-            (worked_put working_now.left_apart working_now.right_apart rested.said.got));
+            (worked_put working_now.own working_now.left_apart working_now.right_apart rested.said.got));
         fewer = omega (arith, ap length last_left, ap length last_right, ap length kept_left, ap length kept_right);
         edge = rested.said.edge ∙ g.said.edge;
         to = rested.said.end ∙ g.said.end;

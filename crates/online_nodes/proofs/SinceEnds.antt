@@ -75,7 +75,7 @@ rest_done {old} {new} {s} {c} {end} at g left is =
       more = g.said.more;
       few = omega (arith, g.said.few);
       owed = omega (arith, g.said.owed);
-      worked = worked_put at.left_apart at.right_apart g.said.got;
+      worked = worked_put at.own at.left_apart at.right_apart g.said.got;
       fewer = omega (arith, ap length left_now, ap length right_now);
       edge = g.said.edge;
       to = g.said.end;
@@ -149,7 +149,7 @@ module _ {old new : Held} {s : Since} {c : Wrote} {out : Out} {held to : Cut} {v
         more = said.more;
         few = omega (arith, said.few);
         owed = omega (arith, said.owed, ap (λ o. waiting o.holds) is);
-        worked = worked_put at.left_apart at.right_apart said.got;
+        worked = worked_put at.own at.left_apart at.right_apart said.got;
         fewer = omega (arith, ap length kept_left, ap length kept_right);
         edge = ap (λ o. o.edge) is ∙ said.edge;
         to = ap (λ o. o.to) is ∙ said.end;

@@ -172,7 +172,7 @@ module _ {old mid new : Held} {s : Since} {c : Wrote} {out : Out} {held cut : Cu
 
   -- the inputs were read on, and what was told was put
   pub all_worked : HasWorked old new c.out.edge s.window.of s.right said.more
-  all_worked = worked_then_pass (worked_put at.left_apart at.right_apart said.got) passed (λ same. at.left_apart (sym same)) (inl refl)
+  all_worked = worked_then_pass (worked_put at.own at.left_apart at.right_apart said.got) passed (λ same. at.left_apart (sym same)) (inl refl)
 
 -- the left input fails up to within the stretch: its run ends
 pub run_over : {old mid new : Held} {s : Since} {c : Wrote} {out : Out} {held cut : Cut} {v y : Verdict} → IsWorking old s c

@@ -42,7 +42,7 @@ use Rattle.online_nodes.proofs.RowsLaw.{rows_of, rows_after, trace_so_far, goes_
 use Rattle.online_nodes.proofs.KnowingOn.{Agrees, AgreesUpto, EndsLater, ReadsOn, counted_agrees, knows_on, until_on, since_on}
 use Rattle.online_nodes.proofs.PlacesOn.{after_number, later_place, PlacesOn, Leads, places_on}
 use Rattle.online_nodes.proofs.ReaderLemmas.{child_all}
-use Rattle.online_nodes.proofs.Stretches.{stretches_end, stretches_first, stretches_whole}
+use Rattle.online_nodes.proofs.Stretches.{stand_stretches, stretches_end, stretches_first, stretches_whole}
 
 module _ (nodes : List Node) (header : Header) (formed : AreWellFormed nodes) where
   abbrev order : IsPostOrder nodes
@@ -497,14 +497,16 @@ each_begins c (v ∷ vs) d (s, b, rest) = (
 
 module _ (nodes : List Node) (header : Header) (formed : AreWellFormed nodes) (events : List Event) (run : IsRun nodes header events) where
   -- nothing is held of a node that is not shown
-  pub edge_unshown : (j : ℕ) (held : List Verdict) → IsJoinedEdge nodes header events j held → shown (state nodes events) j ≡ None → held ≡ []
+  pub edge_unshown : {joins : Bool} (j : ℕ) (held : List Verdict) → IsJoinedEdge nodes header events joins j held
+      → shown (state nodes events) j ≡ None → held ≡ []
   edge_unshown j held edge x = subst (λ o. AreNeeded (first_time (state nodes events).rows) o ((state nodes events).fronts edge.reader)
       (reach_back edge.reading edge.left) edge.stretches held) x edge.is_needed
 
   -- what is held of a node begins before its front
-  pub edge_within : (j : ℕ) → j < length nodes → (seen fresh : List Verdict) → IsJoinedEdge nodes header events j (seen ++ fresh) → (f : ℤ)
+  pub edge_within : {joins : Bool} (j : ℕ) → j < length nodes → (seen fresh : List Verdict)
+      → IsJoinedEdge nodes header events joins j (seen ++ fresh) → (f : ℤ)
       → (state nodes events).fronts j ≡ Some f → AtMost (first_place fresh (after_number f)) (after_number f)
-  edge_within j l seen fresh edge f front = by_fresh fresh all
+  edge_within {joins} j l seen fresh edge f front = by_fresh fresh all
     where
       s : State
       s = state nodes events
@@ -522,7 +524,7 @@ module _ (nodes : List Node) (header : Header) (formed : AreWellFormed nodes) (e
           (each_begins (answered_to (first_time s.rows) None) edge.stretches (answered_to (first_time s.rows) (Some g)) w))
 
       all : Each (λ v. AtMost (begins (interval v.on)) (after_number f)) (seen ++ fresh)
-      all = by_needed (shown s j) refl (stretches_whole edge.are_joined (first_time s.rows) (shown s j)
+      all = by_needed (shown s j) refl (stretches_whole (stand_stretches joins edge.stand) (first_time s.rows) (shown s j)
           (emitted_tiles nodes header formed.post_order events run j l edge.emitted edge.is_emitted)) edge.is_needed
 
       by_fresh : (fresh : List Verdict) → Each (λ v. AtMost (begins (interval v.on)) (after_number f)) (seen ++ fresh)

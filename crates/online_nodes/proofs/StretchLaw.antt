@@ -1,7 +1,7 @@
--- What an edge holds where neighbours are joined, after one event more, and that it is no more than the segments that its reader may need.
-use Rattle.std.proofs.Common.{◌≡◌, ◌⊎◌, inl, inr, refl, sym, ap, subst, ◌∙◌, ℕ, ◌+◌, ◌<◌, ◌≤◌, Bool, true, false, Some, None, List, [], ◌∷◌, ◌++◌}
-use Rattle.std.proofs.Common.{length, ℤ, pos, ◌+ℤ◌, ◌≤ℤ◌, ◌<ℤ◌, arith, append_assoc, length-append}
-use Rattle.std.specs.Prelude.{int_lt, cond}
+-- What an edge holds after one event more, whether it joins or not, and that it is no more than the segments that its reader may need.
+use Rattle.std.proofs.Common.{◌≡◌, inl, inr, refl, sym, ap, subst, ◌∙◌, ℕ, ◌<◌, ◌≤◌, Bool, true, false, Some, None, List, [], ◌∷◌, ◌++◌}
+use Rattle.std.proofs.Common.{length, ℤ, pos, ◌+ℤ◌, arith, append_assoc, length-append}
+use Rattle.std.specs.Prelude.{int_lt, cond, ◌↔◌}
 use Rattle.std.proofs.lemmas.List.{append-nil}
 use Rattle.rational.specs.Rational.{Rational, whole}
 use Rattle.rational.specs.Time.{Interval, less}
@@ -14,9 +14,9 @@ use Rattle.stl_syntax.specs.declared.items.Verdict.{Verdict}
 use Rattle.stl_syntax.specs.declared.node.Node.{Node}
 use Rattle.online_nodes.specs.Network.{Event, Front, State, needed, shown, after_event, state, reach_back, Emitted, EmittedAt, IsRun, MayCome}
 use Rattle.online_nodes.specs.Needed.{Meets, AreMeeting, AreNeeded, IsEdge, IsJoinedEdge}
-use Rattle.online_nodes.specs.Held.{AreStretches, as_given}
+use Rattle.online_nodes.specs.Held.{AreStretches, Stand, as_given}
 use Rattle.online_nodes.specs.Laws.{AreTiles, answered_to, beyond, IsWhole}
-use Rattle.online_nodes.proofs.EdgeLaw.{IsStill, holds_more, after_one, run_more, emitted_more, shown_stays}
+use Rattle.online_nodes.proofs.EdgeLaw.{holds_more, after_one, run_more, emitted_more, shown_stays}
 use Rattle.online_nodes.proofs.EmittedLaw.{emitted_tiles}
 use Rattle.online_nodes.proofs.FrameLaw.{nothing_given}
 use Rattle.online_nodes.proofs.HeldFacts.{needed_part}
@@ -24,8 +24,8 @@ use Rattle.online_nodes.proofs.MeetingLaw.{Each, all_meeting, one_meeting, neede
 use Rattle.online_nodes.proofs.RisingLaw.{sound_of}
 use Rattle.online_nodes.proofs.RunLaw.{none_is_none}
 use Rattle.online_nodes.proofs.StepFacts.{needs_later, needs_same}
-use Rattle.online_nodes.proofs.Stretches.{none_long, stretches_again, stretches_behind, stretches_meet, stretches_meet_few, stretches_more}
-use Rattle.online_nodes.proofs.Stretches.{stretches_none, stretches_whole}
+use Rattle.online_nodes.proofs.Stretches.{none_long, stand_again, stand_behind, stand_given, stand_more, stand_stretches}
+use Rattle.online_nodes.proofs.Stretches.{stretches_behind, stretches_meet, stretches_meet_few, stretches_none, stretches_whole}
 
 -- each of those that meet a stretch does
 meets_each : (stretch : Interval) (vs held : List Verdict) → AreMeeting stretch vs held → Each (Meets stretch) held
@@ -96,6 +96,42 @@ needed_joined start (Some f) reader k vs held held' whole s h =
           (stretches_meet stretch s (meets_each stretch vs held h)),
     )
 
+-- so it is for what stands on an edge, whether it joins or not
+needed_stands : (b : Bool) (start : ℕ) (o reader : Front) (k : ℤ) (vs held held' : List Verdict) → IsWhole start o vs → Stand b held held'
+    → AreNeeded start o reader k vs held
+    → (vs' : List Verdict) × Stand b vs vs' × AreNeeded start o reader k vs' held'
+needed_stands true start o reader k vs held held' whole s h = needed_joined start o reader k vs held held' whole s h
+needed_stands false start o reader k vs held held' whole s h = (vs, refl, subst (λ l. AreNeeded start o reader k vs l) (sym s) h)
+
+-- an edge that does not join holds the segments that its reader may need, and what holds them is such an edge
+pub plain_holds : (nodes : List Node) (header : Header) (events : List Event) (j : ℕ) (held : List Verdict)
+    → IsJoinedEdge nodes header events false j held ↔ IsEdge nodes header events j held
+plain_holds nodes header events j held = (
+  (λ edge. record {
+    reader = edge.reader;
+    reading = edge.reading;
+    left = edge.left;
+    at_reader = edge.at_reader;
+    reads = edge.reads;
+    emitted = edge.emitted;
+    is_emitted = edge.is_emitted;
+    is_needed = subst (λ vs. AreNeeded (first_time (state nodes events).rows) (shown (state nodes events) j)
+        ((state nodes events).fronts edge.reader) (reach_back edge.reading edge.left) vs held) edge.stand edge.is_needed;
+  }),
+  (λ edge. record {
+    reader = edge.reader;
+    reading = edge.reading;
+    left = edge.left;
+    at_reader = edge.at_reader;
+    reads = edge.reads;
+    emitted = edge.emitted;
+    is_emitted = edge.is_emitted;
+    stretches = edge.emitted;
+    stand = refl;
+    is_needed = edge.is_needed;
+  }),
+)
+
 -- of verdicts without gap some are needed
 needed_some : (start : ℕ) (f : ℤ) (reader : Front) (k : ℤ) (vs : List Verdict)
     → AreTiles (answered_to start None) vs (answered_to start (Some f)) → (held : List Verdict) × AreNeeded start (Some f) reader k vs held
@@ -118,15 +154,15 @@ module _ (nodes : List Node) (header : Header) (formed : AreWellFormed nodes) wh
 
   module _ (events : List Event) (run : IsRun nodes header events) (j : ℕ) (l : j < length nodes) where
     -- the stretches of an edge are whole
-    pub joined_whole : {held : List Verdict} (edge : IsJoinedEdge nodes header events j held)
+    pub joined_whole : {joins : Bool} {held : List Verdict} (edge : IsJoinedEdge nodes header events joins j held)
         → IsWhole (first_time (state nodes events).rows) (shown (state nodes events) j) edge.stretches
-    joined_whole edge = stretches_whole edge.are_joined (first_time (state nodes events).rows) (shown (state nodes events) j)
+    joined_whole {joins} edge = stretches_whole (stand_stretches joins edge.stand) (first_time (state nodes events).rows) (shown (state nodes events) j)
         (emitted_tiles nodes header order events run j l edge.emitted edge.is_emitted)
 
     -- an edge holds no more than the segments that its reader may need
-    pub joined_few : (held : List Verdict) → IsJoinedEdge nodes header events j held
+    pub joined_few : (joins : Bool) (held : List Verdict) → IsJoinedEdge nodes header events joins j held
         → (segments : List Verdict) × IsEdge nodes header events j segments × (length held ≤ length segments)
-    joined_few held edge = by_front (shown (state nodes events) j) refl
+    joined_few joins held edge = by_front (shown (state nodes events) j) refl
         (emitted_tiles nodes header order events run j l edge.emitted edge.is_emitted) edge.is_needed
       where
         s : State
@@ -160,19 +196,19 @@ module _ (nodes : List Node) (header : Header) (formed : AreWellFormed nodes) wh
             by_shown None w h = ([], refl, omega (arith, ap length h))
             by_shown (Some f) w h =
                 let some = needed_some S f (s.fronts edge.reader) k edge.emitted w in
-                (some.0, some.1, stretches_meet_few (needed S f (s.fronts edge.reader) k) edge.are_joined held some.0 h some.1)
+                (some.0, some.1, stretches_meet_few (needed S f (s.fronts edge.reader) k) (stand_stretches joins edge.stand) held some.0 h some.1)
 
             few : (segments : List Verdict) × AreNeeded S o (s.fronts edge.reader) k edge.emitted segments × (length held ≤ length segments)
             few = by_shown o whole h
 
-  -- an edge, once its node gave out more, where its reader stays: what was not read may be joined with what came
-  pub joined_grows : (events : List Event) (e : Event) → IsRun nodes header events → MayCome nodes header (state nodes events) e
-      → (j : ℕ) → j < length nodes → (seen fresh fresh' here : List Verdict) → (edge : IsJoinedEdge nodes header events j (seen ++ fresh))
+  -- an edge, once its node gave out more, where its reader stays: where it joins, what was not read may be joined with what came
+  pub joined_grows : {joins : Bool} (events : List Event) (e : Event) → IsRun nodes header events → MayCome nodes header (state nodes events) e
+      → (j : ℕ) → j < length nodes → (seen fresh fresh' here : List Verdict) → (edge : IsJoinedEdge nodes header events joins j (seen ++ fresh))
       → edge.reader < length nodes
       → (after_event nodes (state nodes events) e).fronts edge.reader ≡ (state nodes events).fronts edge.reader
       → EmittedAt nodes header j (state nodes events) (after_event nodes (state nodes events) e) here
-      → AreStretches fresh' (fresh ++ here) → IsJoinedEdge nodes header (events ++ e ∷ []) j (seen ++ fresh')
-  joined_grows events e run may j l seen fresh fresh' here edge rl same given s = record {
+      → Stand joins (fresh ++ here) fresh' → IsJoinedEdge nodes header (events ++ e ∷ []) joins j (seen ++ fresh')
+  joined_grows {joins} events e run may j l seen fresh fresh' here edge rl same given s = record {
     reader = edge.reader;
     reading = edge.reading;
     left = edge.left;
@@ -181,7 +217,7 @@ module _ (nodes : List Node) (header : Header) (formed : AreWellFormed nodes) wh
     emitted = edge.emitted ++ here;
     is_emitted = is_emitted;
     stretches = next.0;
-    are_joined = stretches_again next.1 behind;
+    stand = stand_again joins (edge.emitted ++ here) (edge.stretches ++ here) next.0 behind next.1;
     is_needed = subst (λ st. AreNeeded (first_time st.rows) (shown st j) (st.fronts edge.reader) k next.0 (seen ++ fresh'))
         (sym (after_one nodes header formed events e)) next.2;
   }
@@ -195,11 +231,11 @@ module _ (nodes : List Node) (header : Header) (formed : AreWellFormed nodes) wh
       is_emitted : Emitted nodes header (events ++ e ∷ []) j (edge.emitted ++ here)
       is_emitted = emitted_more nodes header formed events e j edge.emitted here edge.is_emitted given
 
-      behind : AreStretches (edge.stretches ++ here) (edge.emitted ++ here)
-      behind = stretches_more edge.are_joined here
+      behind : Stand joins (edge.emitted ++ here) (edge.stretches ++ here)
+      behind = stand_more joins edge.emitted edge.stretches edge.stand here
 
       whole : IsWhole (first_time s'.rows) (shown s' j) (edge.stretches ++ here)
-      whole = stretches_whole behind (first_time s'.rows) (shown s' j)
+      whole = stretches_whole (stand_stretches joins behind) (first_time s'.rows) (shown s' j)
           (subst (λ st. IsWhole (first_time st.rows) (shown st j) (edge.emitted ++ here)) (after_one nodes header formed events e)
           (emitted_tiles nodes header order (events ++ e ∷ []) (run_more nodes header formed events e run may) j l (edge.emitted ++ here) is_emitted))
 
@@ -208,22 +244,22 @@ module _ (nodes : List Node) (header : Header) (formed : AreWellFormed nodes) wh
           (record { input = l; within = rl; at = edge.at_reader; reads = edge.reads; same = same }) may (sound_of nodes header order events run)
           edge.stretches here (seen ++ fresh) (joined_whole events run j l edge) given edge.is_needed
 
-      stand : AreStretches (seen ++ fresh') ((seen ++ fresh) ++ here)
-      stand = subst (λ m. AreStretches (seen ++ fresh') m) (sym (append_assoc seen fresh here)) (stretches_behind seen s)
+      here_stands : Stand joins ((seen ++ fresh) ++ here) (seen ++ fresh')
+      here_stands = subst (λ m. Stand joins m (seen ++ fresh')) (sym (append_assoc seen fresh here)) (stand_behind joins (fresh ++ here) fresh' seen s)
 
-      next : (vs : List Verdict) × AreStretches vs (edge.stretches ++ here)
+      next : (vs : List Verdict) × Stand joins (edge.stretches ++ here) vs
           × AreNeeded (first_time s'.rows) (shown s' j) (s'.fronts edge.reader) k vs (seen ++ fresh')
-      next = needed_joined (first_time s'.rows) (shown s' j) (s'.fronts edge.reader) k (edge.stretches ++ here) ((seen ++ fresh) ++ here)
-          (seen ++ fresh') whole stand grown
+      next = needed_stands joins (first_time s'.rows) (shown s' j) (s'.fronts edge.reader) k (edge.stretches ++ here) ((seen ++ fresh) ++ here)
+          (seen ++ fresh') whole here_stands grown
 
   -- an edge whose node and whose reader stay
-  pub joined_stays : (events : List Event) (e : Event) → IsRun nodes header events → MayCome nodes header (state nodes events) e
-      → (j : ℕ) → j < length nodes → (held : List Verdict) → (edge : IsJoinedEdge nodes header events j held) → edge.reader < length nodes
+  pub joined_stays : {joins : Bool} (events : List Event) (e : Event) → IsRun nodes header events → MayCome nodes header (state nodes events) e
+      → (j : ℕ) → j < length nodes → (held : List Verdict) → (edge : IsJoinedEdge nodes header events joins j held) → edge.reader < length nodes
       → (after_event nodes (state nodes events) e).fronts edge.reader ≡ (state nodes events).fronts edge.reader
       → (after_event nodes (state nodes events) e).fronts j ≡ (state nodes events).fronts j
-      → IsJoinedEdge nodes header (events ++ e ∷ []) j held
-  joined_stays events e run may j l held edge rl same stays =
+      → IsJoinedEdge nodes header (events ++ e ∷ []) joins j held
+  joined_stays {joins} events e run may j l held edge rl same stays =
       joined_grows events e run may j l [] held held [] edge rl same
       (nothing_given nodes header j (state nodes events) (after_event nodes (state nodes events) e)
       (shown_stays nodes header formed (state nodes events) e (sound_of nodes header order events run) j l stays))
-      (subst (λ m. AreStretches held m) (sym (append-nil held)) as_given)
+      (subst (λ m. Stand joins m held) (sym (append-nil held)) (stand_given joins held))

@@ -1,5 +1,5 @@
 -- Verdicts of which some neighbours of one truth are joined.
-use Rattle.std.proofs.Common.{◌≡◌, ◌⊎◌, inl, inr, refl, sym, ap, subst, ◌∙◌, ℕ, suc, ◌≤◌, Bool, true, false, not, ◌&&◌, Some, None, List, [], ◌∷◌, ◌++◌}
+use Rattle.std.proofs.Common.{◌≡◌, ◌⊎◌, inl, inr, refl, sym, ap, subst, ◌∙◌, ℕ, ◌≤◌, Bool, true, false, not, ◌&&◌, Some, None, List, [], ◌∷◌, ◌++◌}
 use Rattle.std.proofs.Common.{length, arith, append_assoc, length-append}
 use Rattle.std.specs.Prelude.{slice_get, MatchBool}
 use Rattle.std.proofs.lemmas.Option.{same_Some}
@@ -204,10 +204,38 @@ pub stretches_again : {a b c : List Verdict} → AreStretches a b → AreStretch
 stretches_again first as_given = first
 stretches_again first (joined front back j rest) = joined front back j (stretches_again first rest)
 
--- as they stand on an edge they are stretches
+-- verdicts are their own stretches
+pub all_stretches : {a b : List Verdict} → a ≡ b → AreStretches a b
+all_stretches {a} {b} e = subst (λ l. AreStretches l b) (sym e) as_given
+
+-- ---- as verdicts stand on an edge, by whether it joins
+
+-- they stand so as they were given
+pub stand_given : (b : Bool) (vs : List Verdict) → Stand b vs vs
+stand_given true vs = as_given
+stand_given false vs = refl
+
+-- they are stretches
 pub stand_stretches : (b : Bool) {all stretches : List Verdict} → Stand b all stretches → AreStretches stretches all
 stand_stretches true s = s
-stand_stretches false {all} s = subst (λ l. AreStretches l all) (sym s) as_given
+stand_stretches false s = all_stretches s
+
+-- with the same verdicts behind them
+pub stand_more : (b : Bool) (all stretches : List Verdict) → Stand b all stretches → (c : List Verdict) → Stand b (all ++ c) (stretches ++ c)
+stand_more true all stretches s c = stretches_more s c
+stand_more false all stretches s c = ap (λ l. l ++ c) s
+
+-- and with the same before them
+pub stand_behind : (b : Bool) (all stretches p : List Verdict) → Stand b all stretches → Stand b (p ++ all) (p ++ stretches)
+stand_behind true all stretches p s = stretches_behind p s
+stand_behind false all stretches p s = ap (λ l. p ++ l) s
+
+-- and as what stood so stands
+pub stand_again : (b : Bool) (all mid stretches : List Verdict) → Stand b all mid → Stand b mid stretches → Stand b all stretches
+stand_again true all mid stretches first second = stretches_again second first
+stand_again false all mid stretches first second = second ∙ first
+
+-- ---- what stretches are
 
 -- there are no more of them
 pub stretches_few : {a b : List Verdict} → AreStretches a b → length a ≤ length b

@@ -98,7 +98,7 @@ gone_to_end {old} {now} {same} {new} {w} {s} {here} {end} own apart gone stopped
       more = gone.more ++ ended.more;
       few = omega (arith, gone.few, ended.few, length-append gone.more ended.more);
       owed = omega (arith, gone.owed, ended.owed, length-append gone.more ended.more);
-      worked = worked_both gone.worked (worked_put apart apart got);
+      worked = worked_both gone.worked (worked_put own_now apart apart got);
       beyond = λ v first. subst (λ (q : Cut). Before (place q) (moved_begin w.begin_by w.begin_in (begins (interval v.on)))) gone.end
           (stopped.beyond v (ap (λ f. slice_get f 0) (sym kept) ∙ first));
       edge = ended.edge ∙ gone.edge;

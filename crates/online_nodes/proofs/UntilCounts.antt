@@ -150,7 +150,7 @@ module _ {old mid : Held} {u : Until} {s : Sweep} {found out : Out} {from reach 
       let kept_left : fresh_at mid u.window.of ≡ fresh_at old u.window.of = ap (λ y. y.fresh)
       (got-other said.answers.got u.window.of said.left_apart) in
       let kept_right : fresh_at mid u.right ≡ fresh_at old u.right = ap (λ y. y.fresh) (got-other said.answers.got u.right said.right_apart) in
-      let put = worked_put said.left_apart said.right_apart said.answers.got in
+      let put = worked_put said.own said.left_apart said.right_apart said.answers.got in
       record {
         more = said.answers.more;
         few = said.answers.few;

@@ -118,7 +118,7 @@ module _ {old mid : Held} {u : Until} {s : Sweep} {found out : Out} {cut : Cut} 
         more = said.answers.more;
         few = said.answers.few;
         owed = said.answers.owed;
-        worked = worked_then_pass (worked_put said.left_apart said.right_apart said.answers.got) passed
+        worked = worked_then_pass (worked_put said.own said.left_apart said.right_apart said.answers.got) passed
             (λ same. said.left_apart (sym same)) (inl refl);
         fewer = omega (arith, ap length kept_left, ap length kept_right, passed-one passed);
         edge = said.answers.edge;

@@ -4,16 +4,22 @@ use Rattle.std.proofs.Common.{refl, sym, ap, ◌∙◌, arith, append_assoc, len
 use Rattle.std.proofs.lemmas.Bool.{cases_eq}
 use Rattle.std.proofs.lemmas.List.{get_or-set_same, get_or-set_other, length-set}
 use Rattle.stl_syntax.specs.declared.items.Verdict.{Verdict}
-use Rattle.online_nodes.specs.Held.{Held, Edge, no_edge, edge_at, held_of, with_read}
+use Rattle.online_nodes.specs.Held.{Held, Edge, no_edge, edge_at, held_of, with_more, with_read}
 use Rattle.online_nodes.specs.Written.{HasGot}
 use Rattle.online_nodes.specs.Working.{HasPassed, IsReadOn, HasWorked}
 use Rattle.online_nodes.proofs.DroppingLemmas.{drop-drop}
-use Rattle.online_nodes.proofs.GotLemmas.{got-length, got-other, more-none, more-both}
+use Rattle.online_nodes.proofs.GotLemmas.{got-length, got-here, got-other, with_more-none, with_more-both}
 
 -- nothing was read
 pub read_none : (old new : Edge) → new ≡ old → IsReadOn old new
 read_none old new same =
-    record { read = 0; held = ap held_of same; fresh = ap (λ x. x.fresh) same; number = ap (λ x. x.number) same }
+    record {
+      read = 0;
+      held = ap held_of same;
+      fresh = ap (λ x. x.fresh) same;
+      number = ap (λ x. x.number) same;
+      joins = ap (λ (x : Edge). x.joins) same;
+    }
 
 -- a list with a first item, by its first item
 pub first_and_rest : {X : Type 0} (xs : List X) (x : X) → slice_get xs 0 ≡ Some x → xs ≡ x ∷ drop 1 xs
@@ -28,6 +34,7 @@ read_one_more x v first =
       held = append_assoc x.seen (v ∷ []) (drop 1 x.fresh) ∙ ap (λ vs. x.seen ++ vs) (sym (first_and_rest x.fresh v first));
       fresh = refl;
       number = refl;
+      joins = refl;
     }
 
 -- reading on twice is reading on
@@ -38,15 +45,16 @@ read_both a b c first second =
       held = second.held ∙ first.held;
       fresh = second.fresh ∙ ap (drop second.read) first.fresh ∙ drop-drop second.read first.read a.fresh;
       number = second.number ∙ first.number;
+      joins = second.joins ∙ first.joins;
     }
 
 -- a node that put verdicts and read nothing
-pub worked_put : {old new : Held} {own left right : ℕ} {more : List Verdict} → left ≢ own → right ≢ own → HasGot old new own more
-    → HasWorked old new own left right more
-worked_put {old} {new} {own} {left} {right} {more} apart_left apart_right got =
+pub worked_put : {old new : Held} {own left right : ℕ} {more : List Verdict} → own < length old.edges → left ≢ own → right ≢ own
+    → HasGot old new own more → HasWorked old new own left right more
+worked_put {old} {new} {own} {left} {right} {more} within apart_left apart_right got =
     record {
       count = got-length got;
-      got = got.here;
+      got = got-here got within;
       left_read = read_none _ _ (got-other got left apart_left);
       right_read = read_none _ _ (got-other got right apart_right);
       others = λ j other l r. got-other got j other;
@@ -82,7 +90,7 @@ module _ {old new : Held} {i : ℕ} {v : Verdict} (passed : HasPassed old new i 
   worked_pass {own} {left} {right} apart which =
       record {
         count = passed-length;
-        got = more-none (edge_at old own) (edge_at new own) (passed-other own apart);
+        got = passed-other own apart ∙ sym (with_more-none (edge_at old own));
         left_read = passed-any left;
         right_read = passed-any right;
         others = λ j other l r. passed-other j (not_it j l r which);
@@ -99,7 +107,7 @@ pub worked_none : (e : Held) (own left right : ℕ) → HasWorked e e own left r
 worked_none e own left right =
     record {
       count = refl;
-      got = more-none (edge_at e own) (edge_at e own) refl;
+      got = sym (with_more-none (edge_at e own));
       left_read = read_none _ _ refl;
       right_read = read_none _ _ refl;
       others = λ j other l r. refl;
@@ -113,7 +121,7 @@ pub worked_both : {a b c : Held} {own left right : ℕ} {xs ys : List Verdict} �
 worked_both {a} {b} {c} {own} {left} {right} {xs} {ys} first second =
     record {
       count = second.count ∙ first.count;
-      got = more-both first.got second.got;
+      got = second.got ∙ ap (λ x. with_more x ys) first.got ∙ with_more-both (edge_at a own) xs ys;
       left_read = read_both _ _ _ first.left_read second.left_read;
       right_read = read_both _ _ _ first.right_read second.right_read;
       others = λ j other l r. second.others j other l r ∙ first.others j other l r;

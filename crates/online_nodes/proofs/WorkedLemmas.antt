@@ -32,7 +32,7 @@ use Rattle.online_nodes.proofs.AnsweringLemmas.{fresh_few, worked_one, worked_tw
 use Rattle.online_nodes.proofs.BelongLemmas.{own_edge}
 use Rattle.online_nodes.proofs.DueLemmas.{among_apart, among_telling, begun_behind, begun_enough, begun_told, due_cases}
 use Rattle.online_nodes.proofs.DueLemmas.{formula_is, kind_is, knows_at}
-use Rattle.online_nodes.proofs.GotLemmas.{got-length, got-other}
+use Rattle.online_nodes.proofs.GotLemmas.{got-here, got-length, got-other}
 use Rattle.online_nodes.proofs.TellingLemmas.{fresh_tells, tells_first}
 use Rattle.online_nodes.proofs.LooksLaw.{and_joins, implies_joins, not_denies, or_joins}
 use Rattle.rational.proofs.PlaceLemmas.{same_places, same_trans_places, upto_same}
@@ -154,7 +154,7 @@ module _ {x : Situation} {op : Operator} {old : Held} {work : Outcome} (d : IsDu
         owed = let m = said.few in let w = waiting_few done.out.holds in omega arith;
         worked = record {
           count = got-length got;
-          got = got.here;
+          got = got-here got own;
           read = λ j is. read_none _ _ (got-other got j (among_apart d j is));
           others = λ j apart none. got-other got j apart;
           start = got.start;

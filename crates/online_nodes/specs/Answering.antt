@@ -5,7 +5,7 @@ use Rattle.std.specs.Prelude.{if◌then◌else◌, List, length, ℤ, pos, neg_�
 use Rattle.stl_syntax.specs.declared.items.Verdict.{Verdict}
 use Rattle.rational.specs.Places.{AtMost}
 use Rattle.frac128.specs.Cuts.{place}
-use Rattle.online_nodes.specs.Held.{Held, edge_at, fresh_at, HasMore, IsDroppedBy}
+use Rattle.online_nodes.specs.Held.{Held, edge_at, fresh_at, with_more, IsDroppedBy}
 use Rattle.online_nodes.specs.Written.{HasAnswer, HasFinished}
 use Rattle.online_nodes.specs.Working.{IsReadOn}
 use Rattle.online_nodes.specs.Joins.{HasJoined}
@@ -107,7 +107,7 @@ HasBody (Since s) old new out marks a =
 -- a node's edge `own` got the verdicts, each for one of the spare places; of its inputs' edges some verdicts were read; nothing else changed
 pub record HasWorkedOn (kind : Kind) (old new : Held) (own : ℕ) (more : List Verdict) : Type 0 where
   pub count : length new.edges ≡ length old.edges
-  pub got : HasMore (edge_at old own) (edge_at new own) more
+  pub got : edge_at new own ≡ with_more (edge_at old own) more
   pub read : (j : ℕ) → IsInput kind j → IsReadOn (edge_at old j) (edge_at new j)
   pub others : (j : ℕ) → j ≢ own → (IsInput kind j → ⊥) → edge_at new j ≡ edge_at old j
   pub start : new.start ≡ old.start

@@ -28,8 +28,8 @@ use Rattle.frac128.specs.Spans.{interval}
 use Rattle.frac128.specs.Value.{value}
 use Rattle.stl_syntax.specs.declared.items.Verdict.{Verdict}
 
--- one edge: the verdicts that its reader has read and may still need, those that it has not read, the node's number, and whether
--- neighbours of one truth may be joined there as long as they are not read
+-- one edge: the verdicts that its reader has read and may still need, those that it has not read, the node's number, and whether the
+-- edge joins: whether neighbours of one truth may be joined there as long as they are not read
 pub record Edge : Type 0 where
   pub seen : List Verdict
   pub fresh : List Verdict
@@ -86,25 +86,29 @@ pub data AreStretches (stretches : List Verdict) : List Verdict → Type 0 where
   joined : {v w u : Verdict} (front back : List Verdict) → IsJoined v w u → AreStretches stretches (front ++ u ∷ back)
       → AreStretches stretches (front ++ v ∷ w ∷ back)
 
--- the verdicts as they stand on an edge: some neighbours joined where the edge joins, and else as they were given
+-- how verdicts stand on an edge: where it joins some neighbours of one truth may be joined, and else they stand as they were given
 abbrev pub Stand : Bool → List Verdict → List Verdict → Type 0
 Stand false verdicts stretches = stretches ≡ verdicts
 Stand true verdicts stretches = AreStretches stretches verdicts
 
--- the edge has these verdicts more at its back
+-- the edge with these verdicts more at its back
+abbrev pub with_more : Edge → List Verdict → Edge
+with_more x more = record { seen = x.seen; fresh = x.fresh ++ more; number = x.number; joins = x.joins }
+
+-- the edge has these verdicts more at its back, where it joins maybe joined with each other and with what was not read
 pub record HasMore (old new : Edge) (more : List Verdict) : Type 0 where
   pub seen : new.seen ≡ old.seen
   pub fresh : Stand old.joins (old.fresh ++ more) new.fresh
   pub number : new.number ≡ old.number
   pub joins : new.joins ≡ old.joins
 
--- the edge with this verdict at its back, as it is
-abbrev pub with_one : Edge → Verdict → Edge
-with_one x v = record { seen = x.seen; fresh = x.fresh ++ v ∷ []; number = x.number; joins = x.joins }
-
 -- the edge, which joins from then on
 abbrev pub joining : Edge → Edge
 joining x = record { seen = x.seen; fresh = x.fresh; number = x.number; joins = true }
+
+-- each edge joins where it joined: none begins to, and none ceases to
+abbrev pub JoinsAlike : Held → Held → Type 0
+JoinsAlike old new = (i : ℕ) → (edge_at new i).joins ≡ (edge_at old i).joins
 
 -- the edge once this verdict, its first fresh one, was read
 abbrev pub with_read : Edge → Verdict → Edge

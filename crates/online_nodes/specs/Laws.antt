@@ -1,5 +1,5 @@
 -- Laws of runs and of what stands on edges.
-use Rattle.std.specs.Prelude.{◌≡◌, ◌≢◌, ℕ, ◌<◌, ◌≤◌, ◌-◌, None, Bool, true, false, List, [], ◌∷◌, ◌++◌}
+use Rattle.std.specs.Prelude.{◌≡◌, ◌≢◌, ◌↔◌, ℕ, ◌<◌, ◌≤◌, ◌-◌, None, Bool, true, false, List, [], ◌∷◌, ◌++◌}
 use Rattle.std.specs.Prelude.{length, drop, slice_get, Some, ℤ, pos, ◌+ℤ◌, ◌-ℤ◌, ◌≤ℤ◌, if◌then◌else◌}
 use Rattle.rational.specs.Time.{Rational, ◌≤ʳ◌, left_open, less, whole}
 use Rattle.frac128.specs.Value.{value}
@@ -141,11 +141,17 @@ EdgesGrow =
     → EmittedAt nodes header j (state nodes events) (state nodes (events ++ e ∷ [])) here
     → IsEdge nodes header (events ++ e ∷ []) j (held ++ here)
 
--- an edge holds no more than the segments that its reader may still need
+-- an edge that does not join holds the segments that its reader may still need
+abbrev pub PlainEdgesHoldSegments : Type 0
+PlainEdgesHoldSegments =
+    (nodes : List Node) (header : Header) (events : List Event) (j : ℕ) (held : List Verdict)
+    → IsJoinedEdge nodes header events false j held ↔ IsEdge nodes header events j held
+
+-- an edge, whether it joins or not, holds no more than the segments that its reader may still need
 abbrev pub JoinedAreFew : Type 0
 JoinedAreFew =
     (nodes : List Node) (header : Header) → AreWellFormed nodes → (events : List Event) → IsRun nodes header events
-    → (j : ℕ) → j < length nodes → (held : List Verdict) → IsJoinedEdge nodes header events j held
+    → (j : ℕ) → j < length nodes → (joins : Bool) (held : List Verdict) → IsJoinedEdge nodes header events joins j held
     → (segments : List Verdict) × IsEdge nodes header events j segments × (length held ≤ length segments)
 
 -- the root's edge holds what was not taken: what it held and what the root gave out at one event more, and after a take its first verdict less

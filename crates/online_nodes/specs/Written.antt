@@ -27,7 +27,7 @@ use Rattle.stl_syntax.specs.declared.items.Verdict.{Verdict}
 use Rattle.rational.specs.Places.{Place, begins, ends, After, Upto, AtMost, Before, Same}
 use Rattle.frac128.specs.Cuts.{place}
 use Rattle.online_nodes.specs.Truths.{AllAre, Is}
-use Rattle.online_nodes.specs.Held.{Held, edge_at, with_edge, HasMore}
+use Rattle.online_nodes.specs.Held.{Held, edge_at, with_edge, with_more}
 use Rattle.frac128.specs.declared.cut.Cut.{Cut}
 use Rattle.online_nodes.specs.declared.writer.Out.{Out}
 
@@ -62,8 +62,7 @@ IsSound out = MatchOption out.holds (Same (place out.from) (place out.at)) (λ h
 
 -- edge i got these verdicts at its back, each for one of the spare places, and nothing else changed
 pub record HasGot (old new : Held) (i : ℕ) (more : List Verdict) : Type 0 where
-  pub edges : new.edges ≡ with_edge old i (edge_at new i)
-  pub here : HasMore (edge_at old i) (edge_at new i) more
+  pub edges : new.edges ≡ with_edge old i (with_more (edge_at old i) more)
   pub start : new.start ≡ old.start
   pub spare : old.spare ≤ new.spare + length more
 

@@ -7,7 +7,7 @@
 ghost use Rattle.std.specs.Prelude.{◌≡◌, ◌+◌, ◌<◌, ◌≤◌, [], ◌∷◌, length, replicate, slice_get};
 ghost use Rattle.std.specs.Prelude.{IfOk, IsOk, OnOk, OnErr, None, Some, ℕ, map, All};
 ghost use Rattle.online_nodes.specs.Queues.{edge_of, IsQueue};
-ghost use Rattle.online_nodes.specs.Held.{edge_at, fresh_at, held_at, joining, no_edge, number_at, with_edge, with_number, with_one};
+ghost use Rattle.online_nodes.specs.Held.{edge_at, fresh_at, held_at, joining, no_edge, number_at, with_edge, with_more, with_number};
 ghost use Rattle.online_nodes.specs.Held.{with_read, without, HasMore, IsDroppedBy};
 
 use crate::queue::Queue;
@@ -122,7 +122,7 @@ impl Edges {
     #[inline(always)]
     pub fn put(&mut self, edge: u32, piece: Verdict) -> Result<(), Memory>
         requires { edge < length self.old.edges }
-        ensures put { OnOk result (self.new.edges ≡ with_edge self.old edge (with_one (edge_at self.old edge) piece)) }
+        ensures put { OnOk result (self.new.edges ≡ with_edge self.old edge (with_more (edge_at self.old edge) (piece ∷ []))) }
         ensures start { self.new.start ≡ self.old.start }
         ensures falls_by_one { OnOk result (self.old.spare ≤ self.new.spare + 1) }
         ensures had_room { 0 < self.old.spare → IsOk result }
@@ -145,7 +145,7 @@ impl Edges {
     #[inline(never)]
     pub(crate) fn put_seldom(&mut self, edge: u32, piece: Verdict) -> Result<(), Memory>
         requires { edge < length self.old.edges }
-        ensures put { OnOk result (self.new.edges ≡ with_edge self.old edge (with_one (edge_at self.old edge) piece)) }
+        ensures put { OnOk result (self.new.edges ≡ with_edge self.old edge (with_more (edge_at self.old edge) (piece ∷ []))) }
         ensures start { self.new.start ≡ self.old.start }
         ensures falls_by_one { OnOk result (self.old.spare ≤ self.new.spare + 1) }
         ensures had_room { 0 < self.old.spare → IsOk result }

@@ -3,7 +3,7 @@
 ghost use Rattle.online_nodes.specs.Laws.{EachHasOneReader, EdgesGrow, EmittedIsWhole, EmittedStays, FrontsAreTimes};
 ghost use Rattle.online_nodes.specs.Laws.{HasTimesBetween, JoinedAreFew, MeetingIsWhatIsLeft, MeetingLaterIsWhatIsLeft};
 ghost use Rattle.online_nodes.specs.Laws.{NumbersNeverFall, NumbersSettle, NumbersStayWithinHorizons};
-ghost use Rattle.online_nodes.specs.Laws.{OpenNumbersSettle, OthersGiveNothing, RootEdgesGrow, TakenWereGivenOut};
+ghost use Rattle.online_nodes.specs.Laws.{OpenNumbersSettle, OthersGiveNothing, PlainEdgesHoldSegments, RootEdgesGrow, TakenWereGivenOut};
 ghost use Rattle.online_nodes.specs.Looking.{ConnectivesJoin, SinceRemembersWhatItKnows, UntilAndSinceLook, UntilRemembersWhatItKnows, WindowsLook};
 
 /// Between two places there is a time.
@@ -57,12 +57,17 @@ pub fn meeting_later_is_what_is_left()
     ensures { MeetingLaterIsWhatIsLeft }
 {}
 
-/// What a reader needs after one event more is what it needed, with what the node gave out at that event.
+/// The segments that a reader needs after one event more are those that it needed, with what the node gave out at that event.
 pub fn edges_grow()
     ensures { EdgesGrow }
 {}
 
-/// An edge, on which neighbours of one truth may be joined, holds no more than the segments that its reader may still need.
+/// An edge that does not join holds just the segments that its reader may still need.
+pub fn plain_edges_hold_segments()
+    ensures { PlainEdgesHoldSegments }
+{}
+
+/// An edge, whether it joins or not, holds no more than the segments that its reader may still need.
 pub fn joined_are_few()
     ensures { JoinedAreFew }
 {}

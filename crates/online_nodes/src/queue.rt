@@ -4,7 +4,7 @@
 ghost use Rattle.std.specs.Prelude.{◌≡◌, ◌+◌, ◌-◌, ◌<◌, ◌≤◌, ◌∷◌, [], ℕ, true, false, length, slice_get, ◌↔◌, IsOk, IsTrue, OnErr, OnOk};
 ghost use Rattle.rational.specs.Rational.{◌≤ʳ◌};
 ghost use Rattle.frac128.specs.Value.{value};
-ghost use Rattle.online_nodes.specs.Held.{held_of, joining, no_edge, with_number, with_one, with_read, without, GoesOn, HasMore, IsDroppedBy};
+ghost use Rattle.online_nodes.specs.Held.{held_of, joining, no_edge, with_more, with_number, with_read, without, GoesOn, HasMore, IsDroppedBy};
 
 use frac128::{Frac, Memory};
 use std::alloc::Global;
@@ -76,7 +76,7 @@ impl Queue {
     #[inline(always)]
     pub(crate) fn put(&mut self, piece: Verdict) -> Result<(), Memory>
         requires { IsQueue 0 self.old }
-        ensures put { OnOk result (edge_of self.new ≡ with_one (edge_of self.old) piece) }
+        ensures put { OnOk result (edge_of self.new ≡ with_more (edge_of self.old) (piece ∷ [])) }
         ensures less { (spare : ℕ) → IsQueue spare self.old → OnOk result (IsQueue (spare - 1) self.new) }
         ensures had_room { (spare : ℕ) → IsQueue spare self.old → 0 < spare → IsOk result }
         ensures memory { OnErr result (edge_of self.new ≡ edge_of self.old) }

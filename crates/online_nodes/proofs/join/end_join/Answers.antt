@@ -30,7 +30,7 @@ returns-clause-filled c =
     record {
       more = said.more;
       few = said.few;
-      worked = worked_put c.requires.left_apart c.requires.right_apart said.got;
+      worked = worked_put c.requires.own c.requires.left_apart c.requires.right_apart said.got;
       edge = said.edge;
       to = said.end;
       sound = said.sound;

@@ -37,7 +37,7 @@ returns-clause-denied c =
     record {
       more = said.more;
       few = said.few;
-      worked = worked_put c.requires.apart c.requires.apart said.got;
+      worked = worked_put c.requires.own c.requires.apart c.requires.apart said.got;
       edge = said.edge;
       to = said.end;
       sound = said.sound;

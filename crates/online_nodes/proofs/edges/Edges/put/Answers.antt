@@ -1,5 +1,5 @@
-use Rattle.std.proofs.Common.{ap}
-use Rattle.online_nodes.specs.Held.{with_one}
+use Rattle.std.proofs.Common.{[], ◌∷◌, ap}
+use Rattle.online_nodes.specs.Held.{with_more}
 use Rattle.online_nodes.proofs.QueueLemmas.{queue_at, queue_changed, queue_same, queues_room}
 use Rattle.online_nodes.proofs.edges.Edges.put.Goals as goal
 
@@ -15,7 +15,7 @@ pub returns-in-Ok-clause-put : goal.returns-in-Ok-clause-put
 returns-in-Ok-clause-put c =
     let within = rw (← c.self.view_is) at c.requires in
     rw (← c.self.view_is) (queue_changed c.self.inside.queues.items c.args.edge c.index_mut.result.now within c.index_mut.ensures.value
-    c.put.new.self (λ x. with_one x c.args.piece) c.in-Ok.ensures.put)
+    c.put.new.self (λ x. with_more x (c.args.piece ∷ [])) c.in-Ok.ensures.put)
 
 pub returns-in-Err-clause-had_room : goal.returns-in-Err-clause-had_room
 returns-in-Err-clause-had_room c some =

@@ -1,8 +1,8 @@
-use Rattle.std.proofs.Common.{◌≡◌, ◌∷◌, [], ◌-◌, sym, ap, subst, ◌∙◌, arith}
-use Rattle.online_nodes.specs.Held.{Edge, HasMore, with_one}
+use Rattle.std.proofs.Common.{◌≡◌, ◌∷◌, [], sym, subst, arith}
+use Rattle.online_nodes.specs.Held.{Edge, HasMore, with_more}
 use Rattle.online_nodes.specs.Queues.{edge_of, IsQueue}
 use Rattle.online_nodes.specs.declared.queue.Queue.{Queue}
-use Rattle.online_nodes.proofs.GotLemmas.{more_one}
+use Rattle.online_nodes.proofs.GotLemmas.{more_given}
 use Rattle.online_nodes.proofs.QueueLemmas.{fewer, on_ok}
 use Rattle.online_nodes.proofs.queue.Queue.extend.Goals as goal
 
@@ -15,7 +15,8 @@ returns-clause-put c =
     let old = edge_of c.args.self.now in
     on_ok c.put.result
     (λ e. subst (λ (x : Edge). HasMore old x (c.args.piece ∷ []))
-    (sym (subst (λ (q : Queue). edge_of c.put.new.self ≡ with_one (edge_of q) c.args.piece) same e)) (more_one old c.args.piece)) c.put.ensures.put
+    (sym (subst (λ (q : Queue). edge_of c.put.new.self ≡ with_more (edge_of q) (c.args.piece ∷ [])) same e)) (more_given old (c.args.piece ∷ [])))
+    c.put.ensures.put
 
 pub returns-clause-had_room : goal.returns-clause-had_room
 returns-clause-had_room c = λ spare h some.

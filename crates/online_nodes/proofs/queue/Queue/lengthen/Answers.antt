@@ -1,5 +1,4 @@
 use Rattle.std.proofs.Common.{◌≡◌, ◌+◌, ◌<◌, ◌≤◌, ◌-◌, length, refl, subst, arith}
-use Rattle.stl_syntax.specs.declared.items.Verdict.{Verdict}
 use Rattle.online_nodes.specs.Held.{GoesOn, IsJoined}
 use Rattle.online_nodes.specs.Queues.{number_of}
 use Rattle.online_nodes.proofs.QueueLemmas.{lengthened, one_item}

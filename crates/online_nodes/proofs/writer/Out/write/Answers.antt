@@ -1,13 +1,15 @@
 use Rattle.std.proofs.Common.{refl}
-use Rattle.online_nodes.proofs.GotLemmas.{got_one}
 use Rattle.online_nodes.proofs.writer.Out.write.Goals as goal
 
 pub returns-clause-put : goal.returns-clause-put
 returns-clause-put c =
     record {
       verdict = record { on = c.span-on.result; holds = c.args.holds };
-      got = got_one (record { on = c.span-on.result; holds = c.args.holds }) c.requires.edge c.in_ok-put.ensures.put
-          c.in_ok-put.ensures.start c.in_ok-put.ensures.falls_by_one;
+      got = record {
+        edges = c.in_ok-put.ensures.put;
+        start = c.in_ok-put.ensures.start;
+        spare = c.in_ok-put.ensures.falls_by_one;
+      };
       begin = c.span-on.ensures.begin;
       end = c.span-on.ensures.end;
       is = refl;
