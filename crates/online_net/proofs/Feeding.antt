@@ -22,7 +22,7 @@ use Rattle.atom_lines.specs.Binding.{HasRow, AreNeighbours}
 use Rattle.online_nodes.specs.Network.{Event, row, take, Front, State, last_row, shown, same_front, answered}
 use Rattle.online_nodes.specs.Network.{is_atom, node_is_atom, after_event, state, EmittedAt, MayCome}
 use Rattle.online_nodes.specs.Needed.{IsReader, IsJoinedEdge, IsRootEdge}
-use Rattle.online_nodes.specs.Held.{Edge, Held, Stand, edge_at, fresh_at, held_at, held_of, number_at}
+use Rattle.online_nodes.specs.Held.{Edge, Held, JoinsAlike, Stand, edge_at, fresh_at, held_at, held_of, number_at}
 use Rattle.online_nodes.proofs.RunLaw.{last_appended}
 use Rattle.online_nodes.proofs.RisingLaw.{IsSound, sound_of}
 use Rattle.online_nodes.proofs.EmittedLaw.{front_shown}
@@ -242,7 +242,7 @@ module _ (nodes : List Node) (header : Header) (events : List Event) (net : Part
       let p = atom_put j n at a in
       subst (λ (x : Edge). Stand (edge_at net.edges j).joins (fresh_at net.edges j ++ p.more) x.fresh) (sym p.is) p.got.fresh
 
-  -- where no neighbours are joined it got the verdicts as they are
+  -- where the edge does not join it got the verdicts as they are
   put_held : (j : ℕ) (n : Node) (at : slice_get nodes j ≡ Some n) (a : is_atom n ≡ true) → (edge_at net.edges j).joins ≡ false
       → held_at e' j ≡ held_at net.edges j ++ (atom_put j n at a).more
   put_held j n at a e =
@@ -250,6 +250,10 @@ module _ (nodes : List Node) (header : Header) (events : List Event) (net : Part
       ap (λ l. l ++ fresh_at e' j) (put_seen j n at a)
       ∙ ap (λ l. (edge_at net.edges j).seen ++ l) (subst (λ b. Stand b (fresh_at net.edges j ++ p.more) (fresh_at e' j)) e (put_fresh j n at a))
       ∙ sym (append_assoc (edge_at net.edges j).seen (fresh_at net.edges j) p.more)
+
+  -- each edge joins where it joined
+  pub put_joins : JoinsAlike net.edges e'
+  put_joins j = put.joins j ∙ ap (λ (x : Edge). x.joins) (begun_edge net.edges net.last r j)
 
   put_number : (j : ℕ) (n : Node) → slice_get nodes j ≡ Some n → is_atom n ≡ true → number_at e' j ≡ s'.fronts j
   put_number j n at a = ap (λ (x : Edge). x.number) (atom_put j n at a).is ∙ sym (atom_front j n at a)
@@ -264,7 +268,7 @@ module _ (nodes : List Node) (header : Header) (events : List Event) (net : Part
   -- the row came, and each atom moved to it
   pub fed_stands : Stands nodes header (record net { edges = e'; last = Some r }) (events ++ row r ∷ [])
   fed_stands = stand nodes header events net st (row r) may (record net { edges = e'; last = Some r }) numbers edges root
-      (keep nodes header events net st (row r) may (record net { edges = e'; last = Some r }) refl (put.count ∙ begun_count net.edges net.last r) refl plain
+      (keep nodes header events net st (row r) may (record net { edges = e'; last = Some r }) refl (put.count ∙ begun_count net.edges net.last r) refl put_joins
       (put.start ∙ start net.last is_last) (sym (last_pushed s.rows r)) st.holds.closed st.holds.running st.holds.at_atom
       (λ i n at a. operator_stays nodes header events net st (row r) may e' i n at a (other_front i n at a)
       (λ left j reads. input (slice_index_or nodes j (Const false)) i n left j at reads)))
@@ -290,16 +294,6 @@ module _ (nodes : List Node) (header : Header) (events : List Event) (net : Part
           (λ a. ap (λ (x : Edge). x.number) (other_edge i (node_at i) (at_place i l) a) ∙ st.shows.fronts i l
           ∙ sym (other_front i (node_at i) (at_place i l) a))
 
-      -- the root's edge joins no neighbours
-      plain : (edge_at e' (length nodes - 1)).joins ≡ false
-      plain =
-          let kl = root_here nodes header events net st in
-          by_kind (node_at (length nodes - 1))
-          (λ a. let p = atom_put (length nodes - 1) (node_at (length nodes - 1)) (at_place (length nodes - 1) kl) a in
-          ap (λ (x : Edge). x.joins) p.is ∙ p.got.joins ∙ st.holds.plain)
-          (λ a. ap (λ (x : Edge). x.joins) (other_edge (length nodes - 1) (node_at (length nodes - 1)) (at_place (length nodes - 1) kl) a)
-          ∙ st.holds.plain)
-
       -- a reader is no atom, and stays
       reader_same : (j : ℕ) (l : suc j < length nodes) → s'.fronts (st.shows.edges j l).reader ≡ s.fronts (st.shows.edges j l).reader
       reader_same j l =
@@ -307,13 +301,16 @@ module _ (nodes : List Node) (header : Header) (events : List Event) (net : Part
           row_leaves nodes header formed s r edge.reader (reader_is_none nodes header formed edge.reader edge.reading edge.left j
           (slice_get_within nodes edge.reader edge.reading edge.at_reader) edge.at_reader edge.reads)
 
-      edges : (j : ℕ) → suc j < length nodes → IsJoinedEdge nodes header (events ++ row r ∷ []) j (held_at e' j)
+      edges : (j : ℕ) → suc j < length nodes → IsJoinedEdge nodes header (events ++ row r ∷ []) (edge_at e' j).joins j (held_at e' j)
       edges j l = by_kind (node_at j)
-          (λ a. subst (λ q. IsJoinedEdge nodes header (events ++ row r ∷ []) j (q ++ fresh_at e' j)) (sym (put_seen j (node_at j) (at_place j jl) a))
+          (λ a. subst (λ b. IsJoinedEdge nodes header (events ++ row r ∷ []) b j (held_at e' j)) (sym (put_joins j))
+          (subst (λ q. IsJoinedEdge nodes header (events ++ row r ∷ []) (edge_at net.edges j).joins j (q ++ fresh_at e' j))
+          (sym (put_seen j (node_at j) (at_place j jl) a))
           (joined_grows nodes header formed events (row r) st.run may j jl (edge_at net.edges j).seen (fresh_at net.edges j) (fresh_at e' j)
           (atom_put j (node_at j) (at_place j jl) a).more (st.shows.edges j l) rl (reader_same j l) (given j (node_at j) (at_place j jl) a)
-          (stand_stretches (edge_at net.edges j).joins (put_fresh j (node_at j) (at_place j jl) a))))
-          (λ a. subst (λ h. IsJoinedEdge nodes header (events ++ row r ∷ []) j h) (ap held_of (sym (other_edge j (node_at j) (at_place j jl) a)))
+          (put_fresh j (node_at j) (at_place j jl) a))))
+          (λ a. subst (λ (x : Edge). IsJoinedEdge nodes header (events ++ row r ∷ []) x.joins j (held_of x))
+          (sym (other_edge j (node_at j) (at_place j jl) a))
           (joined_stays nodes header formed events (row r) st.run may j jl (held_at net.edges j) (st.shows.edges j l) rl (reader_same j l)
           (other_front j (node_at j) (at_place j jl) a)))
         where

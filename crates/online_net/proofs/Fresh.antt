@@ -15,11 +15,12 @@ use Rattle.stl_syntax.specs.declared.scale.Scale.{Scale}
 use Rattle.atom_lines.specs.Binding.{IsBound}
 use Rattle.online_nodes.specs.Network.{is_atom, node_is_atom, state}
 use Rattle.online_nodes.specs.Needed.{none}
-use Rattle.online_nodes.specs.Held.{Edge, Held, as_given, edge_at, fresh_at, held_at, joining, no_edge, with_edge}
+use Rattle.online_nodes.specs.Held.{Edge, Held, edge_at, fresh_at, held_at, joining, no_edge, with_edge}
 use Rattle.online_nodes.specs.declared.operator.Operator.{Operator}
 use Rattle.online_nodes.proofs.ReadersLaw.{has_reader}
+use Rattle.online_nodes.proofs.Stretches.{stand_given}
 use Rattle.online_net.specs.Nets.{Parts, Keeps, HasOperator, Stands}
-use Rattle.online_net.specs.Steps.{IsFirstOperator, IsNewEdge, AreFirstOperators, AreNewEdges}
+use Rattle.online_net.specs.Steps.{IsFirstOperator, IsNewEdge, AreFirstOperators, AreNewEdges, JoinsAllButRoot}
 
 -- a list of equal elements, with a default that is one of them
 all_one : {X : Type 0} (n : ℕ) (x : X) (i : ℕ) → slice_index_or (replicate n x) i x ≡ x
@@ -99,7 +100,7 @@ module _ (nodes : List Node) (header : Header) (formed : AreWellFormed nodes) (r
             emitted = [];
             is_emitted = refl;
             stretches = [];
-            are_joined = as_given;
+            stand = stand_given (edge_at net.edges j).joins [];
             is_needed = none_held j;
           };
       root = record { taken = 0; is_taken = none; emitted = []; is_emitted = refl; is = none_held (length nodes - 1) };
@@ -125,13 +126,19 @@ first_more nodes operators o n done here = record { count = count; first = λ i 
         (sym (get_or-append operators (o ∷ []) None i (let d = done.count in omega (arith, e, d)))) (done.first i e)
     by_order i l (inr (inr e)) = absurd (omega (arith, l, e))
 
--- the edges of n nodes that gave out nothing, of which the first i join neighbours
+-- n edges of a new network, each by itself
+pub empty_edge : (n : ℕ) (e : Held) → e.edges ≡ replicate n no_edge → (k : ℕ) → edge_at e k ≡ no_edge
+empty_edge n e edges k = ap (λ es. slice_index_or es k no_edge) edges ∙ all_one n no_edge k
+
+-- the edges of n nodes that gave out nothing, of which the first i join
 pub record AreJoining (n i : ℕ) (e : Held) : Type 0 where
   -- there are so many
   pub count : length e.edges ≡ n
   -- which hold nothing
   pub new : (k : ℕ) → IsNewEdge (edge_at e k)
-  -- and the others join no neighbours
+  -- those join
+  pub joined : (k : ℕ) → k < i → (edge_at e k).joins ≡ true
+  -- and the others do not
   pub plain : (k : ℕ) → i ≤ k → (edge_at e k).joins ≡ false
   -- no row came
   pub start : e.start ≡ None
@@ -140,13 +147,11 @@ pub record AreJoining (n i : ℕ) (e : Held) : Type 0 where
 pub none_joining : (n : ℕ) (e : Held) → e.edges ≡ replicate n no_edge → e.start ≡ None → AreJoining n 0 e
 none_joining n e edges start = record {
   count = ap length edges ∙ length_one n no_edge;
-  new = λ k. subst (λ (x : Edge). IsNewEdge x) (sym (empty k)) (record { seen = refl; fresh = refl; number = refl });
-  plain = λ k l. ap (λ (x : Edge). x.joins) (empty k);
+  new = λ k. subst (λ (x : Edge). IsNewEdge x) (sym (empty_edge n e edges k)) (record { seen = refl; fresh = refl; number = refl });
+  joined = λ k l. absurd (omega (arith, l));
+  plain = λ k l. ap (λ (x : Edge). x.joins) (empty_edge n e edges k);
   start = start;
 }
-  where
-    empty : (k : ℕ) → edge_at e k ≡ no_edge
-    empty k = ap (λ es. slice_index_or es k no_edge) edges ∙ all_one n no_edge k
 
 -- one edge more joins
 pub one_joining : (n i : ℕ) (e e' : Held) → AreJoining n i e → i < n → e' ≡ record e { edges = with_edge e i (joining (edge_at e i)) }
@@ -154,6 +159,7 @@ pub one_joining : (n i : ℕ) (e e' : Held) → AreJoining n i e → i < n → e
 one_joining n i e e' all within is = record {
   count = ap (λ (x : Held). length x.edges) is ∙ length-set e.edges i (joining (edge_at e i)) ∙ all.count;
   new = λ k. by_place k (cases_eq k i);
+  joined = λ k l. by_order k l (cases_eq k i);
   plain = λ k l. ap (λ (x : Edge). x.joins) (other k (λ same. absurd (omega (arith, l, same)))) ∙ all.plain k (omega (arith, l));
   start = ap (λ (x : Held). x.start) is ∙ all.start;
 }
@@ -170,6 +176,18 @@ one_joining n i e e' all within is = record {
         (let x = all.new i in record { seen = x.seen; fresh = x.fresh; number = x.number }))
     by_place k (inr d) = subst (λ (x : Edge). IsNewEdge x) (sym (other k d)) (all.new k)
 
+    by_order : (k : ℕ) → k < i + 1 → (k ≡ i) ⊎ (k ≢ i) → (edge_at e' k).joins ≡ true
+    by_order k l (inl same) = ap (λ m. (edge_at e' m).joins) same ∙ ap (λ (x : Edge). x.joins) here
+    by_order k l (inr d) = ap (λ (x : Edge). x.joins) (other k d) ∙ all.joined k (omega (arith, l, d))
+
+-- where the last one does not join they are those of a new network
+pub new_edges : (n i : ℕ) (e : Held) → i ≤ n - 1 → AreJoining n i e → AreNewEdges n e
+new_edges n i e few all = record { count = all.count; new = all.new; plain = all.plain (n - 1) few; start = all.start }
+
 -- all but the last one join
-pub new_edges : (n : ℕ) (e : Held) → AreJoining n (n - 1) e → AreNewEdges n e
-new_edges n e all = record { count = all.count; new = all.new; plain = all.plain (n - 1) (omega arith); start = all.start }
+pub all_but_root : (n : ℕ) (e : Held) → AreJoining n (n - 1) e → JoinsAllButRoot n e
+all_but_root n e all = record { others = λ i l. all.joined i (omega (arith, l)); root = all.plain (n - 1) (omega arith) }
+
+-- n edges of which none joins are those of a new network
+pub plain_edges : (n : ℕ) (e : Held) → e.edges ≡ replicate n no_edge → e.start ≡ None → AreNewEdges n e
+plain_edges n e edges start = new_edges n 0 e (omega arith) (none_joining n e edges start)

@@ -10,7 +10,7 @@ use Rattle.stl_syntax.specs.declared.items.Verdict.{Verdict}
 use Rattle.atom_lines.specs.Binding.{Binding, IsFor, HasRow, AreNeighbours}
 use Rattle.rational.specs.Places.{Place, begins, AtMost, Same}
 use Rattle.frac128.specs.Cuts.{place}
-use Rattle.online_nodes.specs.Held.{Edge, Held, HasMore, edge_at, with_number}
+use Rattle.online_nodes.specs.Held.{Edge, Held, HasMore, JoinsAlike, edge_at, with_number}
 use Rattle.online_nodes.specs.Truths.{AllAre}
 use Rattle.online_nodes.specs.Written.{HasGot, HasTold, IsSound}
 use Rattle.online_nodes.specs.declared.writer.Out.{Out}
@@ -84,6 +84,7 @@ pub record HasPutAtom (b : Binding) (before : Option Row) (r : Row) (i : ℕ) (o
 pub record HasPutAtoms (b : Binding) (before : Option Row) (r : Row) (operators : List (Option Operator)) (n : ℕ) (old new : Held) : Type 0 where
   pub atoms : (j : ℕ) → j < n → slice_get operators j ≡ Some None → IsPut b before r j (edge_at old j) (edge_at new j)
   pub others : (j : ℕ) → (j < n → slice_get operators j ≡ Some None → ⊥) → edge_at new j ≡ edge_at old j
+  pub joins : JoinsAlike old new
   pub count : length new.edges ≡ length old.edges
   pub start : new.start ≡ old.start
 

@@ -1,5 +1,5 @@
--- What the network's own calls leave: the operators of a new network, and a step of one.
-use Rattle.std.specs.Prelude.{◌≡◌, ℕ, ◌-◌, ◌<◌, Bool, true, false, List, [], ◌∷◌, ◌++◌, length, Option, Some, None, slice_index_or}
+-- What the network's own calls leave: the operators and the edges of a new network, and a step of one.
+use Rattle.std.specs.Prelude.{◌≡◌, ℕ, suc, ◌-◌, ◌<◌, Bool, true, false, List, [], ◌∷◌, ◌++◌, length, Option, Some, None, slice_index_or}
 use Rattle.stl_syntax.specs.Trace.{Header}
 use Rattle.stl_syntax.specs.declared.node.Node.{Node}
 use Rattle.online_nodes.specs.Network.{Event, step, state, node_is_atom, IsReady}
@@ -25,12 +25,21 @@ pub record IsNewEdge (x : Edge) : Type 0 where
   pub fresh : x.fresh ≡ []
   pub number : x.number ≡ None
 
--- the edges of n nodes that gave out nothing; on the last one no neighbours are joined
+-- the edges of n nodes that gave out nothing; that of the last one, the root, does not join
 pub record AreNewEdges (n : ℕ) (e : Held) : Type 0 where
   pub count : length e.edges ≡ n
   pub new : (i : ℕ) → IsNewEdge (edge_at e i)
   pub plain : (edge_at e (n - 1)).joins ≡ false
   pub start : e.start ≡ None
+
+-- no edge joins
+abbrev pub JoinsNone : Held → Type 0
+JoinsNone e = (i : ℕ) → (edge_at e i).joins ≡ false
+
+-- of the edges of n nodes each joins but the last one, the root's
+pub record JoinsAllButRoot (n : ℕ) (e : Held) : Type 0 where
+  pub others : (i : ℕ) → suc i < n → (edge_at e i).joins ≡ true
+  pub root : (edge_at e (n - 1)).joins ≡ false
 
 -- one step of an operator that was ready
 pub record IsStep (nodes : List Node) (header : Header) (events : List Event) (operator : Operator) (old new : Held) (now : ℕ) (ended : Bool)
