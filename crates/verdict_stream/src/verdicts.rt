@@ -270,7 +270,7 @@ impl Follow for Verdicts {
             bound,
             trace: _trace,
         } = case;
-        let net = Net::new(alloc, &formula, bound)?;
+        let net = Net::joining(alloc, &formula, bound)?;
         let horizon = formula.horizon();
         Ok(Verdicts {
             network: Network {
