@@ -15,12 +15,14 @@ use Rattle.stl_syntax.proofs.PostOrderLemmas.{slice_get_at}
 use Rattle.stl_syntax.proofs.WellFormedLemmas.{root_some}
 use Rattle.atom_lines.specs.Binding.{IsBound}
 use Rattle.online_nodes.specs.Network.{Event, step, close, take, State, is_atom, node_is_atom, allowed_at, after_event, state, EmittedAt, MayCome}
-use Rattle.online_nodes.specs.Needed.{IsReader, IsEdge, IsRootEdge}
-use Rattle.online_nodes.specs.Held.{Edge, Held, edge_at, fresh_at, held_at, held_of, number_at}
+use Rattle.online_nodes.specs.Needed.{IsReader, IsJoinedEdge, IsRootEdge}
+use Rattle.online_nodes.specs.Held.{AreStretches, Edge, Held, JoinsAlike, edge_at, fresh_at, held_at, held_of, number_at}
 use Rattle.online_nodes.specs.Belonging.{StandsForSteps, HasStepped}
 use Rattle.online_nodes.specs.declared.operator.Operator.{Operator}
-use Rattle.online_nodes.proofs.EdgeLaw.{edge_grows, edge_stays, root_grows, root_stays, root_taken, after_one}
+use Rattle.online_nodes.proofs.EdgeLaw.{root_grows, root_stays, root_taken, after_one}
 use Rattle.online_nodes.proofs.EdgeLaw.{run_more, step_leaves, reads_or_not, shown_stays}
+use Rattle.online_nodes.proofs.StretchLaw.{joined_grows, joined_stays}
+use Rattle.online_nodes.proofs.Stretches.{all_stretches, stand_given}
 use Rattle.online_nodes.proofs.ReadersLaw.{one_reader, root_unread}
 use Rattle.online_nodes.proofs.StandingLaw.{InputOn, stands_on, edge_unshown, edge_within}
 use Rattle.online_nodes.proofs.FrameLaw.{nothing_given}
@@ -61,8 +63,8 @@ module _ (nodes : List Node) (header : Header) (events : List Event) (net : Part
 
     -- an input that got what it gave out
     pub input_got : (j : ℕ) → suc j < length nodes → (e' : Held) (more : List Verdict) → number_at e' j ≡ s'.fronts j
-        → fresh_at e' j ≡ fresh_at net.edges j ++ more → (edge_at e' j).seen ≡ (edge_at net.edges j).seen → EmittedAt nodes header j s s' more
-        → InputOn nodes header formed s s' net.edges e' j
+        → AreStretches (fresh_at e' j) (fresh_at net.edges j ++ more) → (edge_at e' j).seen ≡ (edge_at net.edges j).seen
+        → EmittedAt nodes header j s s' more → InputOn nodes header formed s s' net.edges e' j
     input_got j l e' more number fresh seen given = record {
       number = st.shows.fronts j (omega (arith, l));
       number_new = number;
@@ -80,13 +82,13 @@ module _ (nodes : List Node) (header : Header) (events : List Event) (net : Part
     pub input_same : (j : ℕ) → suc j < length nodes → (e' : Held) → s'.fronts j ≡ s.fronts j → edge_at e' j ≡ edge_at net.edges j
         → InputOn nodes header formed s s' net.edges e' j
     input_same j l e' front edge = input_got j l e' [] (ap (λ (x : Edge). x.number) edge ∙ st.shows.fronts j (omega (arith, l)) ∙ sym front)
-        (ap (λ (x : Edge). x.fresh) edge ∙ sym (append-nil (fresh_at net.edges j))) (ap (λ (x : Edge). x.seen) edge)
+        (all_stretches (ap (λ (x : Edge). x.fresh) edge ∙ sym (append-nil (fresh_at net.edges j)))) (ap (λ (x : Edge). x.seen) edge)
         (nothing_given nodes header j s s'
         (shown_stays nodes header formed s ev (sound_of nodes header order events st.run) j (omega (arith, l)) front))
 
     -- the parts after the event stand for one event more, once each part does
     pub stand : (net' : Parts) → ((i : ℕ) → i < length nodes → number_at net'.edges i ≡ s'.fronts i)
-        → ((j : ℕ) → suc j < length nodes → IsEdge nodes header (events ++ ev ∷ []) j (held_at net'.edges j))
+        → ((j : ℕ) → suc j < length nodes → IsJoinedEdge nodes header (events ++ ev ∷ []) (edge_at net'.edges j).joins j (held_at net'.edges j))
         → IsRootEdge nodes header (events ++ ev ∷ []) (held_at net'.edges (length nodes - 1))
         → Keeps nodes header net' (events ++ ev ∷ []) → Stands nodes header net' (events ++ ev ∷ [])
     stand net' numbers edges root keeps = record {
@@ -101,19 +103,21 @@ module _ (nodes : List Node) (header : Header) (events : List Event) (net : Part
 
     -- what is kept beside, after the event
     pub keep : (net' : Parts) → net'.bound ≡ net.bound → length net'.edges.edges ≡ length net.edges.edges → length net'.operators ≡ length net.operators
+        → JoinsAlike net.edges net'.edges
         → net'.edges.start ≡ option_map (λ (r : Row). r.time) (first_row s'.rows) → net'.last ≡ last_row_of s'.rows → net'.closed ≡ s'.closed
         → net'.stopped ≡ false
         → ((i : ℕ) (n : Node) → slice_get nodes i ≡ Some n → is_atom n ≡ true → slice_get net'.operators i ≡ Some None)
         → ((i : ℕ) (n : Node) → slice_get nodes i ≡ Some n → is_atom n ≡ false
         → HasOperator nodes header (events ++ ev ∷ []) net'.edges i (slice_get net'.operators i))
         → Keeps nodes header net' (events ++ ev ∷ [])
-    keep net' bound edges operators start last closed running at_atom at_other = record {
+    keep net' bound edges operators joins start last closed running at_atom at_other = record {
       formed = formed;
       one_root = st.holds.one_root;
       scale = st.holds.scale;
       bound = subst (λ b. IsBound b (record { nodes = nodes; scale = st.holds.scale }) header) (sym bound) st.holds.bound;
       edges = edges ∙ st.holds.edges;
       operators = operators ∙ st.holds.operators;
+      plain = joins (length nodes - 1) ∙ st.holds.plain;
       start = start ∙ ap (λ t. option_map (λ (r : Row). r.time) (first_row t.rows)) (sym (after_one nodes header formed events ev));
       last = last ∙ ap (λ t. last_row_of t.rows) (sym (after_one nodes header formed events ev));
       closed = closed ∙ ap (λ (t : State). t.closed) (sym (after_one nodes header formed events ev));
@@ -152,27 +156,28 @@ module _ (nodes : List Node) (header : Header) (events : List Event) (net : Part
   -- the end came
   pub closed_stands : MayCome nodes header s close → Stands nodes header (record net { closed = true }) (events ++ close ∷ [])
   closed_stands may = stand close may (record net { closed = true }) (λ i l. st.shows.fronts i l)
-      (λ j l. edge_stays nodes header formed events close st.run may j (omega (arith, l)) (held_at net.edges j) (st.shows.edges j l)
+      (λ j l. joined_stays nodes header formed events close st.run may j (omega (arith, l)) (held_at net.edges j) (st.shows.edges j l)
       (slice_get_within nodes (st.shows.edges j l).reader (st.shows.edges j l).reading (st.shows.edges j l).at_reader) refl refl)
       (root_stays nodes header formed events close (λ e. let z : close ≡ take = e in cc) st.run root_here
       (held_at net.edges (length nodes - 1)) st.shows.root refl)
-      (keep close may (record net { closed = true }) refl refl refl st.holds.start st.holds.last refl st.holds.running st.holds.at_atom
+      (keep close may (record net { closed = true }) refl refl refl (λ j. refl) st.holds.start st.holds.last refl st.holds.running st.holds.at_atom
       (λ i n at other. operator_stays close may net.edges i n at other refl
       (λ left j r. input_same close may j (read_place i n left j at r) net.edges refl refl)))
 
   -- a verdict of the root was taken, if there was one
   pub taken_stands : (e' : Held) → ((j : ℕ) → j ≢ length nodes - 1 → edge_at e' j ≡ edge_at net.edges j)
+      → JoinsAlike net.edges e'
       → held_at e' (length nodes - 1) ≡ drop 1 (held_at net.edges (length nodes - 1)) → number_at e' (length nodes - 1) ≡ number_at net.edges (length nodes - 1)
       → length e'.edges ≡ length net.edges.edges → e'.start ≡ net.edges.start
       → Stands nodes header (record net { edges = e' }) (events ++ take ∷ [])
-  taken_stands e' others root number count start = stand take tt (record net { edges = e' }) numbers
-      (λ j l. subst (λ h. IsEdge nodes header (events ++ take ∷ []) j h) (ap held_of (sym (others j (omega (arith, l)))))
-      (edge_stays nodes header formed events take st.run tt j (omega (arith, l)) (held_at net.edges j) (st.shows.edges j l)
+  taken_stands e' others joins root number count start = stand take tt (record net { edges = e' }) numbers
+      (λ j l. subst (λ (x : Edge). IsJoinedEdge nodes header (events ++ take ∷ []) x.joins j (held_of x)) (sym (others j (omega (arith, l))))
+      (joined_stays nodes header formed events take st.run tt j (omega (arith, l)) (held_at net.edges j) (st.shows.edges j l)
       (slice_get_within nodes (st.shows.edges j l).reader (st.shows.edges j l).reading (st.shows.edges j l).at_reader) refl refl))
       (subst (λ h. IsRootEdge nodes header (events ++ take ∷ []) h) (sym root)
       (root_taken nodes header formed events (held_at net.edges (length nodes - 1)) st.shows.root))
-      (keep take tt (record net { edges = e' }) refl count refl (start ∙ st.holds.start) st.holds.last st.holds.closed st.holds.running st.holds.at_atom
-      (λ i n at other. operator_stays take tt e' i n at other refl
+      (keep take tt (record net { edges = e' }) refl count refl joins (start ∙ st.holds.start) st.holds.last st.holds.closed st.holds.running
+      st.holds.at_atom (λ i n at other. operator_stays take tt e' i n at other refl
       (λ left j r. input_same take tt j (read_place i n left j at r) e' refl
       (others j (let l = read_place i n left j at r in omega (arith, l))))))
     where
@@ -196,8 +201,8 @@ module _ (nodes : List Node) (header : Header) (events : List Event) (net : Part
       → Stands nodes header (record net { edges = e'; operators = ops }) (events ++ step i ∷ [])
   stepped_stands i op e1 e' ops may same stepped count start stands node long here others = stand (step i) may (record net { edges = e'; operators = ops })
       numbers edges root
-      (keep (step i) may (record net { edges = e'; operators = ops }) refl count long (start ∙ st.holds.start) st.holds.last st.holds.closed st.holds.running
-      (λ j n at a. others j (λ x. not_atom j n at a x) ∙ st.holds.at_atom j n at a) (λ j n at a. by_place j n at a (cases_order j i)))
+      (keep (step i) may (record net { edges = e'; operators = ops }) refl count long joins (start ∙ st.holds.start) st.holds.last st.holds.closed
+      st.holds.running (λ j n at a. others j (λ x. not_atom j n at a x) ∙ st.holds.at_atom j n at a) (λ j n at a. by_place j n at a (cases_order j i)))
     where
       il : i < length nodes
       il = may.0
@@ -245,9 +250,20 @@ module _ (nodes : List Node) (header : Header) (events : List Event) (net : Part
           by_order (inr (inl x)) = other (λ y. absurd (omega (arith, x, y)))
           by_order (inr (inr x)) = other (λ y. absurd (omega (arith, x, y)))
 
+      -- what the node's own edge held unread, what it held read, and all
+      fresh_here : fresh_at e' i ≡ fresh_at net.edges i ++ stepped.verdicts
+      fresh_here = stepped.got ∙ ap (λ (x : Edge). x.fresh ++ stepped.verdicts) (same i)
+
+      seen_here : (edge_at e' i).seen ≡ (edge_at net.edges i).seen
+      seen_here = stepped.seen ∙ ap (λ (x : Edge). x.seen) (same i)
+
       held_here : held_at e' i ≡ held_at net.edges i ++ stepped.verdicts
-      held_here = ap (λ l. l ++ fresh_at e' i) stepped.seen ∙ ap (λ l. (edge_at e1 i).seen ++ l) stepped.got
-          ∙ sym (append_assoc (edge_at e1 i).seen (fresh_at e1 i) stepped.verdicts) ∙ ap (λ x. held_of x ++ stepped.verdicts) (same i)
+      held_here = ap (λ l. l ++ fresh_at e' i) seen_here ∙ ap (λ l. (edge_at net.edges i).seen ++ l) fresh_here
+          ∙ sym (append_assoc (edge_at net.edges i).seen (fresh_at net.edges i) stepped.verdicts)
+
+      -- each edge joins where it joined
+      joins : JoinsAlike net.edges e'
+      joins j = stepped.joins j ∙ ap (λ (x : Edge). x.joins) (same j)
 
       -- the reader of another node's edge, which does not read it
       reader_other : (j : ℕ) (l : suc j < length nodes) → ((left : Bool) → IsReader n_i left j → ⊥) → (st.shows.edges j l).reader ≢ i
@@ -257,35 +273,40 @@ module _ (nodes : List Node) (header : Header) (events : List Event) (net : Part
           ∙ ap (λ k. slice_index_or nodes k (Const false)) x in
           none edge.left (subst (λ m. IsReader m edge.left j) y edge.reads)
 
-      edges : (j : ℕ) → suc j < length nodes → IsEdge nodes header (events ++ step i ∷ []) j (held_at e' j)
+      edges : (j : ℕ) → suc j < length nodes → IsJoinedEdge nodes header (events ++ step i ∷ []) (edge_at e' j).joins j (held_at e' j)
       edges j l = by_order (cases_order j i)
         where
-          own : j ≡ i → IsEdge nodes header (events ++ step i ∷ []) j (held_at e' j)
-          own x = subst (λ k. IsEdge nodes header (events ++ step i ∷ []) k (held_at e' k)) (sym x)
-              (subst (λ h. IsEdge nodes header (events ++ step i ∷ []) i h) (sym held_here)
-              (edge_grows nodes header formed events (step i) st.run may i il (held_at net.edges i) stepped.verdicts edge
-              (slice_get_within nodes edge.reader edge.reading edge.at_reader)
-              (step_leaves nodes header formed s i edge.reader (λ y. absurd (let z = below in omega (arith, y, z)))) given))
+          own : j ≡ i → IsJoinedEdge nodes header (events ++ step i ∷ []) (edge_at e' j).joins j (held_at e' j)
+          own x = subst (λ k. IsJoinedEdge nodes header (events ++ step i ∷ []) (edge_at e' k).joins k (held_at e' k)) (sym x)
+              (subst (λ b. IsJoinedEdge nodes header (events ++ step i ∷ []) b i (held_at e' i)) (sym (joins i))
+              (subst (λ h. IsJoinedEdge nodes header (events ++ step i ∷ []) (edge_at net.edges i).joins i h)
+              (sym (held_here ∙ append_assoc (edge_at net.edges i).seen (fresh_at net.edges i) stepped.verdicts))
+              (joined_grows nodes header formed events (step i) st.run may i il (edge_at net.edges i).seen (fresh_at net.edges i)
+              (fresh_at net.edges i ++ stepped.verdicts) stepped.verdicts edge (slice_get_within nodes edge.reader edge.reading edge.at_reader)
+              (step_leaves nodes header formed s i edge.reader (λ y. absurd (let z = below in omega (arith, y, z)))) given
+              (stand_given (edge_at net.edges i).joins (fresh_at net.edges i ++ stepped.verdicts)))))
             where
-              edge : IsEdge nodes header events i (held_at net.edges i)
+              edge : IsJoinedEdge nodes header events (edge_at net.edges i).joins i (held_at net.edges i)
               edge = st.shows.edges i (subst (λ k. suc k < length nodes) x l)
 
               below : i < edge.reader
               below = child_all (λ p. p < edge.reader) edge.reading edge.left i edge.reads
                   (children_before nodes header order edge.reader edge.reading (slice_get_within nodes edge.reader edge.reading edge.at_reader) edge.at_reader)
 
-          other : j ≢ i → IsEdge nodes header (events ++ step i ∷ []) j (held_at e' j)
+          other : j ≢ i → IsJoinedEdge nodes header (events ++ step i ∷ []) (edge_at e' j).joins j (held_at e' j)
           other d = by_read (reads_or_not n_i j)
             where
               by_read : ((left : Bool) × IsReader n_i left j) ⊎ ((left : Bool) → IsReader n_i left j → ⊥)
-                  → IsEdge nodes header (events ++ step i ∷ []) j (held_at e' j)
+                  → IsJoinedEdge nodes header (events ++ step i ∷ []) (edge_at e' j).joins j (held_at e' j)
               by_read (inl (left, r)) = (stepped.inputs j n_i left at_i r).1
-              by_read (inr none) = subst (λ h. IsEdge nodes header (events ++ step i ∷ []) j h) (ap held_of (sym (stays j d none)))
-                  (edge_stays nodes header formed events (step i) st.run may j (omega (arith, l)) (held_at net.edges j) (st.shows.edges j l)
+              by_read (inr none) = subst (λ (x : Edge). IsJoinedEdge nodes header (events ++ step i ∷ []) x.joins j (held_of x))
+                  (sym (stays j d none))
+                  (joined_stays nodes header formed events (step i) st.run may j (omega (arith, l)) (held_at net.edges j) (st.shows.edges j l)
                   (slice_get_within nodes (st.shows.edges j l).reader (st.shows.edges j l).reading (st.shows.edges j l).at_reader)
                   (step_leaves nodes header formed s i (st.shows.edges j l).reader (reader_other j l none)) (step_leaves nodes header formed s i j d))
 
-          by_order : (j ≡ i) ⊎ ((j < i) ⊎ (i < j)) → IsEdge nodes header (events ++ step i ∷ []) j (held_at e' j)
+          by_order : (j ≡ i) ⊎ ((j < i) ⊎ (i < j))
+              → IsJoinedEdge nodes header (events ++ step i ∷ []) (edge_at e' j).joins j (held_at e' j)
           by_order (inl x) = own x
           by_order (inr (inl x)) = other (λ y. absurd (omega (arith, x, y)))
           by_order (inr (inr x)) = other (λ y. absurd (omega (arith, x, y)))
@@ -332,7 +353,7 @@ module _ (nodes : List Node) (header : Header) (events : List Event) (net : Part
           own : j ≡ i → InputOn nodes header formed s (after_event nodes s (step i)) net.edges e' j
           own x = subst (λ k. InputOn nodes header formed s (after_event nodes s (step i)) net.edges e' k) (sym x)
               (input_got (step i) may i (subst (λ k. suc k < length nodes) x l) e' stepped.verdicts number_here
-              (stepped.got ∙ ap (λ (y : Edge). y.fresh ++ stepped.verdicts) (same i)) (stepped.seen ∙ ap (λ (y : Edge). y.seen) (same i)) given)
+              (all_stretches fresh_here) seen_here given)
 
           by_order : (j ≡ i) ⊎ ((j < i) ⊎ (i < j)) → InputOn nodes header formed s (after_event nodes s (step i)) net.edges e' j
           by_order (inl x) = own x

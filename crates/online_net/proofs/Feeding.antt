@@ -21,14 +21,16 @@ use Rattle.stl_syntax.proofs.RowsLemmas.{last_from}
 use Rattle.atom_lines.specs.Binding.{HasRow, AreNeighbours}
 use Rattle.online_nodes.specs.Network.{Event, row, take, Front, State, last_row, shown, same_front, answered}
 use Rattle.online_nodes.specs.Network.{is_atom, node_is_atom, after_event, state, EmittedAt, MayCome}
-use Rattle.online_nodes.specs.Needed.{IsReader, IsEdge, IsRootEdge}
-use Rattle.online_nodes.specs.Held.{Edge, Held, edge_at, fresh_at, held_at, held_of, number_at}
+use Rattle.online_nodes.specs.Needed.{IsReader, IsJoinedEdge, IsRootEdge}
+use Rattle.online_nodes.specs.Held.{Edge, Held, JoinsAlike, Stand, edge_at, fresh_at, held_at, held_of, number_at}
 use Rattle.online_nodes.proofs.RunLaw.{last_appended}
 use Rattle.online_nodes.proofs.RisingLaw.{IsSound, sound_of}
 use Rattle.online_nodes.proofs.EmittedLaw.{front_shown}
 use Rattle.online_nodes.proofs.RowsLaw.{AreRowsSoFar, rows_of, rows_after, trace_so_far}
-use Rattle.online_nodes.proofs.EdgeLaw.{edge_grows, edge_stays, root_grows, root_stays, row_leaves, reader_is_none}
+use Rattle.online_nodes.proofs.EdgeLaw.{root_grows, root_stays, row_leaves, reader_is_none}
 use Rattle.online_nodes.proofs.StandingLaw.{InputOn}
+use Rattle.online_nodes.proofs.StretchLaw.{joined_grows, joined_stays}
+use Rattle.online_nodes.proofs.Stretches.{stand_stretches}
 use Rattle.online_net.specs.Nets.{Parts, Stands, first_row, last_row_of, last_row_after}
 use Rattle.online_net.specs.Atoms.{row_stretch, StandsNext, IsPut, HasPutAtoms, begun}
 use Rattle.online_net.proofs.Events.{stand, keep, operator_stays, input_got, input_same, read_place, root_here}
@@ -230,11 +232,28 @@ module _ (nodes : List Node) (header : Header) (events : List Event) (net : Part
       by_shown : (o : Front) → o ≡ Some (pos r.time) → Gives (shown s j) o
       by_shown o e = subst (λ o. Gives (shown s j) o) (sym e) (by_last net.last refl describes)
 
-  put_held : (j : ℕ) (n : Node) (at : slice_get nodes j ≡ Some n) (a : is_atom n ≡ true)
-      → held_at e' j ≡ held_at net.edges j ++ (atom_put j n at a).more
-  put_held j n at a =
+  -- an atom's edge, of which nothing more was read
+  put_seen : (j : ℕ) (n : Node) → slice_get nodes j ≡ Some n → is_atom n ≡ true → (edge_at e' j).seen ≡ (edge_at net.edges j).seen
+  put_seen j n at a = let p = atom_put j n at a in ap (λ (x : Edge). x.seen) p.is ∙ p.got.seen
+
+  put_fresh : (j : ℕ) (n : Node) (at : slice_get nodes j ≡ Some n) (a : is_atom n ≡ true)
+      → Stand (edge_at net.edges j).joins (fresh_at net.edges j ++ (atom_put j n at a).more) (fresh_at e' j)
+  put_fresh j n at a =
       let p = atom_put j n at a in
-      ap held_of p.is ∙ sym (append_assoc (edge_at net.edges j).seen (fresh_at net.edges j) p.more)
+      subst (λ (x : Edge). Stand (edge_at net.edges j).joins (fresh_at net.edges j ++ p.more) x.fresh) (sym p.is) p.got.fresh
+
+  -- where the edge does not join it got the verdicts as they are
+  put_held : (j : ℕ) (n : Node) (at : slice_get nodes j ≡ Some n) (a : is_atom n ≡ true) → (edge_at net.edges j).joins ≡ false
+      → held_at e' j ≡ held_at net.edges j ++ (atom_put j n at a).more
+  put_held j n at a e =
+      let p = atom_put j n at a in
+      ap (λ l. l ++ fresh_at e' j) (put_seen j n at a)
+      ∙ ap (λ l. (edge_at net.edges j).seen ++ l) (subst (λ b. Stand b (fresh_at net.edges j ++ p.more) (fresh_at e' j)) e (put_fresh j n at a))
+      ∙ sym (append_assoc (edge_at net.edges j).seen (fresh_at net.edges j) p.more)
+
+  -- each edge joins where it joined
+  pub put_joins : JoinsAlike net.edges e'
+  put_joins j = put.joins j ∙ ap (λ (x : Edge). x.joins) (begun_edge net.edges net.last r j)
 
   put_number : (j : ℕ) (n : Node) → slice_get nodes j ≡ Some n → is_atom n ≡ true → number_at e' j ≡ s'.fronts j
   put_number j n at a = ap (λ (x : Edge). x.number) (atom_put j n at a).is ∙ sym (atom_front j n at a)
@@ -249,7 +268,7 @@ module _ (nodes : List Node) (header : Header) (events : List Event) (net : Part
   -- the row came, and each atom moved to it
   pub fed_stands : Stands nodes header (record net { edges = e'; last = Some r }) (events ++ row r ∷ [])
   fed_stands = stand nodes header events net st (row r) may (record net { edges = e'; last = Some r }) numbers edges root
-      (keep nodes header events net st (row r) may (record net { edges = e'; last = Some r }) refl (put.count ∙ begun_count net.edges net.last r) refl
+      (keep nodes header events net st (row r) may (record net { edges = e'; last = Some r }) refl (put.count ∙ begun_count net.edges net.last r) refl put_joins
       (put.start ∙ start net.last is_last) (sym (last_pushed s.rows r)) st.holds.closed st.holds.running st.holds.at_atom
       (λ i n at a. operator_stays nodes header events net st (row r) may e' i n at a (other_front i n at a)
       (λ left j reads. input (slice_index_or nodes j (Const false)) i n left j at reads)))
@@ -282,13 +301,17 @@ module _ (nodes : List Node) (header : Header) (events : List Event) (net : Part
           row_leaves nodes header formed s r edge.reader (reader_is_none nodes header formed edge.reader edge.reading edge.left j
           (slice_get_within nodes edge.reader edge.reading edge.at_reader) edge.at_reader edge.reads)
 
-      edges : (j : ℕ) → suc j < length nodes → IsEdge nodes header (events ++ row r ∷ []) j (held_at e' j)
+      edges : (j : ℕ) → suc j < length nodes → IsJoinedEdge nodes header (events ++ row r ∷ []) (edge_at e' j).joins j (held_at e' j)
       edges j l = by_kind (node_at j)
-          (λ a. subst (λ h. IsEdge nodes header (events ++ row r ∷ []) j h) (sym (put_held j (node_at j) (at_place j jl) a))
-          (edge_grows nodes header formed events (row r) st.run may j jl (held_at net.edges j) (atom_put j (node_at j) (at_place j jl) a).more
-          (st.shows.edges j l) rl (reader_same j l) (given j (node_at j) (at_place j jl) a)))
-          (λ a. subst (λ h. IsEdge nodes header (events ++ row r ∷ []) j h) (ap held_of (sym (other_edge j (node_at j) (at_place j jl) a)))
-          (edge_stays nodes header formed events (row r) st.run may j jl (held_at net.edges j) (st.shows.edges j l) rl (reader_same j l)
+          (λ a. subst (λ b. IsJoinedEdge nodes header (events ++ row r ∷ []) b j (held_at e' j)) (sym (put_joins j))
+          (subst (λ q. IsJoinedEdge nodes header (events ++ row r ∷ []) (edge_at net.edges j).joins j (q ++ fresh_at e' j))
+          (sym (put_seen j (node_at j) (at_place j jl) a))
+          (joined_grows nodes header formed events (row r) st.run may j jl (edge_at net.edges j).seen (fresh_at net.edges j) (fresh_at e' j)
+          (atom_put j (node_at j) (at_place j jl) a).more (st.shows.edges j l) rl (reader_same j l) (given j (node_at j) (at_place j jl) a)
+          (put_fresh j (node_at j) (at_place j jl) a))))
+          (λ a. subst (λ (x : Edge). IsJoinedEdge nodes header (events ++ row r ∷ []) x.joins j (held_of x))
+          (sym (other_edge j (node_at j) (at_place j jl) a))
+          (joined_stays nodes header formed events (row r) st.run may j jl (held_at net.edges j) (st.shows.edges j l) rl (reader_same j l)
           (other_front j (node_at j) (at_place j jl) a)))
         where
           jl : j < length nodes
@@ -299,7 +322,7 @@ module _ (nodes : List Node) (header : Header) (events : List Event) (net : Part
 
       root : IsRootEdge nodes header (events ++ row r ∷ []) (held_at e' (length nodes - 1))
       root = by_kind (node_at k)
-          (λ a. subst (λ h. IsRootEdge nodes header (events ++ row r ∷ []) h) (sym (put_held k (node_at k) (at_place k kl) a))
+          (λ a. subst (λ h. IsRootEdge nodes header (events ++ row r ∷ []) h) (sym (put_held k (node_at k) (at_place k kl) a st.holds.plain))
           (root_grows nodes header formed events (row r) no_take (held_at net.edges k) (atom_put k (node_at k) (at_place k kl) a).more st.shows.root
           (given k (node_at k) (at_place k kl) a)))
           (λ a. subst (λ h. IsRootEdge nodes header (events ++ row r ∷ []) h) (ap held_of (sym (other_edge k (node_at k) (at_place k kl) a)))
@@ -318,8 +341,8 @@ module _ (nodes : List Node) (header : Header) (events : List Event) (net : Part
           → InputOn nodes header formed s s' net.edges e' j
       input m i n left j at reads = by_kind (node_at j)
           (λ a. input_got nodes header events net st (row r) may j l e' (atom_put j (node_at j) (at_place j jl) a).more
-          (put_number j (node_at j) (at_place j jl) a) (ap (λ (x : Edge). x.fresh) (atom_put j (node_at j) (at_place j jl) a).is)
-          (ap (λ (x : Edge). x.seen) (atom_put j (node_at j) (at_place j jl) a).is) (given j (node_at j) (at_place j jl) a))
+          (put_number j (node_at j) (at_place j jl) a) (stand_stretches (edge_at net.edges j).joins (put_fresh j (node_at j) (at_place j jl) a))
+          (put_seen j (node_at j) (at_place j jl) a) (given j (node_at j) (at_place j jl) a))
           (λ a. input_same nodes header events net st (row r) may j l e' (other_front j (node_at j) (at_place j jl) a)
           (other_edge j (node_at j) (at_place j jl) a))
         where

@@ -3,7 +3,7 @@ use Rattle.std.proofs.Common.{◌≡◌, suc, ◌+◌, ◌≤◌, Option, get_or
 use Rattle.std.proofs.Common.{Bool, true, false, ◌&&◌, Some, None, List, [], ◌∷◌, ◌++◌, length, pos, arith, append_assoc}
 use Rattle.std.specs.Prelude.{MatchBool, MatchOption, IfSome, IsTrue, ◌≢◌, slice_get}
 use Rattle.std.specs.Option.{is_some}
-use Rattle.std.proofs.lemmas.Bool.{cases_order}
+use Rattle.std.proofs.lemmas.Bool.{cases_eq, cases_order}
 use Rattle.std.proofs.lemmas.Option.{slice_get_cases, get_or_from_slice_get}
 use Rattle.online_nodes.specs.declared.operator.Operator.{Operator}
 use Rattle.std.proofs.lemmas.List.{get_or-set_same, get_or-set_other, length-set}
@@ -19,7 +19,7 @@ use Rattle.stl_syntax.specs.declared.atom.Atom.{Atom}
 use Rattle.stl_syntax.specs.declared.items.Verdict.{Verdict}
 use Rattle.rational.specs.Places.{Place, begins, ends, Upto, AtMost, Before, Same}
 use Rattle.frac128.specs.Cuts.{place}
-use Rattle.online_nodes.specs.Held.{Held, edge_at, no_edge, with_edge, with_more, with_number}
+use Rattle.online_nodes.specs.Held.{Edge, HasMore, Held, edge_at, no_edge, with_edge, with_more, with_number}
 use Rattle.frac128.specs.Value.{value}
 use Rattle.frac128.specs.declared.frac.Frac.{Frac}
 use Rattle.stl_syntax.specs.Verdicts.{Describes}
@@ -32,7 +32,7 @@ use Rattle.value_laws.specs.declared.truth.Truth.{Truth as ATruth}
 use Rattle.online_nodes.specs.Truths.{AllAre}
 use Rattle.frac128.specs.Spans.{interval}
 use Rattle.online_nodes.specs.Written.{HasAnswer, HasFinished, HasGot, HasTold, Lead, Reaches}
-use Rattle.online_nodes.proofs.GotLemmas.{got_both, got_none, got-here, got-other, got-length}
+use Rattle.online_nodes.proofs.GotLemmas.{got_both, got_none, got-here, got-other, got-length, more_given}
 use Rattle.online_net.specs.Atoms.{HasSaidThree, HasBegun, IsThrough, IsPut, HasPutAtom, HasPutAtoms, StandsNext, row_stretch, before_row, after_row}
 use Rattle.frac128.specs.declared.cut.Cut.{Cut}
 use Rattle.online_nodes.specs.declared.writer.Out.{Out}
@@ -288,7 +288,7 @@ pub atom_put : {b : Binding} {i : ℕ} (before : Option Row) (r : Row) {e0 e1 e2
     → HasAnswer e1 e2 out1 holds out2 → Reaches out1 end out2 → HasFinished e2 e3 out2
     → HasNoted e3 e4 i r.time → IsTruthAt b i r holds → HasPutAtom b before r i e0 e4
 atom_put {b} {i} before r {e0} {e1} {e2} {e3} {e4} {out1} {out2} {end} {holds} within later ends_so begun answer reaches finished noted truth = record {
-  here = record { more = all; is = here; describes = describes };
+  here = record { more = all; put = with_more (edge_at e0 i) all; got = more_given (edge_at e0 i) all; is = here; describes = describes };
   others = λ j other. ap (λ es. get_or es j no_edge) noted.edges ∙ get_or-set_other e3.edges i j _ no_edge other ∙ got-other got j other;
   count = ap length noted.edges ∙ length-set e3.edges i _ ∙ got-length got;
   start = noted.start ∙ got.start;
@@ -345,20 +345,32 @@ through {truth = truth} b i first r holds is same on at = λ a tr for next t low
       | inr x ↦ gap t low x ∙ same
     ]
 
+-- the edge has this verdict more at its back, and nothing else has changed
+pub record HasExtended (old new : Held) (i : ℕ) (v : Verdict) : Type 0 where
+  -- the edge itself
+  pub here : HasMore (edge_at old i) (edge_at new i) (v ∷ [])
+  -- and the others
+  pub others : new.edges ≡ with_edge old i (edge_at new i)
+  -- the start is as it was
+  pub start : new.start ≡ old.start
+
 -- one truth after the row before, up to the row: the one verdict is put
 pub even_put : (b : Binding) (i : ℕ) (first r : Row) {e0 e1 e2 : Held} (v : Verdict) → i < length e0.edges → first.time < r.time
-    → Same (after_row first) (begins (interval v.on)) → Same (ends (interval v.on)) (after_row r) → HasGot e0 e1 i (v ∷ [])
+    → Same (after_row first) (begins (interval v.on)) → Same (ends (interval v.on)) (after_row r) → HasExtended e0 e1 i v
     → HasNoted e1 e2 i r.time → IsThrough b i first r v.holds → HasPutAtom b (Some first) r i e0 e2
-even_put b i first r {e0} {e1} {e2} v within later from to got noted truth = record {
-  here = record { more = v ∷ []; is = here; describes = describes };
-  others = λ j other. ap (λ es. get_or es j no_edge) noted.edges ∙ get_or-set_other e1.edges i j _ no_edge other ∙ got-other got j other;
-  count = ap length noted.edges ∙ length-set e1.edges i _ ∙ got-length got;
-  start = noted.start ∙ got.start;
+even_put b i first r {e0} {e1} {e2} v within later from to put noted truth = record {
+  here = record { more = v ∷ []; put = edge_at e1 i; got = put.here; is = here; describes = describes };
+  others = λ j other. ap (λ es. get_or es j no_edge) noted.edges ∙ get_or-set_other e1.edges i j _ no_edge other
+      ∙ ap (λ es. get_or es j no_edge) put.others ∙ get_or-set_other e0.edges i j _ no_edge other;
+  count = ap length noted.edges ∙ length-set e1.edges i _ ∙ count;
+  start = noted.start ∙ put.start;
 }
   where
-    here : edge_at e2 i ≡ with_number (with_more (edge_at e0 i) (v ∷ [])) (pos r.time)
-    here = ap (λ es. get_or es i no_edge) noted.edges ∙ get_or-set_same e1.edges i _ no_edge (subst (λ n. i < n) (sym (got-length got)) within)
-        ∙ ap (λ x. with_number x (pos r.time)) (got-here got within)
+    count : length e1.edges ≡ length e0.edges
+    count = ap length put.others ∙ length-set e0.edges i _
+
+    here : edge_at e2 i ≡ with_number (edge_at e1 i) (pos r.time)
+    here = ap (λ es. get_or es i no_edge) noted.edges ∙ get_or-set_same e1.edges i _ no_edge (subst (λ n. i < n) (sym count) within)
 
     some : Before (after_row first) (after_row r)
     some = before_trans (after_row first) (before_row r) (after_row r) (rows_order first r later) (row_order r)
@@ -419,6 +431,7 @@ module _ (b : Binding) (before : Option Row) (r : Row) (operators : List (Option
     atoms = λ j l x. by_order j l x (cases_order j i);
     others = λ j none. one.others j (λ x. none (omega (arith, x)) (subst (λ k. slice_get operators k ≡ Some None) (sym x) e))
         ∙ done.others j (λ l x. none (omega (arith, l)) x);
+    joins = λ j. joins_by j (cases_eq j i) ∙ done.joins j;
     count = one.count ∙ done.count;
     start = one.start ∙ done.start;
   }
@@ -428,6 +441,11 @@ module _ (b : Binding) (before : Option Row) (r : Row) (operators : List (Option
 
       own : IsPut b before r i (edge_at old i) (edge_at new i)
       own = subst (λ y. IsPut b before r i y (edge_at new i)) (done.others i (λ l x. absurd (omega (arith, l)))) one.here
+
+      joins_by : (j : ℕ) → (j ≡ i) ⊎ (j ≢ i) → (edge_at new j).joins ≡ (edge_at mid j).joins
+      joins_by j (inl same) = subst (λ k. (edge_at new k).joins ≡ (edge_at mid k).joins) (sym same)
+          (ap (λ (x : Edge). x.joins) one.here.is ∙ one.here.got.joins)
+      joins_by j (inr d) = ap (λ (x : Edge). x.joins) (one.others j d)
 
       by_order : (j : ℕ) → j < i + 1 → slice_get operators j ≡ Some None → (j ≡ i) ⊎ ((j < i) ⊎ (i < j))
           → IsPut b before r j (edge_at old j) (edge_at new j)
@@ -441,6 +459,7 @@ module _ (b : Binding) (before : Option Row) (r : Row) (operators : List (Option
   put_skips d {old} {new} done = record {
     atoms = λ j l x. done.atoms j (below j l x (cases_order j i)) x;
     others = λ j none. done.others j (λ l x. none (omega (arith, l)) x);
+    joins = done.joins;
     count = done.count;
     start = done.start;
   }

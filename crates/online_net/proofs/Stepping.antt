@@ -1,7 +1,8 @@
 -- A network's operators belong to its edges, and what a step that moves nothing leaves.
-use Rattle.std.proofs.Common.{◌≡◌, refl, sym, ap, subst, ◌∙◌, ℕ, zero, suc, ◌-◌, ◌<◌, ◌≤◌, Bool, true, false}
+use Rattle.std.proofs.Common.{◌≡◌, ◌⊎◌, inl, inr, refl, sym, ap, subst, ◌∙◌, ℕ, zero, suc, ◌-◌, ◌<◌, ◌≤◌, Bool, true, false}
 use Rattle.std.proofs.Common.{Option, Some, None, List, [], ◌∷◌, ◌++◌, length, drop, ℤ, pos, ◌<ℤ◌, arith}
 use Rattle.std.specs.Prelude.{MatchBool, int_lt, ◌≢◌, cond, ◌==◌, slice_get, slice_index_or, slice_set, option_map}
+use Rattle.std.proofs.lemmas.Bool.{cases_eq, cases_lt}
 use Rattle.std.proofs.lemmas.Option.{slice_get_within}
 use Rattle.stl_syntax.specs.Trace.{Header, Row, AreRowsAfter, first_time, last_time}
 use Rattle.stl_syntax.specs.WellFormed.{AreWellFormed}
@@ -12,11 +13,11 @@ use Rattle.stl_syntax.proofs.PostOrderLemmas.{slice_get_at}
 use Rattle.atom_lines.specs.Binding.{IsAtomNode}
 use Rattle.online_nodes.specs.Network.{Event, row, step, close, take, Front, State, last_row, shown, is_atom}
 use Rattle.online_nodes.specs.Network.{node_is_atom, allowed_at, same_front, after_event, state, IsReady, MayCome}
-use Rattle.online_nodes.specs.Held.{Edge, Held, edge_at, held_at, held_of, no_edge, number_at, with_edge, without}
+use Rattle.online_nodes.specs.Held.{Edge, Held, JoinsAlike, edge_at, held_at, held_of, no_edge, number_at, with_edge, without}
 use Rattle.online_nodes.proofs.RowsLaw.{AreRowsSoFar, rows_of}
 use Rattle.online_nodes.proofs.EmittedLaw.{front_shown}
 use Rattle.stl_syntax.proofs.WellFormedLemmas.{root_some}
-use Rattle.std.proofs.lemmas.List.{get_or-set_same, get_or-set_other, length-set}
+use Rattle.std.proofs.lemmas.List.{get_or-set_same, get_or-set_other, length-set, set_past}
 use Rattle.std.proofs.lemmas.Int.{ints}
 use Rattle.std.specs.Prelude.{IfSome}
 use Rattle.online_nodes.specs.Belonging.{Belongs, HasStepped, StandsForSteps}
@@ -24,7 +25,8 @@ use Rattle.online_nodes.specs.declared.operator.Operator.{Operator}
 use Rattle.online_nodes.proofs.RunLaw.{none_is_none, allowed_bound}
 use Rattle.online_nodes.proofs.DroppingLemmas.{slice_get-drop, held_of-without}
 use Rattle.online_nodes.proofs.RisingLaw.{IsSound, sound_of, same_is, same_of}
-use Rattle.online_nodes.proofs.EdgeLaw.{edge_stays, root_stays}
+use Rattle.online_nodes.proofs.EdgeLaw.{root_stays}
+use Rattle.online_nodes.proofs.StretchLaw.{joined_stays}
 use Rattle.online_net.specs.Nets.{Parts, Stands, IsNext, first_row, last_row_of, last_row_after}
 use Rattle.online_net.specs.Steps.{IsStep}
 use Rattle.online_net.proofs.Events.{stand, keep, operator_stays, input_same, read_place, root_here, stepped_stands, taken_stands}
@@ -46,6 +48,22 @@ unmoved_parts net i op after e' is same still =
     sym (ap (λ e. record net { edges = e; operators = slice_set net.operators i (Some after) }) same
     ∙ ap (λ (o : Operator). record net { operators = slice_set net.operators i (Some o) }) still
     ∙ ap (λ os. record net { operators = os }) (set_same net.operators i (Some op) is))
+
+-- where an edge gave up its first verdict each joins where it joined
+pub took_joins : (old new : Held) (k : ℕ) → new.edges ≡ with_edge old k (without 1 (edge_at old k)) → JoinsAlike old new
+took_joins old new k is j = ap (λ es. (slice_index_or es j no_edge).joins) is ∙ by_place (cases_eq j k)
+  where
+    kept : Edge
+    kept = without 1 (edge_at old k)
+
+    own : j ≡ k → (j < length old.edges) ⊎ (length old.edges ≤ j) → (slice_index_or (with_edge old k kept) j no_edge).joins ≡ (edge_at old j).joins
+    own same (inl l) = subst (λ i. (slice_index_or (with_edge old k kept) i no_edge).joins ≡ (edge_at old i).joins) (sym same)
+        (ap (λ (x : Edge). x.joins) (get_or-set_same old.edges k kept no_edge (subst (λ i. i < length old.edges) same l)))
+    own same (inr l) = ap (λ es. (slice_index_or es j no_edge).joins) (set_past old.edges k kept (subst (λ i. length old.edges ≤ i) same l))
+
+    by_place : (j ≡ k) ⊎ (j ≢ k) → (slice_index_or (with_edge old k kept) j no_edge).joins ≡ (edge_at old j).joins
+    by_place (inl same) = own same (cases_lt j (length old.edges))
+    by_place (inr d) = ap (λ (x : Edge). x.joins) (get_or-set_other old.edges k j kept no_edge d)
 
 module _ (nodes : List Node) (header : Header) (events : List Event) (net : Parts) (st : Stands nodes header net events) where
   abbrev s : State
@@ -180,13 +198,13 @@ module _ (nodes : List Node) (header : Header) (events : List Event) (net : Part
   -- a step of a node that is not ready changes nothing
   pub idle_stands : (i : ℕ) → i < length nodes → node_is_atom nodes i ≡ false → ¬ IsReady nodes s i → Stands nodes header net (events ++ step i ∷ [])
   idle_stands i l other unready = stand nodes header events net st (step i) may net (λ j h. st.shows.fronts j h ∙ sym (stays j))
-      (λ j h. edge_stays nodes header formed events (step i) st.run may j (omega (arith, h)) (held_at net.edges j) (st.shows.edges j h)
+      (λ j h. joined_stays nodes header formed events (step i) st.run may j (omega (arith, h)) (held_at net.edges j) (st.shows.edges j h)
       (slice_get_within nodes (st.shows.edges j h).reader (st.shows.edges j h).reading (st.shows.edges j h).at_reader)
       (stays (st.shows.edges j h).reader) (stays j))
       (root_stays nodes header formed events (step i) (λ e. let z : step i ≡ take = e in cc) st.run (root_here nodes header events net st)
       (held_at net.edges (length nodes - 1)) st.shows.root (stays (length nodes - 1)))
-      (keep nodes header events net st (step i) may net refl refl refl st.holds.start st.holds.last st.holds.closed st.holds.running st.holds.at_atom
-      (λ j n at a. operator_stays nodes header events net st (step i) may net.edges j n at a (stays j)
+      (keep nodes header events net st (step i) may net refl refl refl (λ j. refl) st.holds.start st.holds.last st.holds.closed st.holds.running
+      st.holds.at_atom (λ j n at a. operator_stays nodes header events net st (step i) may net.edges j n at a (stays j)
       (λ left k r. input_same nodes header events net st (step i) may k (read_place nodes header events net st j n left k at r) net.edges (stays k) refl)))
     where
       may : MayCome nodes header s (step i)
@@ -322,7 +340,7 @@ module _ (nodes : List Node) (header : Header) (events : List Event) (net : Part
   -- the root's first verdict is taken
   pub took_stands : (e' : Held) (k : ℕ) → k ≡ length nodes - 1 → e'.edges ≡ with_edge net.edges k (without 1 (edge_at net.edges k)) → e'.start ≡ net.edges.start
       → Stands nodes header (record net { edges = e' }) (events ++ take ∷ [])
-  took_stands e' k is x y = taken_stands nodes header events net st e' others held number count y
+  took_stands e' k is x y = taken_stands nodes header events net st e' others (took_joins net.edges e' k x) held number count y
     where
       root_l : length nodes - 1 < length net.edges.edges
       root_l = let h = root_here nodes header events net st in let d = st.holds.edges in omega (arith, h, d)
@@ -350,7 +368,7 @@ module _ (nodes : List Node) (header : Header) (events : List Event) (net : Part
       → IsNext nodes header events None × Stands nodes header net (events ++ take ∷ [])
   none_took k is none = (
     next_is None (sym (ap (λ l. slice_get l 0) empty)),
-    taken_stands nodes header events net st net.edges (λ j d. refl) (empty ∙ sym (ap (drop 1) empty)) refl refl refl,
+    taken_stands nodes header events net st net.edges (λ j d. refl) (λ j. refl) (empty ∙ sym (ap (drop 1) empty)) refl refl refl,
   )
     where
       nothing : (l : List Verdict) → length l ≡ 0 → l ≡ []

@@ -10,7 +10,7 @@ use Rattle.stl_syntax.specs.declared.items.Verdict.{Verdict}
 use Rattle.atom_lines.specs.Binding.{Binding, IsFor, HasRow, AreNeighbours}
 use Rattle.rational.specs.Places.{Place, begins, AtMost, Same}
 use Rattle.frac128.specs.Cuts.{place}
-use Rattle.online_nodes.specs.Held.{Edge, Held, edge_at, with_more, with_number}
+use Rattle.online_nodes.specs.Held.{Edge, Held, HasMore, JoinsAlike, edge_at, with_number}
 use Rattle.online_nodes.specs.Truths.{AllAre}
 use Rattle.online_nodes.specs.Written.{HasGot, HasTold, IsSound}
 use Rattle.online_nodes.specs.declared.writer.Out.{Out}
@@ -68,7 +68,9 @@ IsThrough b i first r holds =
 -- the edge of an atom got the verdicts that describe it on the stretch that the row answers, and the row's time as its number
 pub record IsPut (b : Binding) (before : Option Row) (r : Row) (i : ℕ) (old new : Edge) : Type 0 where
   pub more : List Verdict
-  pub is : new ≡ with_number (with_more old more) (pos r.time)
+  pub put : Edge
+  pub got : HasMore old put more
+  pub is : new ≡ with_number put (pos r.time)
   pub describes : (a : Atom) (tr : Trace) → IsFor b i a tr → StandsNext tr before r → Describes more (atom i a) tr (row_stretch before r)
 
 -- so did one edge, and nothing else changed
@@ -82,6 +84,7 @@ pub record HasPutAtom (b : Binding) (before : Option Row) (r : Row) (i : ℕ) (o
 pub record HasPutAtoms (b : Binding) (before : Option Row) (r : Row) (operators : List (Option Operator)) (n : ℕ) (old new : Held) : Type 0 where
   pub atoms : (j : ℕ) → j < n → slice_get operators j ≡ Some None → IsPut b before r j (edge_at old j) (edge_at new j)
   pub others : (j : ℕ) → (j < n → slice_get operators j ≡ Some None → ⊥) → edge_at new j ≡ edge_at old j
+  pub joins : JoinsAlike old new
   pub count : length new.edges ≡ length old.edges
   pub start : new.start ≡ old.start
 

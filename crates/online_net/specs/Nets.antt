@@ -8,7 +8,7 @@ use Rattle.stl_syntax.specs.declared.scale.Scale.{Scale}
 use Rattle.atom_lines.specs.Binding.{Binding, IsBound}
 use Rattle.online_nodes.specs.Network.{Event, is_atom, state, Emitted}
 use Rattle.online_nodes.specs.Needed.{Shown, StandsFor, IsTaken}
-use Rattle.online_nodes.specs.Held.{Held, held_at, number_at}
+use Rattle.online_nodes.specs.Held.{Held, edge_at, held_at, number_at}
 use Rattle.online_nodes.specs.Belonging.{StandsForSteps}
 use Rattle.online_nodes.specs.declared.operator.Operator.{Operator}
 use Rattle.online_net.specs.declared.net.NetFault.{NetFault}
@@ -24,9 +24,9 @@ pub record Parts : Type 0 where
   pub closed : Bool
   pub stopped : Bool
 
--- what it shows: the number of each node, and what stands on its edge
+-- what it shows: the number of each node, whether its edge joins, and what stands there
 abbrev pub shown_of : Parts → Shown
-shown_of net = record { fronts = number_at net.edges; edges = held_at net.edges }
+shown_of net = record { fronts = number_at net.edges; joins = λ i. (edge_at net.edges i).joins; edges = held_at net.edges }
 
 -- the first of the rows, and the last
 abbrev pub first_row : List Row → Option Row
@@ -55,6 +55,8 @@ pub record Keeps (nodes : List Node) (header : Header) (net : Parts) (events : L
   pub scale : Scale
   pub bound : IsBound net.bound (record { nodes = nodes; scale = scale }) header
   pub edges : length net.edges.edges ≡ length nodes
+  -- the root's edge does not join
+  pub plain : (edge_at net.edges (length nodes - 1)).joins ≡ false
   pub operators : length net.operators ≡ length nodes
   pub start : net.edges.start ≡ option_map (λ (r : Row). r.time) (first_row (state nodes events).rows)
   pub last : net.last ≡ last_row_of (state nodes events).rows
@@ -64,8 +66,8 @@ pub record Keeps (nodes : List Node) (header : Header) (net : Parts) (events : L
   pub at_other : (i : ℕ) (n : Node) → slice_get nodes i ≡ Some n → is_atom n ≡ false
       → HasOperator nodes header events net.edges i (slice_get net.operators i)
 
--- the network stands for a run of events: it has the numbers of the run; each edge holds what the node's reader may still need, and the
--- root's what was not taken; and what it keeps beside them is the run's
+-- the network stands for a run of events: it has the numbers of the run; each edge holds what the node's reader may still need, some
+-- neighbours of one truth joined where it joins, and the root's what was not taken; and what it keeps beside them is the run's
 abbrev pub Stands : List Node → Header → Parts → List Event → Type 0
 Stands nodes header net events = StandsFor (Keeps nodes header net) nodes header (shown_of net) events
 

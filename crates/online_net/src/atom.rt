@@ -149,7 +149,7 @@ fn put_even(edges: &mut Edges, node: u32, first: &Row, row: &Row, holds: bool) -
     let before = first.time();
     let now = row.time();
     let on = span_after(before, now);
-    edges.put(node, Verdict { on, holds })?;
+    edges.extend(node, Verdict { on, holds })?;
     note(edges, node, now);
     Ok(())
 }

@@ -9,9 +9,9 @@ ghost use Rattle.stl_syntax.specs.Trace.{Header};
 ghost use Rattle.stl_syntax.specs.declared.node.Node.{Node as ANode};
 ghost use Rattle.atom_lines.specs.Binding.{IsBound};
 ghost use Rattle.online_nodes.specs.Network.{Event, row as came, step as stepped, close as ended, take as taken, state, shown, node_is_atom, IsReady};
-ghost use Rattle.online_nodes.specs.Held.{held_at};
+ghost use Rattle.online_nodes.specs.Held.{JoinsAlike, held_at};
 ghost use Rattle.online_nodes.specs.Belonging.{Belongs, BelongsSomewhere};
-ghost use Rattle.online_net.specs.Steps.{AreFirstOperators, IsFirstOperator, IsStep};
+ghost use Rattle.online_net.specs.Steps.{AreFirstOperators, AreNewEdges, IsFirstOperator, IsStep, JoinsAllButRoot, JoinsNone};
 ghost use Rattle.stl_syntax.specs.Trace.{Row as ARow};
 
 use crate::atom::put_row;
@@ -91,6 +91,19 @@ fn operators_of(alloc: Global, formula: &Formula) -> Result<Vec<Option<Operator>
     Ok(operators)
 }
 
+/// The edges of so many nodes. Each but the last one, the root's, joins neighbours of one truth.
+fn joining_edges(alloc: Global, count: u32) -> Result<Edges, Memory>
+    requires { 0 < count }
+    ensures new { IfOk result (AreNewEdges count) }
+    ensures joins { IfOk result (JoinsAllButRoot count) }
+{
+    let mut edges = Edges::new(alloc, count)?;
+    for i in 0..count - 1 {
+        edges.join(i);
+    }
+    Ok(edges)
+}
+
 /// The time of a row, if there is one.
 fn time_of(row: &Option<Row>) -> Option<u32>
     ensures { result ≡ option_map (λ (r : ARow). r.time) row.now }
@@ -138,7 +151,7 @@ fn step_one(
 impl Net {
     ghost use Rattle.online_net.specs.Nets.{IsClosed, IsCloseFault, IsFed, IsFeedFault, IsNext, IsStepFault, IsStepped, Stands};
 
-    /// The network of a formula that is bound to a header's columns. It stands for the empty run.
+    /// The network of a formula that is bound to a header's columns. It stands for the empty run. No edge of it joins.
     ///
     /// # Errors
     ///
@@ -149,9 +162,36 @@ impl Net {
         ensures nodes { IfOk result (λ net. length net.operators ≡ length formula.now.nodes) }
         ensures bound { IfOk result (λ net. net.bound ≡ bound) }
         ensures no_row { IfOk result (λ net. net.last ≡ None) }
+        ensures joins { IfOk result (λ net. JoinsNone net.edges) }
     {
         let operators = operators_of(alloc, formula)?;
         let edges = Edges::new(alloc, formula.len())?;
+        Ok(Net {
+            edges,
+            operators,
+            bound,
+            last: None,
+            closed: false,
+            stopped: false,
+        })
+    }
+
+    /// As `new`, but each edge except the root's joins: neighbours of one truth may stand there as one verdict, as long as they are not
+    /// read. So it holds less and its nodes read less, and `held` says no more how many verdicts a node gave out.
+    ///
+    /// # Errors
+    ///
+    /// As `new`.
+    pub fn joining(alloc: Global, formula: &Formula, bound: Bound) -> Result<Net, Memory>
+        requires { (header : Header) × IsBound bound formula.now header }
+        ensures stands { (header : Header) → IsBound bound formula.now header → IfOk result (λ net. Stands formula.now.nodes header net []) }
+        ensures nodes { IfOk result (λ net. length net.operators ≡ length formula.now.nodes) }
+        ensures bound { IfOk result (λ net. net.bound ≡ bound) }
+        ensures no_row { IfOk result (λ net. net.last ≡ None) }
+        ensures joins { IfOk result (λ net. JoinsAllButRoot (length formula.now.nodes) net.edges) }
+    {
+        let operators = operators_of(alloc, formula)?;
+        let edges = joining_edges(alloc, formula.len())?;
         Ok(Net {
             edges,
             operators,
@@ -176,6 +216,7 @@ impl Net {
             → IfOk result (λ _. Stands nodes header self.new (events ++ came row.now ∷ [])) }
         ensures nodes { length self.new.operators ≡ length self.old.operators }
         ensures bound { self.new.bound ≡ self.old.bound }
+        ensures joins { OnOk result (JoinsAlike self.old.edges self.new.edges) }
     {
         if self.stopped {
             return Err(NetFault::Stopped);
@@ -237,6 +278,7 @@ impl Net {
             → node_is_atom nodes node ≡ false → IfOk result (λ _. Stands nodes header self.new (events ++ stepped node ∷ [])) }
         ensures nodes { length self.new.operators ≡ length self.old.operators }
         ensures bound { self.new.bound ≡ self.old.bound }
+        ensures joins { OnOk result (JoinsAlike self.old.edges self.new.edges) }
     {
         if self.stopped {
             return Err(NetFault::Stopped);
@@ -307,6 +349,7 @@ impl Net {
         ensures last { self.new.last ≡ self.old.last }
         ensures closed { self.new.closed ≡ self.old.closed }
         ensures running { self.new.stopped ≡ self.old.stopped }
+        ensures joins { JoinsAlike self.old.edges self.new.edges }
     {
         if self.stopped {
             return None;
@@ -318,7 +361,7 @@ impl Net {
         self.edges.take(root)
     }
 
-    /// How many verdicts stand on the node's edge; 0 where the network is stopped.
+    /// How many verdicts stand on the node's edge, of which those that were joined are one; 0 where the network is stopped.
     pub fn held(&self, node: u32) -> usize
         requires { node < length self.now.operators }
         ensures stopped { self.now.stopped ≡ true → result ≡ 0 }

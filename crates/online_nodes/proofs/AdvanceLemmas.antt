@@ -1,14 +1,15 @@
 -- From the parts of a step, the body's work, what is put, let go and noted, to what the step leaves.
-use Rattle.std.proofs.Common.{◌≡◌, ◌≢◌, inl, inr, refl, sym, ap, subst, ◌∙◌, ℕ, ◌+◌, ◌*◌, ◌^◌, ◌<◌, ◌≤◌, Bool, true, false}
+use Rattle.std.proofs.Common.{◌≡◌, ◌≢◌, ◌⊎◌, inl, inr, refl, sym, ap, subst, ◌∙◌, ℕ, ◌+◌, ◌*◌, ◌^◌, ◌<◌, ◌≤◌, Bool, true, false}
 use Rattle.std.proofs.Common.{Option, Some, None, List, [], ◌∷◌, ◌++◌, length, ℤ, pos, ◌+ℤ◌, arith, length-append}
 use Rattle.std.specs.Prelude.{◌-◌, min, option_map}
+use Rattle.std.proofs.lemmas.Bool.{cases_eq}
 use Rattle.rational.specs.Rational.{whole}
 use Rattle.stl_syntax.specs.Trace.{Header, Trace}
 use Rattle.stl_syntax.specs.Verdicts.{Describes}
 use Rattle.stl_syntax.specs.declared.items.Verdict.{Verdict}
 use Rattle.stl_syntax.specs.declared.node.Node.{Node}
 use Rattle.online_nodes.specs.Network.{Event, State, after_event, answered, shown, step, reach_back}
-use Rattle.online_nodes.specs.Needed.{IsEdge, IsReader}
+use Rattle.online_nodes.specs.Needed.{IsJoinedEdge, IsReader}
 use Rattle.online_nodes.specs.Answering.{HasAnswered, HasReleased, HasWorkedOn, IsInput, IsOperand, looks_by}
 use Rattle.online_nodes.specs.Belonging.{HasStepped, StandsForSteps, room_of_step, trace_of}
 use Rattle.online_nodes.specs.Stepping.{Situation, HasWorkedOut, IsBegun, IsDue, end_of, first_in, formula_of, state_in, stretch_of, trace_in}
@@ -29,8 +30,9 @@ use Rattle.online_nodes.specs.declared.kind.Kind.TheVariants.{Ahead, Behind, Unt
 use Rattle.online_nodes.specs.declared.operator.Operator.{Operator}
 use Rattle.online_nodes.proofs.BelongLemmas.{own_edge, own_reach_small, room_if_ready}
 use Rattle.online_nodes.proofs.BodyLemmas.{body_worked}
-use Rattle.online_nodes.proofs.DroppedLemmas.{dropped_number}
+use Rattle.online_nodes.proofs.DroppedLemmas.{dropped_joins, dropped_number}
 use Rattle.online_nodes.proofs.DueLemmas.{among_apart, begin_before, input_reader, kind_is}
+use Rattle.online_nodes.proofs.EdgeLaw.{reads_or_not}
 use Rattle.online_nodes.proofs.EmittedLaw.{front_shown}
 use Rattle.online_nodes.proofs.GotLemmas.{got-here, got-length, got-other, with_more-both}
 use Rattle.online_nodes.proofs.ReadLemmas.{edge_later, own_after, with_step}
@@ -161,8 +163,35 @@ module _ {x : Situation} {op : Operator} {old : Held} (d : IsDue x op old) {begu
             by_front None = refl
             by_front (Some f) = refl
 
+    -- an input's edge joins where it joined
+    input_joins : (j : ℕ) (left : Bool) → IsReader d.belongs.stands.node left j → (edge_at new j).joins ≡ (edge_at old j).joins
+    input_joins j left reads =
+        let side : IsOperand op.kind left j =
+        subst (λ k. IsOperand k left j) (sym (kind_is d)) (reads_side d.belongs.stands.node left j reads) in
+        let read = work.worked.read j (side_input op.kind left j side) in
+        dropped_joins (lets_new j left side) ∙ read.joins
+
+    -- an edge that is neither the node's nor an input's stays
+    stays_new : (j : ℕ) → j ≢ op.node → ((left : Bool) → IsReader d.belongs.stands.node left j → ⊥) → edge_at new j ≡ edge_at old j
+    stays_new j apart none =
+        let no : IsInput op.kind j → ⊥ = λ is. (let q = input_reader d j is in none q.0 q.1) in
+        other_new j apart ∙ r.others j no ∙ all_put.others j apart no
+
+    -- no edge begins to join, and none ceases to
+    joins_new : (j : ℕ) → (edge_at new j).joins ≡ (edge_at old j).joins
+    joins_new j = by_place (cases_eq j op.node)
+      where
+        by_read : j ≢ op.node → ((left : Bool) × IsReader d.belongs.stands.node left j) ⊎ ((left : Bool) → IsReader d.belongs.stands.node left j → ⊥)
+            → (edge_at new j).joins ≡ (edge_at old j).joins
+        by_read apart (inl (left, reads)) = input_joins j left reads
+        by_read apart (inr none) = ap (λ (y : Edge). y.joins) (stays_new j apart none)
+
+        by_place : (j ≡ op.node) ⊎ (j ≢ op.node) → (edge_at new j).joins ≡ (edge_at old j).joins
+        by_place (inl same) = subst (λ (k : ℕ). (edge_at new k).joins ≡ (edge_at old k).joins) (sym same) (ap (λ (y : Edge). y.joins) own_new)
+        by_place (inr apart) = by_read apart (reads_or_not d.belongs.stands.node j)
+
     input_new : (j : ℕ) (left : Bool) → IsReader d.belongs.stands.node left j
-        → (number_at new j ≡ number_at old j) × IsEdge x.nodes x.header (x.events ++ step op.node ∷ []) j (held_at new j)
+        → (number_at new j ≡ number_at old j) × IsJoinedEdge x.nodes x.header (x.events ++ step op.node ∷ []) (edge_at new j).joins j (held_at new j)
     input_new j left reads =
         let side : IsOperand op.kind left j =
         subst (λ k. IsOperand k left j) (sym (kind_is d)) (reads_side d.belongs.stands.node left j reads) in
@@ -170,10 +199,11 @@ module _ {x : Situation} {op : Operator} {old : Held} (d : IsDue x op old) {begu
         let looks : looks_by op.kind left ≡ reach_back d.belongs.stands.node left =
         ap (λ k. looks_by k left) (kind_is d) ∙ looks_is d.belongs.stands.node left j reads (own_reach_small d.belongs) in (
           dropped_number (lets_new j left side) ∙ read.number,
-          edge_later d.belongs j left reads x.front d.allowed (held_at new j) d.low
+          subst (λ (t : Bool). IsJoinedEdge x.nodes x.header (x.events ++ step op.node ∷ []) t j (held_at new j)) (sym (input_joins j left reads))
+              (edge_later d.belongs j left reads x.front d.allowed (held_at new j) d.low
               (let_go_is (x.front +ℤ looks_by op.kind left) (edge_at a.mid j) (edge_at new j) (lets_new j left side)
               ∙ ap (λ (l : List Verdict). beyond (whole (x.front +ℤ looks_by op.kind left)) l) read.held
-              ∙ ap (λ (z : ℤ). beyond (whole (x.front +ℤ z)) (held_at old j)) looks),
+              ∙ ap (λ (z : ℤ). beyond (whole (x.front +ℤ z)) (held_at old j)) looks)),
         )
 
     -- what was put can be counted
@@ -206,9 +236,8 @@ module _ {x : Situation} {op : Operator} {old : Held} (d : IsDue x op old) {begu
       inputs = λ j n left at reads.
           let same : n ≡ d.belongs.stands.node = (let p = d.belongs.stands.at in cc) in
           input_new j left (subst (λ (m : Node). IsReader m left j) same reads);
-      others = λ j apart none.
-          let no : IsInput op.kind j → ⊥ = λ is. (let q = input_reader d j is in none d.belongs.stands.node q.0 d.belongs.stands.at q.1) in
-          other_new j apart ∙ r.others j no ∙ all_put.others j apart no;
+      others = λ j apart none. stays_new j apart (λ left reads. none d.belongs.stands.node left d.belongs.stands.at reads);
+      joins = joins_new;
       edges = reached-length released new op.node x.front noted ∙ same_count;
       start = ap (λ (y : Held). y.start) noted ∙ r.start ∙ all_put.start;
       spare = let s : new.spare ≡ released.spare = ap (λ (y : Held). y.spare) noted in omega (arith, s, r.spare, all_put.spare);

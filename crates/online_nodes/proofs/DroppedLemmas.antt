@@ -100,6 +100,10 @@ module _ {f : ℤ} {old new : Edge} (dropped : IsDroppedBy f old new) where
   pub dropped_number : new.number ≡ old.number
   dropped_number = ap (λ (x : Edge). x.number) dropped.is
 
+  -- and it joins where it joined
+  pub dropped_joins : new.joins ≡ old.joins
+  dropped_joins = ap (λ (x : Edge). x.joins) dropped.is
+
   -- each dropped verdict ends by the limit
   pub gone_end : (k : ℕ) → k < gone → IfSome (slice_get old.fresh k) (λ v. value v.on.to ≤ʳ whole f)
   gone_end k l =

@@ -41,16 +41,16 @@ held_of-without n x = sym (drop-both n x.seen x.fresh)
 pub without-none : (x : Edge) → without 0 x ≡ x
 without-none x =
     let none : 0 - length x.seen ≡ 0 = omega arith in
-    ap (λ k. record { seen = x.seen; fresh = drop k x.fresh; number = x.number }) none
+    ap (λ k. record { seen = x.seen; fresh = drop k x.fresh; number = x.number; joins = x.joins }) none
 
 -- one verdict more is dropped
 pub without-one_more : (n : ℕ) (x : Edge) → without 1 (without n x) ≡ without (n + 1) x
 without-one_more n x =
     let count : (n - length x.seen) + (1 - length (drop n x.seen)) ≡ n + 1 - length x.seen = omega (arith, length-drop n x.seen)
     in
-    ap (λ s. record { seen = s; fresh = drop (1 - length (drop n x.seen)) (drop (n - length x.seen) x.fresh); number = x.number })
+    ap (λ s. record { seen = s; fresh = drop (1 - length (drop n x.seen)) (drop (n - length x.seen) x.fresh); number = x.number; joins = x.joins })
     (drop-drop 1 n x.seen)
-    ∙ ap (λ f. record { seen = drop (n + 1) x.seen; fresh = f; number = x.number })
+    ∙ ap (λ f. record { seen = drop (n + 1) x.seen; fresh = f; number = x.number; joins = x.joins })
     (drop-drop (1 - length (drop n x.seen)) (n - length x.seen) x.fresh ∙ ap (λ k. drop k x.fresh) count)
 
 -- some verdicts are gone from the front, and each of them ends by the limit

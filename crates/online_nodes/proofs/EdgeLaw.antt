@@ -135,24 +135,24 @@ module _ (nodes : List Node) (header : Header) (formed : AreWellFormed nodes) wh
   end_stays s _ may c = refl
 
   -- what is held for a reader of the node, in two states, by the fronts that are shown
-  abbrev Holds : State → ℕ → ℕ → ℤ → List Verdict → List Verdict → Type 0
+  abbrev pub Holds : State → ℕ → ℕ → ℤ → List Verdict → List Verdict → Type 0
   Holds s j reader k vs held = AreNeeded (first_time s.rows) (shown s j) (s.fronts reader) k vs held
 
   -- a node that reads another on this side, and does not step at the event
-  record IsStill (s : State) (e : Event) (j reader : ℕ) (n : Node) (left : Bool) : Type 0 where
+  pub record IsStill (s : State) (e : Event) (j reader : ℕ) (n : Node) (left : Bool) : Type 0 where
     -- the node that is read is one of the list
-    input : j < length nodes
+    pub input : j < length nodes
     -- and the one that reads it
-    within : reader < length nodes
+    pub within : reader < length nodes
     -- that is this node
-    at : slice_get nodes reader ≡ Some n
+    pub at : slice_get nodes reader ≡ Some n
     -- it reads the other on this side
-    reads : IsReader n left j
+    pub reads : IsReader n left j
     -- its number stays
-    same : (after_event nodes s e).fronts reader ≡ s.fronts reader
+    pub same : (after_event nodes s e).fronts reader ≡ s.fronts reader
 
   -- an edge holds what its reader needs, with what its node gave out at one event more
-  holds_more : {s : State} {j reader : ℕ} {n : Node} {left : Bool} (e : Event) → IsStill s e j reader n left
+  pub holds_more : {s : State} {j reader : ℕ} {n : Node} {left : Bool} (e : Event) → IsStill s e j reader n left
       → MayCome nodes header s e → IsSound nodes header order s → (vs here held : List Verdict) → IsWhole (first_time s.rows) (shown s j) vs
       → EmittedAt nodes header j s (after_event nodes s e) here → Holds s j reader (reach_back n left) vs held
       → Holds (after_event nodes s e) j reader (reach_back n left) (vs ++ here) (held ++ here)
@@ -331,18 +331,6 @@ module _ (nodes : List Node) (header : Header) (formed : AreWellFormed nodes) wh
       by_front (Some f) x =
           let b = sound.bounded j f l x in
           ap (from (first_time s.rows)) (sym same) ∙ ap (λ k. from k (s'.fronts j)) (sym (first_same nodes header order s e b.last b.is_last))
-
-  -- an edge whose node and whose reader stay
-  pub edge_stays : (events : List Event) (e : Event) → IsRun nodes header events → MayCome nodes header (state nodes events) e
-      → (j : ℕ) → j < length nodes → (held : List Verdict) → (edge : IsEdge nodes header events j held) → edge.reader < length nodes
-      → (after_event nodes (state nodes events) e).fronts edge.reader ≡ (state nodes events).fronts edge.reader
-      → (after_event nodes (state nodes events) e).fronts j ≡ (state nodes events).fronts j
-      → IsEdge nodes header (events ++ e ∷ []) j held
-  edge_stays events e run may j l held edge rl same stays =
-      subst (λ h. IsEdge nodes header (events ++ e ∷ []) j h) (append-nil held)
-      (edge_grows events e run may j l held [] edge rl same
-      (nothing_given nodes header j (state nodes events) (after_event nodes (state nodes events) e)
-      (shown_stays (state nodes events) e (sound_of nodes header order events run) j l stays)))
 
   -- the root's edge, once the root gave out more
   pub root_grows : (events : List Event) (e : Event) → e ≢ take → (held here : List Verdict) → IsRootEdge nodes header events held

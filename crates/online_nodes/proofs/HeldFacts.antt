@@ -14,10 +14,10 @@ use Rattle.stl_syntax.specs.declared.node.Node.{Node}
 use Rattle.stl_syntax.proofs.RowsLemmas.{rows-push}
 use Rattle.online_nodes.specs.Network.{Event, Front, State, row, after_event, initial, last_row, needed}
 use Rattle.online_nodes.specs.Network.{reach_back, shown, state, state_from, IsRun, IsRunFrom, MayCome}
-use Rattle.online_nodes.specs.Needed.{AreMeeting, AreNeeded, IsEdge, IsReader}
+use Rattle.online_nodes.specs.Needed.{AreMeeting, AreNeeded, IsJoinedEdge, IsReader}
 use Rattle.rational.specs.Places.{Place, AtMost}
 use Rattle.rational.proofs.Tests.{int_order}
-use Rattle.online_nodes.specs.Held.{Held, held_at}
+use Rattle.online_nodes.specs.Held.{Held, edge_at, held_at}
 use Rattle.online_nodes.specs.Laws.{answered_to, beyond, AreTiles, AreTold, IsWhole}
 use Rattle.online_nodes.specs.Operators.{place_of}
 use Rattle.online_nodes.specs.Belonging.{trace_of, Belongs}
@@ -31,6 +31,7 @@ use Rattle.online_nodes.proofs.ReaderLemmas.{child_all, one_reader, one_side}
 use Rattle.online_nodes.proofs.RisingLaw.{children_before}
 use Rattle.online_nodes.proofs.RunLaw.{none_is_none}
 use Rattle.online_nodes.proofs.StayLaw.{emitted_stays, shown_is}
+use Rattle.online_nodes.proofs.Stretches.{stand_stretches, stretches_told, stretches_whole}
 
 -- the rows of a run are those of a trace, once one came
 AreRowsSoFar : ℕ → List Row → Type 0
@@ -112,7 +113,7 @@ place_at_start start = record { at = whole (pos start); after = false }
 
 module _ {nodes : List Node} {header : Header} {events : List Event} {op : Operator} {e : Held} {now : ℕ} {ended : Bool}
     (b : Belongs nodes header events op e now ended) (j : ℕ) (left : Bool) (reads : IsReader b.stands.node left j) where
-  abbrev pub edge : IsEdge nodes header events j (held_at e j)
+  abbrev pub edge : IsJoinedEdge nodes header events (edge_at e j).joins j (held_at e j)
   edge = (b.inputs j b.stands.node left b.stands.at reads).1
 
   -- the edge's reader is the operator's node
@@ -133,14 +134,14 @@ module _ {nodes : List Node} {header : Header} {events : List Event} {op : Opera
 
   -- the edge of an input holds what its reader may need
   pub needs : AreNeeded (first_time (state nodes events).rows) (shown (state nodes events) j) ((state nodes events).fronts op.node)
-      (reach_back b.stands.node left) edge.emitted (held_at e j)
+      (reach_back b.stands.node left) edge.stretches (held_at e j)
   needs =
       subst (λ (i : ℕ). AreNeeded (first_time (state nodes events).rows) (shown (state nodes events) j) ((state nodes events).fronts i)
-      (reach_back b.stands.node left) edge.emitted (held_at e j)) reader_is
+      (reach_back b.stands.node left) edge.stretches (held_at e j)) reader_is
       (subst (λ (n : Node). AreNeeded (first_time (state nodes events).rows) (shown (state nodes events) j) ((state nodes events).fronts edge.reader)
-      (reach_back n left) edge.emitted (held_at e j)) same_node
+      (reach_back n left) edge.stretches (held_at e j)) same_node
       (subst (λ (t : Bool). AreNeeded (first_time (state nodes events).rows) (shown (state nodes events) j) ((state nodes events).fronts edge.reader)
-      (reach_back edge.reading t) edge.emitted (held_at e j)) left_is edge.is_needed))
+      (reach_back edge.reading t) edge.stretches (held_at e j)) left_is edge.is_needed))
 
   -- the input of such a reader is one of the nodes
   pub input_within : j < length nodes
@@ -148,6 +149,12 @@ module _ {nodes : List Node} {header : Header} {events : List Event} {op : Opera
       let low = child_all (λ p. p < op.node) b.stands.node left j reads
       (children_before nodes header b.formed.post_order op.node b.stands.node (own_within b) b.stands.at) in
       let l = own_within b in omega (arith, low, l)
+
+  -- its stretches lead without gap from the start to where the input is answered
+  pub stretches_lead : IsWhole (first_time (state nodes events).rows) (shown (state nodes events) j) edge.stretches
+  stretches_lead = stretches_whole (stand_stretches (edge_at e j).joins edge.stand) (first_time (state nodes events).rows)
+      (shown (state nodes events) j)
+      (emitted_tiles nodes header b.formed.post_order events b.run j input_within edge.emitted edge.is_emitted)
 
   -- what the edge holds leads without gap to the input's front, and each verdict is its truth; before the front is at the start it holds nothing
   pub record IsHeldTo (held : List Verdict) (f : ℤ) : Type 0 where
@@ -170,29 +177,29 @@ module _ {nodes : List Node} {header : Header} {events : List Event} {op : Opera
   pub held_is : ((held_at e j ≡ []) × (shown (state nodes events) j ≡ None)) ⊎ ((f : ℤ) × IsHeldTo (held_at e j) f)
   held_is = by_shown (shown (state nodes events) j) refl needs
     where
-      told : AreTold (subformula nodes j) (trace_of header (state nodes events)) edge.emitted
-      told = emitted_stays nodes header b.formed.post_order events b.run j input_within edge.emitted edge.is_emitted
+      told : AreTold (subformula nodes j) (trace_of header (state nodes events)) edge.stretches
+      told = stretches_told (subformula nodes j) (trace_of header (state nodes events)) (stand_stretches (edge_at e j).joins edge.stand)
+          (emitted_stays nodes header b.formed.post_order events b.run j input_within edge.emitted edge.is_emitted
           (trace_of header (state nodes events)) (run_is_trace nodes header events (pos now) b.run b.last)
-          (goes_on_itself header (state nodes events))
+          (goes_on_itself header (state nodes events)))
 
       by_shown : (o : Front) → shown (state nodes events) j ≡ o
-          → AreNeeded (first_time (state nodes events).rows) o ((state nodes events).fronts op.node) (reach_back b.stands.node left) edge.emitted
+          → AreNeeded (first_time (state nodes events).rows) o ((state nodes events).fronts op.node) (reach_back b.stands.node left) edge.stretches
           (held_at e j)
           → ((held_at e j ≡ []) × (shown (state nodes events) j ≡ None)) ⊎ ((f : ℤ) × IsHeldTo (held_at e j) f)
       by_shown None x h = inl (h, x)
       by_shown (Some f) x h = inr (
         f,
-        by_part (needed_part (first_time (state nodes events).rows) f ((state nodes events).fronts op.node) (reach_back b.stands.node left) edge.emitted
+        by_part (needed_part (first_time (state nodes events).rows) f ((state nodes events).fronts op.node) (reach_back b.stands.node left) edge.stretches
             (held_at e j) whole_list h),
       )
         where
-          whole_list : AreTiles (answered_to (first_time (state nodes events).rows) None) edge.emitted
+          whole_list : AreTiles (answered_to (first_time (state nodes events).rows) None) edge.stretches
               (answered_to (first_time (state nodes events).rows) (Some f))
-          whole_list = subst (λ (o : Front). IsWhole (first_time (state nodes events).rows) o edge.emitted) x
-              (emitted_tiles nodes header b.formed.post_order events b.run j input_within edge.emitted edge.is_emitted)
+          whole_list = subst (λ (o : Front). IsWhole (first_time (state nodes events).rows) o edge.stretches) x stretches_lead
 
-          by_part : (held_at e j ≡ edge.emitted) ⊎ ((g : ℤ) × ((state nodes events).fronts op.node ≡ Some g)
-              × (pos (first_time (state nodes events).rows) ≤ℤ g) × (held_at e j ≡ beyond (whole (g +ℤ reach_back b.stands.node left)) edge.emitted))
+          by_part : (held_at e j ≡ edge.stretches) ⊎ ((g : ℤ) × ((state nodes events).fronts op.node ≡ Some g)
+              × (pos (first_time (state nodes events).rows) ≤ℤ g) × (held_at e j ≡ beyond (whole (g +ℤ reach_back b.stands.node left)) edge.stretches))
               → IsHeldTo (held_at e j) f
           by_part (inl same) = record {
             front = (shown_is nodes header b.formed.post_order (state nodes events) j f x).0;
@@ -205,7 +212,7 @@ module _ {nodes : List Node} {header : Header} {events : List Event} {op : Opera
           }
           by_part (inr (g, at, from, same)) =
               let lo : Rational = whole (g +ℤ reach_back b.stands.node left) in
-              let left_part = tiles_beyond lo (place_at_start (first_time (state nodes events).rows)) edge.emitted (place_of (Some f)) whole_list in
+              let left_part = tiles_beyond lo (place_at_start (first_time (state nodes events).rows)) edge.stretches (place_of (Some f)) whole_list in
               record {
                 front = (shown_is nodes header b.formed.post_order (state nodes events) j f x).0;
                 shown = x;
@@ -214,5 +221,5 @@ module _ {nodes : List Node} {header : Header} {events : List Event} {op : Opera
                 tiles = subst (λ l. AreTiles left_part.0 l (place_of (Some f))) (sym same) left_part.1;
                 from = left_part.2;
                 told = subst (λ l. AreTold (subformula nodes j) (trace_of header (state nodes events)) l) (sym same)
-                    (told_beyond (subformula nodes j) (trace_of header (state nodes events)) lo edge.emitted told);
+                    (told_beyond (subformula nodes j) (trace_of header (state nodes events)) lo edge.stretches told);
               }

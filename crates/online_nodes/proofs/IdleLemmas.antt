@@ -1,7 +1,8 @@
 -- A step that gives out nothing: of a node that is not ready, and one to a number below the start.
-use Rattle.std.proofs.Common.{◌≡◌, ◌≢◌, refl, sym, ap, subst, ◌∙◌, ℕ, ◌≤◌, Bool, true, false, Option}
+use Rattle.std.proofs.Common.{◌≡◌, ◌≢◌, ◌⊎◌, inl, inr, refl, sym, ap, subst, ◌∙◌, ℕ, ◌≤◌, Bool, true, false, Option}
 use Rattle.std.proofs.Common.{Some, None, List, [], ◌∷◌, ◌++◌, ℤ, pos, ◌<ℤ◌, arith}
 use Rattle.std.specs.Prelude.{◌&&◌, not, option_map, slice_get, IfSome}
+use Rattle.std.proofs.lemmas.Bool.{cases_eq}
 use Rattle.std.proofs.lemmas.Int.{ints}
 use Rattle.std.proofs.lemmas.List.{append-nil}
 use Rattle.std.proofs.lemmas.Option.{same_Some}
@@ -10,7 +11,7 @@ use Rattle.stl_syntax.specs.Trace.{Header, first_time}
 use Rattle.stl_syntax.specs.declared.node.Node.{Node}
 use Rattle.online_nodes.specs.Network.{Event, step, Front, State, EmittedAt, after_event, allowed_at, node_is_atom, reach_back}
 use Rattle.online_nodes.specs.Network.{same_front, shown, state}
-use Rattle.online_nodes.specs.Needed.{AreNeeded, IsEdge, IsReader}
+use Rattle.online_nodes.specs.Needed.{AreNeeded, IsJoinedEdge, IsReader}
 use Rattle.online_nodes.specs.Belonging.{Belongs, HasStepped, StandsForSteps, is_ready, room_of_step, trace_of}
 use Rattle.frac128.specs.Cuts.{place}
 use Rattle.online_nodes.specs.Stepping.{Situation, IsDue}
@@ -55,14 +56,15 @@ module _ {nodes : List Node} {header : Header} {events : List Event} {op : Opera
     idle_shown = subst (λ (o : Front). shown (state nodes events) op.node
         ≡ shown (record { rows = (state nodes events).rows; closed = (state nodes events).closed; fronts = λ k. o }) op.node) (sym idle_front) refl
 
-    idle_edge : (j : ℕ) (left : Bool) → IsReader b.stands.node left j → IsEdge nodes header (events ++ step op.node ∷ []) j (held_at e j)
+    idle_edge : (j : ℕ) (left : Bool) → IsReader b.stands.node left j
+        → IsJoinedEdge nodes header (events ++ step op.node ∷ []) (edge_at e j).joins j (held_at e j)
     idle_edge j left r =
         edge_of b j left r (held_at e j)
         (subst (λ (o : Front). AreNeeded (first_time (state nodes events).rows)
-        (shown (after_event nodes (state nodes events) (step op.node)) j) o (reach_back b.stands.node left) (edge b j left r).emitted
+        (shown (after_event nodes (state nodes events) (step op.node)) j) o (reach_back b.stands.node left) (edge b j left r).stretches
         (held_at e j)) (sym idle_front)
         (subst (λ (o : Front). AreNeeded (first_time (state nodes events).rows) o ((state nodes events).fronts op.node)
-        (reach_back b.stands.node left) (edge b j left r).emitted (held_at e j)) (others_after b j (input_apart b j left r)) (needs b j left r)))
+        (reach_back b.stands.node left) (edge b j left r).stretches (held_at e j)) (others_after b j (input_apart b j left r)) (needs b j left r)))
 
     -- a step of a node that is not ready leaves all edges
     pub idle_stepped : HasStepped nodes header events op.node e e
@@ -76,6 +78,7 @@ module _ {nodes : List Node} {header : Header} {events : List Event} {op : Opera
       number = b.number ∙ sym idle_number;
       inputs = λ j n left at r. (refl, idle_edge j left (subst (λ (m : Node). IsReader m left j) (reader_here n at) r));
       others = λ j apart none. refl;
+      joins = λ j. refl;
       edges = refl;
       start = refl;
       spare = omega arith;
@@ -116,12 +119,20 @@ module _ {nodes : List Node} {header : Header} {events : List Event} {op : Opera
     low_other j apart = reached-other e new op.node f j apart noted
 
     low_input : (j : ℕ) (left : Bool) → IsReader b.stands.node left j
-        → (number_at new j ≡ number_at e j) × IsEdge nodes header (events ++ step op.node ∷ []) j (held_at new j)
+        → (number_at new j ≡ number_at e j) × IsJoinedEdge nodes header (events ++ step op.node ∷ []) (edge_at new j).joins j (held_at new j)
     low_input j left r =
         let same : edge_at new j ≡ edge_at e j = low_other j (input_apart b j left r) in (
           ap (λ (y : Edge). y.number) same,
-          subst (λ (y : Edge). IsEdge nodes header (events ++ step op.node ∷ []) j (held_of y)) (sym same) (edge_low b j left r f allowed low),
+          subst (λ (y : Edge). IsJoinedEdge nodes header (events ++ step op.node ∷ []) y.joins j (held_of y)) (sym same)
+              (edge_low b j left r f allowed low),
         )
+
+    low_joins : (j : ℕ) → (edge_at new j).joins ≡ (edge_at e j).joins
+    low_joins j = by_place (cases_eq j op.node)
+      where
+        by_place : (j ≡ op.node) ⊎ (j ≢ op.node) → (edge_at new j).joins ≡ (edge_at e j).joins
+        by_place (inl same) = subst (λ (k : ℕ). (edge_at new k).joins ≡ (edge_at e k).joins) (sym same) (ap (λ (y : Edge). y.joins) low_edge)
+        by_place (inr apart) = ap (λ (y : Edge). y.joins) (low_other j apart)
 
     -- a step to a number before the start puts nothing
     pub low_stepped : HasStepped nodes header events op.node e new
@@ -134,6 +145,7 @@ module _ {nodes : List Node} {header : Header} {events : List Event} {op : Opera
       number = ap (λ (y : Edge). y.number) low_edge ∙ sym allowed;
       inputs = λ j n left at r. low_input j left (subst (λ (m : Node). IsReader m left j) (reader_here n at) r);
       others = λ j apart none. low_other j apart;
+      joins = low_joins;
       edges = reached-length e new op.node f noted;
       start = ap (λ (y : Held). y.start) noted;
       spare = (let s : new.spare ≡ e.spare = ap (λ (y : Held). y.spare) noted in omega (arith, s));

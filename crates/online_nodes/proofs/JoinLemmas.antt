@@ -19,7 +19,7 @@ use Rattle.frac128.specs.declared.cut.Cut.{Cut}
 use Rattle.online_nodes.specs.declared.join.Join.{Join}
 use Rattle.online_nodes.specs.declared.join.Inputs.{Inputs}
 use Rattle.online_nodes.specs.declared.writer.Out.{Out}
-use Rattle.rational.proofs.PlaceLemmas.{between, same_places, upto_same, after_at_most, not_before_itself}
+use Rattle.rational.proofs.PlaceLemmas.{same_places, upto_same, after_at_most, not_before_itself}
 use Rattle.online_nodes.proofs.GotLemmas.{got-other}
 use Rattle.online_nodes.proofs.SaidLemmas.{passed-fresh, passed-one}
 use Rattle.online_nodes.proofs.WorkLemmas.{passed-other, first_and_rest, worked_none, worked_pass, worked_put, worked_both}

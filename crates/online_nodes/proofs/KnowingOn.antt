@@ -16,7 +16,7 @@ use Rattle.online_nodes.specs.declared.since.Since.{Since as SinceWindow}
 use Rattle.online_nodes.specs.declared.until.Until.{Until as UntilWindow}
 use Rattle.online_nodes.proofs.SweptLemmas.{before_trace}
 use Rattle.rational.proofs.PlaceLemmas.{sides, not_both, same_places, upto_same, after_same}
-use Rattle.rational.proofs.PlaceLemmas.{before_of_at_most, upto_earlier}
+use Rattle.rational.proofs.PlaceLemmas.{before_at_most, before_of_at_most, upto_earlier}
 
 -- two truths are one up to a place, from a time on
 abbrev pub Agrees : Rational → Place → Truths → Truths → Type 0
@@ -25,6 +25,10 @@ Agrees begin stop P Q = (u : Rational) → begin ≤ʳ u → Upto stop u → (P 
 -- at all times up to a place
 abbrev pub AgreesUpto : Place → Truths → Truths → Type 0
 AgreesUpto stop P Q = (u : Rational) → Upto stop u → (P u → Q u) × (Q u → P u)
+
+-- the verdict ends no earlier than the first of some others
+abbrev pub EndsLater : List Verdict → Verdict → Type 0
+EndsLater fresh v = (y : Verdict) × (slice_get fresh 0 ≡ Some y) × AtMost (ends (interval y.on)) (ends (interval v.on))
 
 -- an input that was read up to a place and is answered up to another, once it is answered further: it was read up to where it was, but
 -- for times before the start
@@ -87,7 +91,7 @@ module _ (p q : Subformula) (tr tr' : Trace) (u : UntilWindow) (at reach : Place
   pub until_on : {left right stop left' right' stop' : Place} {fresh fresh' : List Verdict} → Same left left' → Same right right'
       → AtMost stop stop' → ((t : Rational) → After at t → start tr ≤ʳ t)
       → Agrees (start tr) stop (Truth p tr) (Truth p tr') → AgreesUpto stop (Counted true q tr) (Counted true q tr')
-      → ((v : Verdict) → slice_get fresh' 0 ≡ Some v → (slice_get fresh 0 ≡ Some v) ⊎ Before stop (ends (interval v.on)))
+      → ((v : Verdict) → slice_get fresh' 0 ≡ Some v → EndsLater fresh v ⊎ Before stop (ends (interval v.on)))
       → IsUntilKnown p q tr u at reach left right stop fresh → IsUntilKnown p q tr' u at reach left' right' stop' fresh'
   until_on {left} {right} {stop} {left'} {right'} {stop'} {fresh} {fresh'} same_left same_right later begin agrees counted ahead k = record {
     read = k.read;
@@ -124,8 +128,8 @@ module _ (p q : Subformula) (tr tr' : Trace) (u : UntilWindow) (at reach : Place
           (λ w y z. (agrees w (le_trans (begin t a) y) (upto_earlier stop _ _ z x)).1 (all w y z)) x
       by_side t v a r l h holds all (inr x) = k.knows.inside v x
 
-      by_first : (v : Verdict) → (slice_get fresh 0 ≡ Some v) ⊎ Before stop (ends (interval v.on)) → Before k.read (ends (interval v.on))
-      by_first v (inl e) = k.ahead v e
+      by_first : (v : Verdict) → EndsLater fresh v ⊎ Before stop (ends (interval v.on)) → Before k.read (ends (interval v.on))
+      by_first v (inl (y, e, later)) = before_at_most k.read (ends (interval y.on)) (ends (interval v.on)) (k.ahead y e) later
       by_first v (inr b) = before_of_at_most k.read stop (ends (interval v.on)) inside b
 
 module _ (p q : Subformula) (tr tr' : Trace) (s : SinceWindow) (at run reach : Place) where
@@ -133,7 +137,7 @@ module _ (p q : Subformula) (tr tr' : Trace) (s : SinceWindow) (at run reach : P
   pub since_on : {left right stop_left stop_right left' right' stop_left' stop_right' : Place} {fresh fresh' : List Verdict} → start tr' ≡ start tr
       → Same left left' → AtMost stop_left stop_left' → AtMost at stop_left → ReadsOn (start tr) right stop_right right' stop_right'
       → Agrees (start tr) stop_left (Truth p tr) (Truth p tr') → AgreesUpto stop_right (Counted true q tr) (Counted true q tr')
-      → ((v : Verdict) → slice_get fresh' 0 ≡ Some v → (slice_get fresh 0 ≡ Some v) ⊎ Before at (ends (interval v.on)))
+      → ((v : Verdict) → slice_get fresh' 0 ≡ Some v → EndsLater fresh v ⊎ Before at (ends (interval v.on)))
       → IsSinceKnown p q tr s at run reach left right stop_left stop_right fresh
       → IsSinceKnown p q tr' s at run reach left' right' stop_left' stop_right' fresh'
   since_on {left} {right} {stop_left} {stop_right} {left'} {right'} {stop_left'} {stop_right'} {fresh} {fresh'} e same later short on agrees counted
@@ -184,6 +188,6 @@ module _ (p q : Subformula) (tr tr' : Trace) (s : SinceWindow) (at run reach : P
           let h = k.knows.ahead u x y ((counted u (on.within u y)).1 holds) v z w in
           ((agrees v (from_run v (k.knows.order v z)) h.1).0 h.0, later v h.1)
 
-      by_first : (v : Verdict) → (slice_get fresh 0 ≡ Some v) ⊎ Before at (ends (interval v.on)) → Before k.read (ends (interval v.on))
-      by_first v (inl x) = k.ahead v x
+      by_first : (v : Verdict) → EndsLater fresh v ⊎ Before at (ends (interval v.on)) → Before k.read (ends (interval v.on))
+      by_first v (inl (y, e, later)) = before_at_most k.read (ends (interval y.on)) (ends (interval v.on)) (k.ahead y e) later
       by_first v (inr b) = before_of_at_most k.read at (ends (interval v.on)) k.behind b

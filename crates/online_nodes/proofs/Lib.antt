@@ -40,6 +40,8 @@ pub mod RisingLaw
 pub mod EmittedLaw
 pub mod MeetingLaw
 pub mod EdgeLaw
+pub mod Stretches
+pub mod StretchLaw
 mod StillLaw
 pub mod ReadersLaw
 mod KnowingOn

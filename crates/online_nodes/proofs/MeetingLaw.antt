@@ -38,7 +38,8 @@ one_meeting stretch (v ∷ vs) held others (inr (d, rest)) (inr (d', rest')) = o
 abbrev MeetsAlike : Interval → Interval → Verdict → Type 0
 MeetsAlike a b v = (Meets a v → Meets b v) × (Meets b v → Meets a v)
 
-all_meeting : (stretch : Interval) (here : List Verdict) → Each (Meets stretch) here → AreMeeting stretch here here
+-- where each of some meets a stretch, all of them do
+pub all_meeting : (stretch : Interval) (here : List Verdict) → Each (Meets stretch) here → AreMeeting stretch here here
 all_meeting stretch [] h = refl
 all_meeting stretch (v ∷ here) (m, rest) = inl (m, (here, all_meeting stretch here rest, refl))
 

@@ -1,12 +1,16 @@
 -- How a change of one queue shows in the edges that a caller sees.
 use Rattle.std.proofs.Common.{◌≡◌, ◌≢◌, ◌⊎◌, ℕ, zero, suc, ◌+◌, ◌<◌, ◌≤◌, List, [], ◌∷◌, ◌++◌, get_or, set, map, length, sym, ap, subst, ◌∙◌, inl, inr, arith}
+use Rattle.std.proofs.Common.{Bool, true, Option, ℤ, refl, take, drop, append_assoc, Result, Ok, Err}
+use Rattle.std.specs.Prelude.{OnOk}
 use Rattle.std.specs.List.{All}
 use Rattle.std.proofs.lemmas.Bool.{cases_eq}
-use Rattle.std.proofs.lemmas.List.{get_or-map, get_or-set_same, get_or-set_other, length-map, map-set}
+use Rattle.std.proofs.lemmas.List.{get_or-map, get_or-set_same, get_or-set_other, length-map, length-set, length-take, map-set}
+use Rattle.std.proofs.lemmas.List.{drop-append-le, get_or_read, take-set-le, take_all, take_more, take_more_set}
 use Rattle.std.proofs.lemmas.List.Elements.{All-append, All-set, All-get_or}
 use Rattle.std.proofs.Math.Seq.{map-set_same}
 use Rattle.online_nodes.specs.declared.queue.Queue.{Queue}
-use Rattle.online_nodes.specs.Held.{Edge, no_edge}
+use Rattle.stl_syntax.specs.declared.items.Verdict.{Verdict}
+use Rattle.online_nodes.specs.Held.{AreStretches, Edge, HasMore, IsJoined, Stand, as_given, joined, no_edge}
 use Rattle.online_nodes.specs.Queues.{edge_of, IsQueue}
 
 -- one queue more, behind the others
@@ -56,3 +60,40 @@ room_on qs i room next within here before k d below = by_place (cases_eq k i)
     by_place (inl same) = subst (IsQueue room)
         (sym (ap (λ m. get_or (set qs i next) m d) same ∙ get_or-set_same qs i next d within)) here
     by_place (inr other) = subst (IsQueue room) (sym (get_or-set_other qs i k next d other)) (before k d (omega (arith, below, other)))
+
+-- verdicts of which some were read, the last one lengthened by one that goes on from it
+pub lengthened : (xs : List Verdict) (read n : ℕ) (v w u : Verdict) (number : Option ℤ) (b : Bool) → b ≡ true → read ≤ n → n + 1 ≡ length xs
+    → v ≡ get_or xs n v → IsJoined v w u
+    → HasMore (record { seen = take read xs; fresh = drop read xs; number = number; joins = b })
+    (record { seen = take read (set xs n u); fresh = drop read (set xs n u); number = number; joins = b }) (w ∷ [])
+lengthened xs read n v w u number b joins below long here j = record {
+  seen = take-set-le read xs n u below;
+  fresh = subst (λ t. Stand t (drop read xs ++ w ∷ []) (drop read (set xs n u))) (sym joins)
+      (subst (λ l. AreStretches l (drop read xs ++ w ∷ [])) (sym (ap (drop read) new ∙ dropped u))
+      (subst (λ l. AreStretches (drop read front ++ u ∷ []) (l ++ w ∷ [])) (sym (ap (drop read) old ∙ dropped v))
+      (subst (λ l. AreStretches (drop read front ++ u ∷ []) l) (sym (append_assoc (drop read front) (v ∷ []) (w ∷ [])))
+      (joined (drop read front) [] j as_given))));
+  number = refl;
+  joins = refl;
+}
+  where
+    front : List Verdict
+    front = take n xs
+
+    old : xs ≡ front ++ v ∷ []
+    old = sym (take_all (n + 1) xs (omega (arith, long))) ∙ take_more xs n v (omega (arith, long)) ∙ ap (λ x. front ++ x ∷ []) (sym here)
+
+    new : set xs n u ≡ front ++ u ∷ []
+    new = sym (take_all (n + 1) (set xs n u) (omega (arith, long, length-set xs n u))) ∙ take_more_set xs n u (omega (arith, long))
+
+    dropped : (x : Verdict) → drop read (front ++ x ∷ []) ≡ drop read front ++ x ∷ []
+    dropped x = drop-append-le read front (x ∷ []) (omega (arith, below, long, length-take n xs))
+
+-- two that stand at one place are one
+pub one_item : (xs : List Verdict) (n : ℕ) (x y : Verdict) → n < length xs → x ≡ get_or xs n x → y ≡ get_or xs n y → x ≡ y
+one_item xs n x y within first second = get_or_read xs n x within first y ∙ sym second
+
+-- what follows where a result is good
+pub on_ok : {T E A B : Type 0} (r : Result T E) → (A → B) → OnOk r A → OnOk r B
+on_ok (Ok x) f h = f h
+on_ok (Err e) f h = tt

@@ -16,7 +16,7 @@ use Rattle.stl_syntax.specs.declared.items.Verdict.{Verdict}
 use Rattle.stl_syntax.specs.declared.node.Node.{Node}
 use Rattle.online_nodes.specs.Network.{Event, step, Front, State, shown, last_row, allowed_at, after_event, state, reach_back}
 use Rattle.online_nodes.specs.Network.{IsRun}
-use Rattle.online_nodes.specs.Needed.{IsReader, IsEdge, AreNeeded}
+use Rattle.online_nodes.specs.Needed.{IsReader, IsJoinedEdge, AreNeeded}
 use Rattle.online_nodes.specs.Laws.{AreTiles, IsWhole, NeverLess, answered_to, beyond}
 use Rattle.rational.specs.Places.{AtMost, Place, begins}
 use Rattle.online_nodes.specs.Held.{Held, edge_at, fresh_at, held_at, number_at}
@@ -26,9 +26,9 @@ use Rattle.online_nodes.specs.Belonging.{Belongs, trace_of}
 use Rattle.online_nodes.specs.declared.operator.Operator.{Operator}
 use Rattle.online_nodes.proofs.BelongLemmas.{no_atom_here, own_within}
 use Rattle.online_nodes.proofs.EdgeLaw.{after_one, run_more, step_leaves, not_shown}
-use Rattle.online_nodes.proofs.EmittedLaw.{emitted_tiles, front_shown}
+use Rattle.online_nodes.proofs.EmittedLaw.{front_shown}
 use Rattle.online_nodes.proofs.FrameLaw.{other_step}
-use Rattle.online_nodes.proofs.HeldFacts.{edge, held_is, input_within, needed_part, needs}
+use Rattle.online_nodes.proofs.HeldFacts.{edge, held_is, input_within, needed_part, needs, stretches_lead}
 use Rattle.online_nodes.proofs.InputLemmas.{tells_of}
 use Rattle.rational.proofs.PlaceLemmas.{same_places, upto_same}
 use Rattle.online_nodes.proofs.ReaderLemmas.{child_all}
@@ -110,7 +110,7 @@ module _ {nodes : List Node} {header : Header} {events : List Event} {op : Opera
     pub input_apart : j ≢ op.node
     input_apart same = absurd (omega (arith, input_below, same))
 
-    abbrev held_edge : IsEdge nodes header events j (held_at e j)
+    abbrev held_edge : IsJoinedEdge nodes header events (edge_at e j).joins j (held_at e j)
     held_edge = edge b j left r
 
     -- an input's edge notes the input's number
@@ -141,13 +141,10 @@ module _ {nodes : List Node} {header : Header} {events : List Event} {op : Opera
     -- before the node's first answer it was read no further than to the start
     pub read_first : op.front ≡ None
         → AtMost (read_upto e j) (record { at = whole (pos (first_time (state nodes events).rows)); after = false })
-    read_first none = by_front (shown (state nodes events) j) refl lead (needs b j left r)
+    read_first none = by_front (shown (state nodes events) j) refl (stretches_lead b j left r) (needs b j left r)
       where
         S : ℕ
         S = first_time (state nodes events).rows
-
-        lead : IsWhole S (shown (state nodes events) j) held_edge.emitted
-        lead = emitted_tiles nodes header b.formed.post_order events b.run j (input_within b j left r) held_edge.emitted held_edge.is_emitted
 
         unread : (edge_at e j).seen ≡ []
         unread = b.stands.unread none j left r
@@ -158,18 +155,18 @@ module _ {nodes : List Node} {header : Header} {events : List Event} {op : Opera
         hidden : shown (state nodes events) op.node ≡ None
         hidden = b.stands.front ∙ ap (option_map pos) none
 
-        by_front : (o : Front) → shown (state nodes events) j ≡ o → IsWhole S o held_edge.emitted
-            → AreNeeded S o ((state nodes events).fronts op.node) (reach_back b.stands.node left) held_edge.emitted (held_at e j)
+        by_front : (o : Front) → shown (state nodes events) j ≡ o → IsWhole S o held_edge.stretches
+            → AreNeeded S o ((state nodes events).fronts op.node) (reach_back b.stands.node left) held_edge.stretches (held_at e j)
             → AtMost (read_upto e j) (answered_to S None)
         by_front None x w h =
             subst (λ l. AtMost (first_place l (front_place e j)) (answered_to S None)) (sym (fresh_is ∙ h))
             (below_start S (number_at e j) (λ f y. not_shown (state nodes events) j f x (sym number_is ∙ y)))
         by_front (Some f) x w h =
             subst (λ l. AtMost (first_place l (front_place e j)) (answered_to S None)) (sym (fresh_is ∙ all))
-            (by_tiles held_edge.emitted w)
+            (by_tiles held_edge.stretches w)
           where
-            all : held_at e j ≡ held_edge.emitted
-            all = elim (needed_part S f ((state nodes events).fronts op.node) (reach_back b.stands.node left) held_edge.emitted (held_at e j) w h) [
+            all : held_at e j ≡ held_edge.stretches
+            all = elim (needed_part S f ((state nodes events).fronts op.node) (reach_back b.stands.node left) held_edge.stretches (held_at e j) w h) [
               | inl is ↦ is
               | inr part ↦
                   absurd (none_is_none part.0 (sym hidden ∙ front_shown (state nodes events) op.node part.0 part.1 part.2))
@@ -183,8 +180,8 @@ module _ {nodes : List Node} {header : Header} {events : List Event} {op : Opera
     -- what an input's edge holds is what it is to hold after the step
     pub edge_of : (held : List Verdict) → AreNeeded (first_time (state nodes events).rows)
         (shown (after_event nodes (state nodes events) (step op.node)) j)
-        ((after_event nodes (state nodes events) (step op.node)).fronts op.node) (reach_back b.stands.node left) held_edge.emitted held
-        → IsEdge nodes header (events ++ step op.node ∷ []) j held
+        ((after_event nodes (state nodes events) (step op.node)).fronts op.node) (reach_back b.stands.node left) held_edge.stretches held
+        → IsJoinedEdge nodes header (events ++ step op.node ∷ []) (edge_at e j).joins j held
     edge_of held h = record {
       reader = op.node;
       reading = b.stands.node;
@@ -193,8 +190,10 @@ module _ {nodes : List Node} {header : Header} {events : List Event} {op : Opera
       reads = r;
       emitted = held_edge.emitted;
       is_emitted = other_step nodes header events op.node j held_edge.emitted input_apart held_edge.is_emitted;
+      stretches = held_edge.stretches;
+      stand = held_edge.stand;
       is_needed = subst (λ (st : State). AreNeeded (first_time st.rows) (shown st j) (st.fronts op.node) (reach_back b.stands.node left)
-          held_edge.emitted held) (sym with_step) h;
+          held_edge.stretches held) (sym with_step) h;
     }
 
     module _ (f : ℤ) (allowed : allowed_at nodes (state nodes events) op.node ≡ Some f) where
@@ -205,25 +204,22 @@ module _ {nodes : List Node} {header : Header} {events : List Event} {op : Opera
 
       moved_edge : (held : List Verdict)
           → AreNeeded (first_time (state nodes events).rows) (shown (state nodes events) j) (Some f) (reach_back b.stands.node left)
-          held_edge.emitted held → IsEdge nodes header (events ++ step op.node ∷ []) j held
+          held_edge.stretches held → IsJoinedEdge nodes header (events ++ step op.node ∷ []) (edge_at e j).joins j held
       moved_edge held h =
           edge_of held
           (subst (λ (o : Front). AreNeeded (first_time (state nodes events).rows) o ((after_event nodes (state nodes events) (step op.node)).fronts
-          op.node) (reach_back b.stands.node left) held_edge.emitted held) (others_after j input_apart)
+          op.node) (reach_back b.stands.node left) held_edge.stretches held) (others_after j input_apart)
           (subst (λ (o : Front). AreNeeded (first_time (state nodes events).rows) (shown (state nodes events) j) o (reach_back b.stands.node left)
-          held_edge.emitted held) (sym (own_after ∙ allowed)) h))
-
-      whole_list : IsWhole (first_time (state nodes events).rows) (shown (state nodes events) j) held_edge.emitted
-      whole_list =
-          emitted_tiles nodes header b.formed.post_order events b.run j (input_within b j left r) held_edge.emitted held_edge.is_emitted
+          held_edge.stretches held) (sym (own_after ∙ allowed)) h))
 
       -- after a step to a number that is not below the start it needs what ends beyond that number, moved by how far the node looks back
       pub edge_later : (held : List Verdict) → pos (first_time (state nodes events).rows) ≤ℤ f
-          → held ≡ beyond (whole (f +ℤ reach_back b.stands.node left)) (held_at e j) → IsEdge nodes header (events ++ step op.node ∷ []) j held
+          → held ≡ beyond (whole (f +ℤ reach_back b.stands.node left)) (held_at e j)
+          → IsJoinedEdge nodes header (events ++ step op.node ∷ []) (edge_at e j).joins j held
       edge_later held low is =
           moved_edge held
-          (subst (λ l. AreNeeded S (shown (state nodes events) j) (Some f) k held_edge.emitted l) (sym is)
-          (by_front (shown (state nodes events) j) whole_list (needs b j left r)))
+          (subst (λ l. AreNeeded S (shown (state nodes events) j) (Some f) k held_edge.stretches l) (sym is)
+          (by_front (shown (state nodes events) j) (stretches_lead b j left r) (needs b j left r)))
         where
           S : ℕ
           S = first_time (state nodes events).rows
@@ -231,23 +227,24 @@ module _ {nodes : List Node} {header : Header} {events : List Event} {op : Opera
           k : ℤ
           k = reach_back b.stands.node left
 
-          by_front : (o : Front) → IsWhole S o held_edge.emitted
-              → AreNeeded S o ((state nodes events).fronts op.node) k held_edge.emitted (held_at e j)
-              → AreNeeded S o (Some f) k held_edge.emitted (beyond (whole (f +ℤ k)) (held_at e j))
+          by_front : (o : Front) → IsWhole S o held_edge.stretches
+              → AreNeeded S o ((state nodes events).fronts op.node) k held_edge.stretches (held_at e j)
+              → AreNeeded S o (Some f) k held_edge.stretches (beyond (whole (f +ℤ k)) (held_at e j))
           by_front None w h = ap (beyond (whole (f +ℤ k))) h
-          by_front (Some g) w h = needs_later S g ((state nodes events).fronts op.node) f k held_edge.emitted (held_at e j) w low below_new h
+          by_front (Some g) w h = needs_later S g ((state nodes events).fronts op.node) f k held_edge.stretches (held_at e j) w low below_new h
 
       -- below the start all
-      pub edge_low : f <ℤ pos (first_time (state nodes events).rows) → IsEdge nodes header (events ++ step op.node ∷ []) j (held_at e j)
+      pub edge_low : f <ℤ pos (first_time (state nodes events).rows)
+          → IsJoinedEdge nodes header (events ++ step op.node ∷ []) (edge_at e j).joins j (held_at e j)
       edge_low low = moved_edge (held_at e j) (by_front (shown (state nodes events) j) (needs b j left r))
         where
           S : ℕ
           S = first_time (state nodes events).rows
 
           by_front : (o : Front)
-              → AreNeeded S o ((state nodes events).fronts op.node) (reach_back b.stands.node left) held_edge.emitted (held_at e j)
-              → AreNeeded S o (Some f) (reach_back b.stands.node left) held_edge.emitted (held_at e j)
+              → AreNeeded S o ((state nodes events).fronts op.node) (reach_back b.stands.node left) held_edge.stretches (held_at e j)
+              → AreNeeded S o (Some f) (reach_back b.stands.node left) held_edge.stretches (held_at e j)
           by_front None h = h
           by_front (Some g) h =
-              needs_same S g ((state nodes events).fronts op.node) f (reach_back b.stands.node left) held_edge.emitted (held_at e j) low
+              needs_same S g ((state nodes events).fronts op.node) f (reach_back b.stands.node left) held_edge.stretches (held_at e j) low
               (λ j x. let l = below_new j x in omega (arith, ints)) h

@@ -1,5 +1,5 @@
 -- The rows of a run are those of a trace.
-use Rattle.std.proofs.Common.{◌≡◌, refl, sym, ℕ, ◌<◌, Bool, false, Some, None, List, [], ◌∷◌, ◌++◌, length, ℤ, pos, ◌<ℤ◌, arith}
+use Rattle.std.proofs.Common.{◌≡◌, refl, sym, ℕ, Bool, false, Some, None, List, [], ◌∷◌, ◌++◌, length, ℤ, pos, ◌<ℤ◌, arith}
 use Rattle.std.specs.Prelude.{IfSome}
 use Rattle.std.proofs.lemmas.Int.{ints}
 use Rattle.std.proofs.lemmas.List.{append-nil}

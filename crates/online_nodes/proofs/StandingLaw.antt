@@ -19,10 +19,10 @@ use Rattle.stl_syntax.specs.declared.node.Node.TheVariants.{Const, Atom as Leaf,
 use Rattle.stl_syntax.specs.declared.node.Node.TheVariants.{Always, Since, Once, Historically}
 use Rattle.online_nodes.specs.Network.{Event, Front, least, State, last_row, shown, after_event, state, reach_back, needed, EmittedAt, IsRun, MayCome}
 use Rattle.rational.specs.Time.{Interval}
-use Rattle.online_nodes.specs.Needed.{IsReader, AreMeeting, AreNeeded, IsEdge}
+use Rattle.online_nodes.specs.Needed.{IsReader, AreMeeting, AreNeeded, IsJoinedEdge}
 use Rattle.rational.specs.Places.{Place, begins, ends, Upto, AtMost, Before, Same}
 use Rattle.frac128.specs.Cuts.{place}
-use Rattle.online_nodes.specs.Held.{Held, edge_at, fresh_at, number_at}
+use Rattle.online_nodes.specs.Held.{AreStretches, Held, edge_at, fresh_at, number_at}
 use Rattle.online_nodes.specs.Laws.{AreTiles, answered_to, IsWhole, NeverLess}
 use Rattle.online_nodes.specs.Operators.{ahead, behind, kind_of, KnowsBy, place_of, first_place, read_upto, front_place}
 use Rattle.online_nodes.specs.Sweeps.{Counted, low_place, high_place}
@@ -30,7 +30,7 @@ use Rattle.online_nodes.specs.Truths.{Knows}
 use Rattle.online_nodes.specs.declared.window.Window.{Window}
 use Rattle.online_nodes.specs.Belonging.{StandsForSteps, trace_of}
 use Rattle.online_nodes.specs.declared.operator.Operator.{Operator}
-use Rattle.rational.proofs.PlaceLemmas.{same_places, upto_same, upto_of_before, before_of_at_most}
+use Rattle.rational.proofs.PlaceLemmas.{same_places, upto_same, upto_of_before, before_at_most, before_of_at_most}
 use Rattle.rational.proofs.Tests.{int_order}
 use Rattle.online_nodes.proofs.RunLaw.{lesser}
 use Rattle.online_nodes.proofs.RisingLaw.{IsSound, sound_of, event_later, reader_behind, children_before, least_of, least_rises, since_left_behind}
@@ -39,9 +39,10 @@ use Rattle.online_nodes.proofs.EmittedLaw.{Led, here_led, none_before, front_sho
 use Rattle.online_nodes.proofs.MeetingLaw.{Each, tiled_upto}
 use Rattle.online_nodes.proofs.EdgeLaw.{shown_stays, after_one}
 use Rattle.online_nodes.proofs.RowsLaw.{rows_of, rows_after, trace_so_far, goes_on_itself, last_is}
-use Rattle.online_nodes.proofs.KnowingOn.{Agrees, AgreesUpto, ReadsOn, counted_agrees, knows_on, until_on, since_on}
+use Rattle.online_nodes.proofs.KnowingOn.{Agrees, AgreesUpto, EndsLater, ReadsOn, counted_agrees, knows_on, until_on, since_on}
 use Rattle.online_nodes.proofs.PlacesOn.{after_number, later_place, PlacesOn, Leads, places_on}
 use Rattle.online_nodes.proofs.ReaderLemmas.{child_all}
+use Rattle.online_nodes.proofs.Stretches.{stand_stretches, stretches_end, stretches_first, stretches_whole}
 
 module _ (nodes : List Node) (header : Header) (formed : AreWellFormed nodes) where
   abbrev order : IsPostOrder nodes
@@ -55,8 +56,8 @@ module _ (nodes : List Node) (header : Header) (formed : AreWellFormed nodes) wh
     pub number_new : number_at e' j ≡ s'.fronts j
     -- what the node gave out meanwhile
     pub more : List Verdict
-    -- it stands behind what was unread
-    pub fresh : fresh_at e' j ≡ fresh_at e j ++ more
+    -- it stands behind what was unread, or is joined with it
+    pub fresh : AreStretches (fresh_at e' j) (fresh_at e j ++ more)
     -- what was read stays
     pub seen : (edge_at e' j).seen ≡ (edge_at e j).seen
     -- it is what the node gives out
@@ -152,7 +153,7 @@ module _ (nodes : List Node) (header : Header) (formed : AreWellFormed nodes) wh
     reads : ReadsOn (whole (pos (first_time s.rows))) (read_upto e j) (front_place e j) (read_upto e' j) (front_place e' j)
     same : pos (first_time s.rows) ≤ℤ f → Same (read_upto e j) (read_upto e' j)
     first : pos (first_time s.rows) ≤ℤ f → (v : Verdict) → slice_get (fresh_at e' j) 0 ≡ Some v
-        → (slice_get (fresh_at e j) 0 ≡ Some v) ⊎ Before (front_place e j) (ends (interval v.on))
+        → EndsLater (fresh_at e j) v ⊎ Before (front_place e j) (ends (interval v.on))
     agree : Agrees (start (trace_of header s)) (front_place e j) (Truth (subformula nodes j) (trace_of header s))
         (Truth (subformula nodes j) (trace_of header s'))
     counted : (seeks : Bool) → AgreesUpto (front_place e j) (Counted seeks (subformula nodes j) (trace_of header s))
@@ -270,20 +271,24 @@ module _ (nodes : List Node) (header : Header) (formed : AreWellFormed nodes) wh
               (sym number)
               (subst (λ o. ReadsOn (whole (pos (first_time s.rows))) (first_place (fresh_at e j) (after_number b.0)) (after_number b.0)
               (first_place (fresh_at e' j) (place_of o)) (place_of o)) (sym number_new)
-              (subst (λ l. ReadsOn (whole (pos (first_time s.rows))) (first_place (fresh_at e j) (after_number b.0)) (after_number b.0)
-              (first_place l (after_number up.0)) (after_number up.0)) (sym on.fresh) places.reads))
+              (subst (λ c. ReadsOn (whole (pos (first_time s.rows))) (first_place (fresh_at e j) (after_number b.0)) (after_number b.0)
+              c (after_number up.0)) (sym (stretches_first on.fresh (after_number up.0))) places.reads))
 
           moved_same : pos (first_time s.rows) ≤ℤ b.0 → Same (read_upto e j) (read_upto e' j)
           moved_same h =
               subst (λ o. Same (first_place (fresh_at e j) (place_of o)) (read_upto e' j)) (sym number)
               (subst (λ o. Same (first_place (fresh_at e j) (after_number b.0)) (first_place (fresh_at e' j) (place_of o))) (sym number_new)
-              (subst (λ l. Same (first_place (fresh_at e j) (after_number b.0)) (first_place l (after_number up.0))) (sym on.fresh) (places.same h)))
+              (subst (λ c. Same (first_place (fresh_at e j) (after_number b.0)) c) (sym (stretches_first on.fresh (after_number up.0))) (places.same h)))
 
           moved_first : pos (first_time s.rows) ≤ℤ b.0 → (v : Verdict) → slice_get (fresh_at e' j) 0 ≡ Some v
-              → (slice_get (fresh_at e j) 0 ≡ Some v) ⊎ Before (front_place e j) (ends (interval v.on))
+              → EndsLater (fresh_at e j) v ⊎ Before (front_place e j) (ends (interval v.on))
           moved_first h v x =
-              subst (λ o. (slice_get (fresh_at e j) 0 ≡ Some v) ⊎ Before (place_of o) (ends (interval v.on))) (sym number)
-              (places.first h v (subst (λ l. slice_get l 0 ≡ Some v) on.fresh x))
+              let y = stretches_end on.fresh v x in
+              subst (λ o. EndsLater (fresh_at e j) v ⊎ Before (place_of o) (ends (interval v.on))) (sym number)
+              (elim (places.first h y.0 y.1) [
+                | inl z ↦ inl (y.0, z, y.2)
+                | inr z ↦ inr (before_at_most (after_number b.0) (ends (interval y.0.on)) (ends (interval v.on)) z y.2)
+              ])
 
       module _ (low : pos (first_time s.rows) ≤ℤ g) (ins : (left : Bool) (j : ℕ) → IsReader n left j → InputOn s s' e e' j) where
         -- an input that its reader does not look back at stands at least at the start
@@ -371,8 +376,8 @@ module _ (nodes : List Node) (header : Header) (formed : AreWellFormed nodes) wh
             stop_right : AtMost (place_of (least (number_at e p) (number_at e q))) (front_place e q)
             stop_right = place_most (least (number_at e p) (number_at e q)) (number_at e q) m.0 lower.1 least_is lower.3 lower.5
 
-            by_first : (v : Verdict) → (slice_get (fresh_at e p) 0 ≡ Some v) ⊎ Before (front_place e p) (ends (interval v.on))
-                → (slice_get (fresh_at e p) 0 ≡ Some v) ⊎ Before (place_of (least (number_at e p) (number_at e q))) (ends (interval v.on))
+            by_first : (v : Verdict) → EndsLater (fresh_at e p) v ⊎ Before (front_place e p) (ends (interval v.on))
+                → EndsLater (fresh_at e p) v ⊎ Before (place_of (least (number_at e p) (number_at e q))) (ends (interval v.on))
             by_first v (inl z) = inl z
             by_first v (inr z) =
                 inr (before_of_at_most (place_of (least (number_at e p) (number_at e q))) (front_place e p) (ends (interval v.on)) stop_left z)
@@ -408,8 +413,8 @@ module _ (nodes : List Node) (header : Header) (formed : AreWellFormed nodes) wh
             short : AtMost (after_number g) (front_place e p)
             short = place_most (Some g) (number_at e p) g yp.f refl yp.number over
 
-            by_first : (v : Verdict) → (slice_get (fresh_at e p) 0 ≡ Some v) ⊎ Before (front_place e p) (ends (interval v.on))
-                → (slice_get (fresh_at e p) 0 ≡ Some v) ⊎ Before (after_number g) (ends (interval v.on))
+            by_first : (v : Verdict) → EndsLater (fresh_at e p) v ⊎ Before (front_place e p) (ends (interval v.on))
+                → EndsLater (fresh_at e p) v ⊎ Before (after_number g) (ends (interval v.on))
             by_first v (inl z) = inl z
             by_first v (inr z) = inr (before_of_at_most (after_number g) (front_place e p) (ends (interval v.on)) short z)
 
@@ -492,32 +497,35 @@ each_begins c (v ∷ vs) d (s, b, rest) = (
 
 module _ (nodes : List Node) (header : Header) (formed : AreWellFormed nodes) (events : List Event) (run : IsRun nodes header events) where
   -- nothing is held of a node that is not shown
-  pub edge_unshown : (j : ℕ) (held : List Verdict) → IsEdge nodes header events j held → shown (state nodes events) j ≡ None → held ≡ []
+  pub edge_unshown : {joins : Bool} (j : ℕ) (held : List Verdict) → IsJoinedEdge nodes header events joins j held
+      → shown (state nodes events) j ≡ None → held ≡ []
   edge_unshown j held edge x = subst (λ o. AreNeeded (first_time (state nodes events).rows) o ((state nodes events).fronts edge.reader)
-      (reach_back edge.reading edge.left) edge.emitted held) x edge.is_needed
+      (reach_back edge.reading edge.left) edge.stretches held) x edge.is_needed
 
   -- what is held of a node begins before its front
-  pub edge_within : (j : ℕ) → j < length nodes → (seen fresh : List Verdict) → IsEdge nodes header events j (seen ++ fresh) → (f : ℤ)
+  pub edge_within : {joins : Bool} (j : ℕ) → j < length nodes → (seen fresh : List Verdict)
+      → IsJoinedEdge nodes header events joins j (seen ++ fresh) → (f : ℤ)
       → (state nodes events).fronts j ≡ Some f → AtMost (first_place fresh (after_number f)) (after_number f)
-  edge_within j l seen fresh edge f front = by_fresh fresh all
+  edge_within {joins} j l seen fresh edge f front = by_fresh fresh all
     where
       s : State
       s = state nodes events
 
-      by_needed : (o : Front) → shown s j ≡ o → IsWhole (first_time s.rows) o edge.emitted
-          → AreNeeded (first_time s.rows) o (s.fronts edge.reader) (reach_back edge.reading edge.left) edge.emitted (seen ++ fresh)
+      by_needed : (o : Front) → shown s j ≡ o → IsWhole (first_time s.rows) o edge.stretches
+          → AreNeeded (first_time s.rows) o (s.fronts edge.reader) (reach_back edge.reading edge.left) edge.stretches (seen ++ fresh)
           → Each (λ v. AtMost (begins (interval v.on)) (after_number f)) (seen ++ fresh)
       by_needed None x w h = subst (λ k. Each (λ v. AtMost (begins (interval v.on)) (after_number f)) k) (sym h) tt
       by_needed (Some g) x w h =
           let was = shown_is nodes header formed.post_order s j g x in
           let same : g ≡ f = same_Some g f (sym was.0 ∙ front) in
           each_meeting (λ v. AtMost (begins (interval v.on)) (after_number f))
-          (needed (first_time s.rows) g (s.fronts edge.reader) (reach_back edge.reading edge.left)) edge.emitted (seen ++ fresh) h
-          (subst (λ k. Each (λ v. AtMost (begins (interval v.on)) (after_number k)) edge.emitted) same
-          (each_begins (answered_to (first_time s.rows) None) edge.emitted (answered_to (first_time s.rows) (Some g)) w))
+          (needed (first_time s.rows) g (s.fronts edge.reader) (reach_back edge.reading edge.left)) edge.stretches (seen ++ fresh) h
+          (subst (λ k. Each (λ v. AtMost (begins (interval v.on)) (after_number k)) edge.stretches) same
+          (each_begins (answered_to (first_time s.rows) None) edge.stretches (answered_to (first_time s.rows) (Some g)) w))
 
       all : Each (λ v. AtMost (begins (interval v.on)) (after_number f)) (seen ++ fresh)
-      all = by_needed (shown s j) refl (emitted_tiles nodes header formed.post_order events run j l edge.emitted edge.is_emitted) edge.is_needed
+      all = by_needed (shown s j) refl (stretches_whole (stand_stretches joins edge.stand) (first_time s.rows) (shown s j)
+          (emitted_tiles nodes header formed.post_order events run j l edge.emitted edge.is_emitted)) edge.is_needed
 
       by_fresh : (fresh : List Verdict) → Each (λ v. AtMost (begins (interval v.on)) (after_number f)) (seen ++ fresh)
           → AtMost (first_place fresh (after_number f)) (after_number f)

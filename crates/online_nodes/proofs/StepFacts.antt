@@ -1,5 +1,5 @@
 -- What a step leaves of its inputs' edges.
-use Rattle.std.proofs.Common.{◌≡◌, inl, inr, refl, sym, ap, subst, ◌∙◌, ℕ, zero, suc, ◌+◌, ◌-◌, ◌<◌, ◌≤◌, Bool, true}
+use Rattle.std.proofs.Common.{◌≡◌, inl, inr, refl, sym, ap, subst, ◌∙◌, ℕ, zero, suc, ◌<◌, Bool, true}
 use Rattle.std.proofs.Common.{false, Some, None, List, [], ◌∷◌, drop, ℤ, pos, ◌+ℤ◌, ◌≤ℤ◌, ◌<ℤ◌, arith}
 use Rattle.std.specs.Prelude.{int_lt, cond, slice_get, IfSome}
 use Rattle.std.proofs.lemmas.Int.{ints}

@@ -1,5 +1,5 @@
 -- The truth of until by what was read of its inputs.
-use Rattle.std.proofs.Common.{◌⊎◌, inl, inr, Bool, true, false}
+use Rattle.std.proofs.Common.{◌⊎◌, inl, inr, true, false}
 use Rattle.rational.specs.Rational.{Rational, ◌≤ʳ◌}
 use Rattle.rational.proofs.Order.{le_refl}
 use Rattle.rational.specs.Places.{Place, After, Upto, Before}

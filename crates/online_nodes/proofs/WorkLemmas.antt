@@ -13,7 +13,13 @@ use Rattle.online_nodes.proofs.GotLemmas.{got-length, got-here, got-other, with_
 -- nothing was read
 pub read_none : (old new : Edge) → new ≡ old → IsReadOn old new
 read_none old new same =
-    record { read = 0; held = ap held_of same; fresh = ap (λ x. x.fresh) same; number = ap (λ x. x.number) same }
+    record {
+      read = 0;
+      held = ap held_of same;
+      fresh = ap (λ x. x.fresh) same;
+      number = ap (λ x. x.number) same;
+      joins = ap (λ (x : Edge). x.joins) same;
+    }
 
 -- a list with a first item, by its first item
 pub first_and_rest : {X : Type 0} (xs : List X) (x : X) → slice_get xs 0 ≡ Some x → xs ≡ x ∷ drop 1 xs
@@ -28,6 +34,7 @@ read_one_more x v first =
       held = append_assoc x.seen (v ∷ []) (drop 1 x.fresh) ∙ ap (λ vs. x.seen ++ vs) (sym (first_and_rest x.fresh v first));
       fresh = refl;
       number = refl;
+      joins = refl;
     }
 
 -- reading on twice is reading on
@@ -38,6 +45,7 @@ read_both a b c first second =
       held = second.held ∙ first.held;
       fresh = second.fresh ∙ ap (drop second.read) first.fresh ∙ drop-drop second.read first.read a.fresh;
       number = second.number ∙ first.number;
+      joins = second.joins ∙ first.joins;
     }
 
 -- a node that put verdicts and read nothing

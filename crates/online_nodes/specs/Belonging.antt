@@ -19,12 +19,12 @@ use Rattle.online_nodes.specs.Network.{
   IsRun,
   EmittedAt,
 }
-use Rattle.online_nodes.specs.Needed.{IsEdge, IsReader}
+use Rattle.online_nodes.specs.Needed.{IsJoinedEdge, IsReader}
 use Rattle.stl_syntax.specs.declared.items.Verdict.{Verdict}
 use Rattle.stl_syntax.specs.declared.node.Node.{Node}
 use Rattle.stl_syntax.specs.declared.node.Node.TheVariants.{Const}
 use Rattle.frac128.specs.Cuts.{place}
-use Rattle.online_nodes.specs.Held.{Held, edge_at, fresh_at, held_at, number_at}
+use Rattle.online_nodes.specs.Held.{Held, JoinsAlike, edge_at, fresh_at, held_at, number_at}
 use Rattle.online_nodes.specs.Kinds.{held_in}
 use Rattle.online_nodes.specs.Operators.{kind_of, KnowsBy}
 use Rattle.online_nodes.specs.declared.operator.Operator.{Operator}
@@ -57,7 +57,7 @@ pub record Belongs (nodes : List Node) (header : Header) (events : List Event) (
   pub closed : (state nodes events).closed ≡ ended
   pub number : number_at e op.node ≡ (state nodes events).fronts op.node
   pub inputs : (j : ℕ) (n : Node) (left : Bool) → slice_get nodes op.node ≡ Some n → IsReader n left j
-      → (number_at e j ≡ (state nodes events).fronts j) × IsEdge nodes header events j (held_at e j)
+      → (number_at e j ≡ (state nodes events).fronts j) × IsJoinedEdge nodes header events (edge_at e j).joins j (held_at e j)
   pub stands : StandsForSteps nodes header events op e
 
 -- a step would change the node's number
@@ -82,9 +82,10 @@ pub record HasStepped (nodes : List Node) (header : Header) (events : List Event
   pub got : fresh_at new i ≡ fresh_at old i ++ verdicts
   pub number : number_at new i ≡ allowed_at nodes (state nodes events) i
   pub inputs : (j : ℕ) (n : Node) (left : Bool) → slice_get nodes i ≡ Some n → IsReader n left j
-      → (number_at new j ≡ number_at old j) × IsEdge nodes header (events ++ step i ∷ []) j (held_at new j)
+      → (number_at new j ≡ number_at old j) × IsJoinedEdge nodes header (events ++ step i ∷ []) (edge_at new j).joins j (held_at new j)
   pub others : (j : ℕ) → j ≢ i → ((n : Node) (left : Bool) → slice_get nodes i ≡ Some n → IsReader n left j → ⊥)
       → edge_at new j ≡ edge_at old j
+  pub joins : JoinsAlike old new
   pub edges : length new.edges ≡ length old.edges
   pub start : new.start ≡ old.start
   pub spare : old.spare ≤ new.spare + length verdicts

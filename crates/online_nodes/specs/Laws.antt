@@ -1,5 +1,5 @@
 -- Laws of runs and of what stands on edges.
-use Rattle.std.specs.Prelude.{◌≡◌, ◌≢◌, ℕ, ◌<◌, ◌≤◌, ◌-◌, None, Bool, true, false, List, [], ◌∷◌, ◌++◌}
+use Rattle.std.specs.Prelude.{◌≡◌, ◌≢◌, ◌↔◌, ℕ, ◌<◌, ◌≤◌, ◌-◌, None, Bool, true, false, List, [], ◌∷◌, ◌++◌}
 use Rattle.std.specs.Prelude.{length, drop, slice_get, Some, ℤ, pos, ◌+ℤ◌, ◌-ℤ◌, ◌≤ℤ◌, if◌then◌else◌}
 use Rattle.rational.specs.Time.{Rational, ◌≤ʳ◌, left_open, less, whole}
 use Rattle.frac128.specs.Value.{value}
@@ -10,7 +10,7 @@ use Rattle.stl_syntax.specs.PostOrder.{IsPostOrder}
 use Rattle.stl_syntax.specs.WellFormed.{AreWellFormed, HasOneRoot}
 use Rattle.stl_syntax.specs.Verdicts.{IsTold, AreAlike}
 use Rattle.online_nodes.specs.Network.{Event, step, take, close, Front, State, last_row, open_number, state, shown, IsRun, EmittedAt, Emitted, IsReady}
-use Rattle.online_nodes.specs.Needed.{AreMeeting, IsTaken, IsEdge, IsReader, IsRootEdge}
+use Rattle.online_nodes.specs.Needed.{AreMeeting, IsTaken, IsEdge, IsJoinedEdge, IsReader, IsRootEdge}
 use Rattle.online_nodes.specs.Driven.{IsDriven}
 use Rattle.online_nodes.specs.StreamedWide.{front_at}
 use Rattle.stl_syntax.specs.declared.items.Verdict.{Verdict}
@@ -131,8 +131,8 @@ MeetingLaterIsWhatIsLeft =
     (lo later f : Rational) (c : Place) (verdicts : List Verdict) (d : Place) (held : List Verdict) → lo ≤ʳ later → AreTiles c verdicts d
     → ((t : Rational) → Upto d t → t ≤ʳ f) → AreMeeting (left_open lo f) verdicts held → AreMeeting (left_open later f) verdicts (beyond later held)
 
--- an edge holds what its reader needs after one event more: what it held, and behind it what its node gave out at that event, where the
--- reader stays where it is
+-- the segments that a reader needs after one event more: those that it needed, and behind them what the node gave out at that event,
+-- where the reader stays where it is
 abbrev pub EdgesGrow : Type 0
 EdgesGrow =
     (nodes : List Node) (header : Header) → AreWellFormed nodes → (events : List Event) (e : Event) → IsRun nodes header (events ++ e ∷ [])
@@ -140,6 +140,19 @@ EdgesGrow =
     → (state nodes (events ++ e ∷ [])).fronts edge.reader ≡ (state nodes events).fronts edge.reader
     → EmittedAt nodes header j (state nodes events) (state nodes (events ++ e ∷ [])) here
     → IsEdge nodes header (events ++ e ∷ []) j (held ++ here)
+
+-- an edge that does not join holds the segments that its reader may still need
+abbrev pub PlainEdgesHoldSegments : Type 0
+PlainEdgesHoldSegments =
+    (nodes : List Node) (header : Header) (events : List Event) (j : ℕ) (held : List Verdict)
+    → IsJoinedEdge nodes header events false j held ↔ IsEdge nodes header events j held
+
+-- an edge, whether it joins or not, holds no more than the segments that its reader may still need
+abbrev pub JoinedAreFew : Type 0
+JoinedAreFew =
+    (nodes : List Node) (header : Header) → AreWellFormed nodes → (events : List Event) → IsRun nodes header events
+    → (j : ℕ) → j < length nodes → (joins : Bool) (held : List Verdict) → IsJoinedEdge nodes header events joins j held
+    → (segments : List Verdict) × IsEdge nodes header events j segments × (length held ≤ length segments)
 
 -- the root's edge holds what was not taken: what it held and what the root gave out at one event more, and after a take its first verdict less
 abbrev pub RootEdgesGrow : Type 0

@@ -1,8 +1,10 @@
--- What a streaming network holds: of each node the verdicts that its reader still needs, and of the root those that were not taken.
+-- What a streaming network holds: of each node the verdicts that its reader still needs, on an edge that joins some neighbours of one truth
+-- joined, and of the root those that were not taken.
 use Rattle.std.specs.Prelude.{◌≡◌, ◌≢◌, ◌⊎◌, ℕ, suc, ◌-◌, ◌<◌, Bool, true, false, List, [], ◌∷◌, ◌++◌, length, drop, ℤ, Some, None, slice_get}
 use Rattle.rational.specs.Time.{Rational, Interval, IsIn}
 use Rattle.stl_syntax.specs.Trace.{Header, first_time}
 use Rattle.frac128.specs.Spans.{interval}
+use Rattle.online_nodes.specs.Held.{Stand}
 use Rattle.online_nodes.specs.Network.{Event, take, Front, IsRun, shown, state, reach_back, needed, Emitted}
 use Rattle.stl_syntax.specs.declared.items.Verdict.{Verdict}
 use Rattle.stl_syntax.specs.declared.node.Node.{Node}
@@ -43,7 +45,7 @@ abbrev pub AreNeeded : ℕ → Front → Front → ℤ → List Verdict → List
 AreNeeded start None reader k verdicts held = held ≡ []
 AreNeeded start (Some f) reader k verdicts held = AreMeeting (needed start f reader k) verdicts held
 
--- the edge of node i, which is not the root, after a run
+-- the segments of node i, which is not the root, that its reader may still need after a run
 pub record IsEdge (nodes : List Node) (header : Header) (events : List Event) (i : ℕ) (held : List Verdict) : Type 0 where
   pub reader : ℕ
   pub reading : Node
@@ -54,6 +56,21 @@ pub record IsEdge (nodes : List Node) (header : Header) (events : List Event) (i
   pub is_emitted : Emitted nodes header events i emitted
   pub is_needed : AreNeeded (first_time (state nodes events).rows) (shown (state nodes events) i)
       ((state nodes events).fronts reader) (reach_back reading left) emitted held
+
+-- the edge of node i, which is not the root, after a run, by whether it joins: of what the node gave out, as it stands on such an edge, it
+-- holds what the reader may still need. An edge that does not join holds the segments that its reader may still need
+pub record IsJoinedEdge (nodes : List Node) (header : Header) (events : List Event) (joins : Bool) (i : ℕ) (held : List Verdict) : Type 0 where
+  pub reader : ℕ
+  pub reading : Node
+  pub left : Bool
+  pub at_reader : slice_get nodes reader ≡ Some reading
+  pub reads : IsReader reading left i
+  pub emitted : List Verdict
+  pub is_emitted : Emitted nodes header events i emitted
+  pub stretches : List Verdict
+  pub stand : Stand joins emitted stretches
+  pub is_needed : AreNeeded (first_time (state nodes events).rows) (shown (state nodes events) i)
+      ((state nodes events).fronts reader) (reach_back reading left) stretches held
 
 -- a take gives the root's next verdict, if there is one; n were taken in all
 pub data IsTaken (nodes : List Node) (header : Header) : List Event → ℕ → Type 0 where
@@ -72,15 +89,16 @@ pub record IsRootEdge (nodes : List Node) (header : Header) (events : List Event
   pub is_emitted : Emitted nodes header events (length nodes - 1) emitted
   pub is : held ≡ drop taken emitted
 
--- what an object shows of a network: the front number of each node, and what stands on its edge
+-- what an object shows of a network: the front number of each node, whether its edge joins, and what stands there
 pub record Shown : Type 0 where
   pub fronts : ℕ → Front
+  pub joins : ℕ → Bool
   pub edges : ℕ → List Verdict
 
 -- the object shows what the network has after the run
 pub record Shows (nodes : List Node) (header : Header) (net : Shown) (events : List Event) : Type 0 where
   pub fronts : (i : ℕ) → i < length nodes → net.fronts i ≡ (state nodes events).fronts i
-  pub edges : (i : ℕ) → suc i < length nodes → IsEdge nodes header events i (net.edges i)
+  pub edges : (i : ℕ) → suc i < length nodes → IsJoinedEdge nodes header events (net.joins i) i (net.edges i)
   pub root : IsRootEdge nodes header events (net.edges (length nodes - 1))
 
 -- the object stands for the run: it shows what the network has, and `Holds` says of what it keeps beside that, as the last row, the

@@ -9,6 +9,7 @@ pub record IsReadOn (old new : Edge) : Type 0 where
   pub held : held_of new ≡ held_of old
   pub fresh : new.fresh ≡ drop read old.fresh
   pub number : new.number ≡ old.number
+  pub joins : new.joins ≡ old.joins
 
 -- a node's edge `own` got the verdicts, each for one of the spare places; of its inputs' edges, `left` and `right`, some verdicts were
 -- read; nothing else changed

@@ -1,12 +1,14 @@
 //! The edges of a network.
 //!
 //! An edge is a queue of its own: what its reader has read and may still need, and behind it what it has not read. So an
-//! operator goes on in the middle of its input's edge with no walk, and to read a verdict takes no memory.
+//! operator goes on in the middle of its input's edge with no walk, and to read a verdict takes no memory. An edge may join
+//! neighbours of one truth: what was not read then stands in stretches, each of one truth.
 
 ghost use Rattle.std.specs.Prelude.{◌≡◌, ◌+◌, ◌<◌, ◌≤◌, [], ◌∷◌, length, replicate, slice_get};
 ghost use Rattle.std.specs.Prelude.{IfOk, IsOk, OnOk, OnErr, None, Some, ℕ, map, All};
 ghost use Rattle.online_nodes.specs.Queues.{edge_of, IsQueue};
-ghost use Rattle.online_nodes.specs.Held.{edge_at, fresh_at, held_at, no_edge, number_at, with_edge, with_more, with_number, with_read, without, IsDroppedBy};
+ghost use Rattle.online_nodes.specs.Held.{edge_at, fresh_at, held_at, joining, no_edge, number_at, with_edge, with_more, with_number};
+ghost use Rattle.online_nodes.specs.Held.{with_read, without, HasMore, IsDroppedBy};
 
 use crate::queue::Queue;
 use frac128::Memory;
@@ -77,6 +79,39 @@ impl Edges {
         ensures { result ≡ self.now.start }
     {
         self.start
+    }
+
+    /// From then on an edge joins neighbours of one truth, as long as they are not read.
+    pub fn join(&mut self, edge: u32)
+        requires { edge < length self.old.edges }
+        ensures { self.new ≡ record self.old { edges = with_edge self.old edge (joining (edge_at self.old edge)) } }
+    {
+        self.queues[edge as usize].join();
+    }
+
+    /// As `put`, but on an edge that joins the verdict lengthens the last one that was not read, where it goes on from that with its
+    /// truth.
+    ///
+    /// # Errors
+    ///
+    /// `Memory` where there is no memory, and then nothing changes. With a spare of 1 it never comes.
+    #[inline(always)]
+    pub fn extend(&mut self, edge: u32, piece: Verdict) -> Result<(), Memory>
+        requires { edge < length self.old.edges }
+        ensures put { OnOk result (HasMore (edge_at self.old edge) (edge_at self.new edge) (piece ∷ [])) }
+        ensures others { OnOk result (self.new.edges ≡ with_edge self.old edge (edge_at self.new edge)) }
+        ensures start { self.new.start ≡ self.old.start }
+        ensures falls_by_one { OnOk result (self.old.spare ≤ self.new.spare + 1) }
+        ensures had_room { 0 < self.old.spare → IsOk result }
+        ensures memory { OnErr result (self.new ≡ self.old) }
+    {
+        match self.queues[edge as usize].extend(piece) {
+            Ok(()) => {
+                self.spare = self.spare.saturating_sub(1);
+                Ok(())
+            }
+            Err(_) => Err(Memory),
+        }
     }
 
     /// Appends a verdict at the back of an edge, where its reader has not read it.

@@ -1,9 +1,9 @@
 //! Laws of places, of runs and of what stands on edges. Each is the contract of a call that does nothing, so that the gate
 //! proves it.
 ghost use Rattle.online_nodes.specs.Laws.{EachHasOneReader, EdgesGrow, EmittedIsWhole, EmittedStays, FrontsAreTimes};
-ghost use Rattle.online_nodes.specs.Laws.{HasTimesBetween, MeetingIsWhatIsLeft, MeetingLaterIsWhatIsLeft};
+ghost use Rattle.online_nodes.specs.Laws.{HasTimesBetween, JoinedAreFew, MeetingIsWhatIsLeft, MeetingLaterIsWhatIsLeft};
 ghost use Rattle.online_nodes.specs.Laws.{NumbersNeverFall, NumbersSettle, NumbersStayWithinHorizons};
-ghost use Rattle.online_nodes.specs.Laws.{OpenNumbersSettle, OthersGiveNothing, RootEdgesGrow, TakenWereGivenOut};
+ghost use Rattle.online_nodes.specs.Laws.{OpenNumbersSettle, OthersGiveNothing, PlainEdgesHoldSegments, RootEdgesGrow, TakenWereGivenOut};
 ghost use Rattle.online_nodes.specs.Looking.{ConnectivesJoin, SinceRemembersWhatItKnows, UntilAndSinceLook, UntilRemembersWhatItKnows, WindowsLook};
 
 /// Between two places there is a time.
@@ -57,9 +57,19 @@ pub fn meeting_later_is_what_is_left()
     ensures { MeetingLaterIsWhatIsLeft }
 {}
 
-/// An edge holds what its reader needs after one event more, with what its node gave out at that event.
+/// The segments that a reader needs after one event more are those that it needed, with what the node gave out at that event.
 pub fn edges_grow()
     ensures { EdgesGrow }
+{}
+
+/// An edge that does not join holds just the segments that its reader may still need.
+pub fn plain_edges_hold_segments()
+    ensures { PlainEdgesHoldSegments }
+{}
+
+/// An edge, whether it joins or not, holds no more than the segments that its reader may still need.
+pub fn joined_are_few()
+    ensures { JoinedAreFew }
 {}
 
 /// The root's edge holds what was not taken, after one event more.

@@ -1,10 +1,10 @@
 //! One edge as a queue: its verdicts lie in one ring, in order, and a count says how many of them its reader has read. So to read a
-//! verdict moves nothing.
+//! verdict moves nothing. A queue that joins lengthens its last verdict, as long as that was not read, by one that goes on from it.
 
-ghost use Rattle.std.specs.Prelude.{◌≡◌, ◌+◌, ◌-◌, ◌<◌, ◌≤◌, ◌∷◌, [], ℕ, length, slice_get, ◌↔◌, IsOk, IsTrue, OnErr, OnOk};
+ghost use Rattle.std.specs.Prelude.{◌≡◌, ◌+◌, ◌-◌, ◌<◌, ◌≤◌, ◌∷◌, [], ℕ, true, false, length, slice_get, ◌↔◌, IsOk, IsTrue, OnErr, OnOk};
 ghost use Rattle.rational.specs.Rational.{◌≤ʳ◌};
 ghost use Rattle.frac128.specs.Value.{value};
-ghost use Rattle.online_nodes.specs.Held.{held_of, no_edge, with_more, with_number, with_read, without, IsDroppedBy};
+ghost use Rattle.online_nodes.specs.Held.{held_of, joining, no_edge, with_more, with_number, with_read, without, GoesOn, HasMore, IsDroppedBy};
 
 use frac128::{Frac, Memory};
 use std::alloc::Global;
@@ -12,12 +12,15 @@ use std::cmp::Ordering;
 use std::collections::VecDeque;
 use stl_syntax::Verdict;
 
-/// The verdicts of an edge, how many of them were read, and the number noted last.
+/// The verdicts of an edge, how many of them were read, the number noted last, whether one was noted, and whether neighbours of one
+/// truth are joined: eight words, so that an edge is found by a shift.
 #[derive(Drop)]
 pub(crate) struct Queue {
     items: VecDeque<Verdict>,
     read: usize,
-    number: Option<i64>,
+    number: i64,
+    noted: bool,
+    joins: bool,
 }
 
 impl Queue {
@@ -31,15 +34,45 @@ impl Queue {
         Queue {
             items: VecDeque::new(alloc),
             read: 0,
-            number: None,
+            number: 0,
+            noted: false,
+            joins: false,
         }
+    }
+
+    /// From then on it joins.
+    pub(crate) fn join(&mut self)
+        ensures joining { edge_of self.new ≡ joining (edge_of self.old) }
+        ensures kept { (spare : ℕ) → IsQueue spare self.old → IsQueue spare self.new }
+    {
+        self.joins = true;
+    }
+
+    /// Puts a verdict at the back, or lengthens the last one by it.
+    ///
+    /// # Errors
+    ///
+    /// `Memory` where there is no memory, and then nothing changes. With room for one it never comes.
+    #[inline(always)]
+    pub(crate) fn extend(&mut self, piece: Verdict) -> Result<(), Memory>
+        requires { IsQueue 0 self.old }
+        ensures put { OnOk result (HasMore (edge_of self.old) (edge_of self.new) (piece ∷ [])) }
+        ensures less { (spare : ℕ) → IsQueue spare self.old → OnOk result (IsQueue (spare - 1) self.new) }
+        ensures had_room { (spare : ℕ) → IsQueue spare self.old → 0 < spare → IsOk result }
+        ensures memory { OnErr result (edge_of self.new ≡ edge_of self.old) }
+        ensures still { (spare : ℕ) → IsQueue spare self.old → OnErr result (IsQueue spare self.new) }
+    {
+        if self.lengthen(&piece) {
+            return Ok(());
+        }
+        self.put(piece)
     }
 
     /// Puts a verdict at the back.
     ///
     /// # Errors
     ///
-    /// `Memory` where there is no memory, and then nothing changes. With room for one it never comes.
+    /// As `extend`.
     #[inline(always)]
     pub(crate) fn put(&mut self, piece: Verdict) -> Result<(), Memory>
         requires { IsQueue 0 self.old }
@@ -54,6 +87,28 @@ impl Queue {
         }
         self.items.push_back_reserved(piece);
         Ok(())
+    }
+
+    /// Lengthens the last verdict, where neighbours are joined and that one was not read, by one that goes on from it. False where there
+    /// is none, and then nothing changes.
+    #[inline(always)]
+    fn lengthen(&mut self, piece: &Verdict) -> bool
+        requires { IsQueue 0 self.old }
+        ensures more { IsTrue result → HasMore (edge_of self.old) (edge_of self.new) (piece.now ∷ []) }
+        ensures same { result ≡ false → self.new ≡ self.old }
+        ensures kept { (spare : ℕ) → IsQueue spare self.old → IsQueue spare self.new }
+    {
+        if !self.joins {
+            return false;
+        }
+        let count = self.items.len();
+        if self.read == count || !goes_on(&self.items[count - 1], piece) {
+            return false;
+        }
+        let last = &mut self.items[count - 1];
+        last.on.to = piece.on.to;
+        last.on.to_in = piece.on.to_in;
+        true
     }
 
     /// Takes out the first verdict. None where it holds none.
@@ -154,7 +209,8 @@ impl Queue {
         ensures noted { edge_of self.new ≡ with_number (edge_of self.old) number }
         ensures kept { (spare : ℕ) → IsQueue spare self.old → IsQueue spare self.new }
     {
-        self.number = Some(number);
+        self.number = number;
+        self.noted = true;
     }
 
     /// The number noted last.
@@ -162,8 +218,21 @@ impl Queue {
     pub(crate) fn number(&self) -> Option<i64>
         ensures { result ≡ (edge_of self.now).number }
     {
-        self.number
+        if self.noted {
+            return Some(self.number);
+        }
+        None
     }
+}
+
+/// Whether the second verdict goes on from the first: it begins where that ends, and has its truth.
+#[inline(always)]
+fn goes_on(first: &Verdict, second: &Verdict) -> bool
+    ensures { IsTrue result → GoesOn first.now second.now }
+{
+    first.holds == second.holds
+        && first.on.to_in != second.on.from_in
+        && first.on.to == second.on.from
 }
 
 /// Whether the verdict ends by the time `end`.

@@ -142,6 +142,7 @@ impl Network {
     ///
     /// # Errors
     /// Want of memory.
+    #[inline(always)]
     fn take_all(&mut self, last: &mut LastTime, text: &mut Text) -> Result<(), Memory>
         requires { (p : Pass) × CanTake p self.old }
         ensures taken { (p : Pass) → CanTake p self.old → IfOk result (λ _. HasTakenAll p self.new text.old text.new) }
@@ -269,7 +270,7 @@ impl Follow for Verdicts {
             bound,
             trace: _trace,
         } = case;
-        let net = Net::new(alloc, &formula, bound)?;
+        let net = Net::joining(alloc, &formula, bound)?;
         let horizon = formula.horizon();
         Ok(Verdicts {
             network: Network {

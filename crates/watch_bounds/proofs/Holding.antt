@@ -19,6 +19,7 @@ use Rattle.online_nodes.specs.StreamedWide.{front_at}
 use Rattle.online_nodes.proofs.EmittedLaw.{emitted_alike}
 use Rattle.online_nodes.proofs.FrontsLaw.{fronts_are_times}
 use Rattle.online_nodes.proofs.RowsLaw.{rows_of as rows_came, AreRowsSoFar}
+use Rattle.online_nodes.proofs.StretchLaw.{joined_few}
 use Rattle.online_net.specs.Nets.{Parts, Stands}
 use Rattle.verdict_stream.proofs.Owing.{has_fed}
 use Rattle.verdict_stream.proofs.Passes.{state_after, taken_once}
@@ -59,8 +60,10 @@ together nodes header events net l N st emptied ready =
             let x : length (held_at net.edges i) ≡ 0 = ap (λ j. length (held_at net.edges j)) e ∙ ap length none in
             omega (arith, x)
         by_place (inr (inl h)) =
-            edge_few nodes header st.holds.formed.post_order st.holds.one_root events st.run l N i within (held_at net.edges i)
-            (st.shows.edges i (omega (arith, h, within))) ready
+            let joined = joined_few nodes header st.holds.formed events st.run i within (held_at net.edges i) (st.shows.edges i (omega (arith, h, within))) in
+            let few = edge_few nodes header st.holds.formed.post_order st.holds.one_root events st.run l N i within joined.0 joined.1 ready in
+            let no_more = joined.2 in
+            omega (arith, few, no_more)
         by_place (inr (inr h)) = absurd (omega (arith, h, within))
 
 -- the rows of a run that a stream drove

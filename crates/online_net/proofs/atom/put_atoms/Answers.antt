@@ -5,7 +5,7 @@ use Rattle.online_net.proofs.atom.put_atoms.Goals as goal
 use Rattle.online_net.proofs.atom.put_atoms.Goals.{then-is_none+in_ok-put_atom, else-is_none}
 
 pub loop-i-init : goal.loop-i-init
-loop-i-init c = record { atoms = λ j l e. absurd (omega (arith, l)); others = λ j n. refl; count = refl; start = refl }
+loop-i-init c = record { atoms = λ j l e. absurd (omega (arith, l)); others = λ j n. refl; joins = λ j. refl; count = refl; start = refl }
 
 pub put_atom-requires-clause-edge : goal.put_atom-requires-clause-edge
 put_atom-requires-clause-edge c = omega (arith, c.requires.edges, c.loop-i.invariant.count, c.loop-i-test.true)

@@ -1,4 +1,4 @@
-use Rattle.std.proofs.Common.{rules, refl, sym, ◌∙◌, ap, subst, ◌≡◌, [], ◌++◌, arith, to_z, of_z, inl, to_z-of_z}
+use Rattle.std.proofs.Common.{rules, refl, sym, ◌∙◌, ap, subst, [], arith, to_z, of_z, inl, to_z-of_z}
 use Rattle.std.specs.Int.{w64}
 use Rattle.std.proofs.lemmas.List.{append-nil}
 use Rattle.std.proofs.lemmas.Option.{slice_get_within}

@@ -1,12 +1,12 @@
-use Rattle.std.proofs.Common.{◌≡◌, ◌<◌, Option, Some, None, List, [], ◌∷◌, ◌++◌, length, sym, subst}
+use Rattle.std.proofs.Common.{◌≡◌, ◌<◌, Option, Some, None, List, [], ◌∷◌, ◌++◌, length, sym, ap, subst, ◌∙◌}
 use Rattle.std.specs.Prelude.{slice_get, IfSome}
 use Rattle.stl_syntax.specs.Trace.{Header, Row}
 use Rattle.stl_syntax.specs.declared.node.Node.{Node}
 use Rattle.online_nodes.specs.Network.{Event, row}
-use Rattle.online_nodes.specs.Held.{Held}
+use Rattle.online_nodes.specs.Held.{Held, edge_at}
 use Rattle.online_net.specs.Nets.{Parts, Stands}
 use Rattle.online_net.specs.Atoms.{HasPutAtoms, begun}
-use Rattle.online_net.proofs.Feeding.{fed_stands}
+use Rattle.online_net.proofs.Feeding.{fed_stands, put_joins}
 use Rattle.online_net.proofs.Stepping.{atoms_bound, last_width, row_may}
 use Rattle.online_net.specs.contracts.net.Net.{the_view}
 use Rattle.online_net.proofs.net.Net.feed.Goals as goal
@@ -57,3 +57,16 @@ returns-clause-stands c nodes header events st =
     c.put_row.new.edges
     (subst (λ l. HasPutAtoms c.self.inside.bound c.self.inside.last c.args.row.now l (length l) (begun c.self.inside.edges c.self.inside.last c.args.row.now)
     c.put_row.new.edges) c.deref.ensures.value c.in-Ok.ensures))
+
+pub returns-clause-joins : goal.returns-clause-joins
+returns-clause-joins c = λ j.
+    let net : Parts = the_view c.self.inside in
+    let w = c.self.invariant c.if-self.false in
+    put_joins w.0 w.1 w.2 net w.3 c.args.row.now
+    (row_may w.0 w.1 w.2 net w.3 c.args.row.now c.if-self-2.false
+    (subst (λ (p : Parts). IfSome p.last (λ q. q.time < c.args.row.now.time)) (sym c.self.view_is) c.requires.later)
+    (subst (λ (p : Parts). length c.args.row.now.values ≡ p.bound.width) (sym c.self.view_is) c.requires.width))
+    c.put_row.new.edges
+    (subst (λ l. HasPutAtoms c.self.inside.bound c.self.inside.last c.args.row.now l (length l) (begun c.self.inside.edges c.self.inside.last c.args.row.now)
+    c.put_row.new.edges) c.deref.ensures.value c.in-Ok.ensures) j
+    ∙ ap (λ (p : Parts). (edge_at p.edges j).joins) c.self.view_is

@@ -1,10 +1,10 @@
-use Rattle.std.proofs.Common.{false, None, [], refl, ap, ◌∙◌}
+use Rattle.std.proofs.Common.{false, None, [], refl, ap, subst}
 use Rattle.stl_syntax.specs.Trace.{Header}
-use Rattle.std.specs.Prelude.{replicate}
 use Rattle.atom_lines.specs.Binding.{IsBound}
-use Rattle.online_nodes.specs.Held.{no_edge}
+use Rattle.online_nodes.specs.Held.{Edge}
 use Rattle.online_net.specs.Nets.{Stands}
-use Rattle.online_net.proofs.Fresh.{new_stands}
+use Rattle.online_net.specs.Steps.{AreNewEdges}
+use Rattle.online_net.proofs.Fresh.{empty_edge, new_stands, plain_edges}
 use Rattle.online_net.proofs.net.Net.new.Goals as goal
 use Rattle.online_net.proofs.net.Net.new.Goals.{In_ok-edges}
 
@@ -27,10 +27,14 @@ fresh c header bound = new_stands c.args.formula.now.nodes header c.len.ensures.
       closed = false;
       stopped = false;
     })
-    bound (c.in_ok-edges.ensures.edges ∙ ap (λ n. replicate n no_edge) c.len.ensures.count) c.in_ok-edges.ensures.start c.in_ok-operators.ensures refl refl refl
+    bound (subst (λ n. AreNewEdges n c.in_ok-edges.edges) c.len.ensures.count
+    (plain_edges c.len.result c.in_ok-edges.edges c.in_ok-edges.ensures.edges c.in_ok-edges.ensures.start)) c.in_ok-operators.ensures refl refl refl
 
 pub invariant_of-result : goal.invariant_of-result
 invariant_of-result c running = (c.args.formula.now.nodes, c.requires.0, [], fresh c c.requires.0 c.requires.1)
 
 pub returns-clause-stands : goal.returns-clause-stands
 returns-clause-stands c header bound = fresh c header bound
+
+pub returns-clause-joins : goal.returns-clause-joins
+returns-clause-joins c = λ i. ap (λ (x : Edge). x.joins) (empty_edge c.len.result c.in_ok-edges.edges c.in_ok-edges.ensures.edges i)

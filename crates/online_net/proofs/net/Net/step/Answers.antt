@@ -4,6 +4,7 @@ use Rattle.rational.proofs.Lists.{slice_get-set_same, slice_get-set_other}
 use Rattle.stl_syntax.specs.Trace.{Header}
 use Rattle.stl_syntax.specs.declared.node.Node.{Node}
 use Rattle.online_nodes.specs.Network.{Event, step, state, IsReady}
+use Rattle.online_nodes.specs.Held.{Held, edge_at}
 use Rattle.online_net.specs.Nets.{Parts, Stands}
 use Rattle.std.specs.Prelude.{slice_set}
 use Rattle.std.proofs.lemmas.List.{length-set}
@@ -171,3 +172,22 @@ returns-clause-stands c nodes header events st other =
     (slice_set net.operators c.args.node (Some c.step_one.new.operator)) at c.in-Some.is x
     (length-set net.operators c.args.node (Some c.step_one.new.operator)) (slice_get-set_same net.operators c.args.node (Some c.step_one.new.operator) l)
     (λ j. slice_get-set_other net.operators c.args.node j (Some c.step_one.new.operator))
+
+pub returns-then-not-moved-clause-joins : goal.returns-then-not-moved-clause-joins
+returns-then-not-moved-clause-joins c = λ j.
+    let none : c.in-Ok.moved ≡ false = (let e = c.if-not-moved.true in cc) in
+    ap (λ (e : Held). (edge_at e j).joins) (c.in-Ok.ensures.idle none) ∙ ap (λ (p : Parts). (edge_at p.edges j).joins) c.self.view_is
+
+pub returns-clause-joins : goal.returns-clause-joins
+returns-clause-joins c = λ j.
+    let net : Parts = the_view c.self.inside in
+    let w = c.self.invariant c.if-self.false in
+    let l : c.args.node < length net.operators = subst (λ (p : Parts). c.args.node < length p.operators) (sym c.self.view_is) c.requires in
+    let at : slice_get net.operators c.args.node ≡ Some (Some c.in-Some-index_mut.operator) =
+    found net.operators c.args.node c.index_mut.result.now l c.index_mut.ensures.value ∙ ap Some c.in-Some-index_mut.is in
+    let b = belongs_now w.0 w.1 w.2 net w.3 c.args.node c.in-Some-index_mut.operator c.in-Some.row c.time-now.result at
+    c.in-Some.is c.time-now.ensures in
+    let some : c.in-Ok.moved ≡ true = (let e = c.if-not-moved.false in cc) in
+    let x = step_by w.0 w.1 w.2 net w.3 c.in-Some-index_mut.operator c.step_one.new.operator c.step_one.new.edges c.in-Some.row
+    c.time-now.result c.in-Ok.moved c.time-now.ensures (c.in-Ok.ensures.stepped w.0 w.1 w.2 b) some in
+    x.stepped.joins j ∙ ap (λ (p : Parts). (edge_at p.edges j).joins) c.self.view_is

@@ -1,11 +1,11 @@
 use Rattle.std.proofs.Common.{◌≡◌, ℕ, ◌-◌, ◌<◌, ◌≤◌, false, Some, None, List, [], ◌∷◌, ◌++◌, length, refl, sym, ap, subst, ◌∙◌}
 use Rattle.std.specs.Prelude.{slice_get}
 use Rattle.online_nodes.specs.Network.{take}
-use Rattle.online_nodes.specs.Held.{held_at}
+use Rattle.online_nodes.specs.Held.{edge_at, held_at}
 use Rattle.stl_syntax.specs.declared.items.Verdict.{Verdict}
 use Rattle.online_net.specs.Nets.{Parts, Stands}
 use Rattle.online_net.specs.Nets.{HasPast}
-use Rattle.online_net.proofs.Stepping.{root_place, took_stands, none_took, next_is}
+use Rattle.online_net.proofs.Stepping.{root_place, took_joins, took_stands, none_took, next_is}
 use Rattle.online_net.specs.contracts.net.Net.{the_view}
 use Rattle.online_net.proofs.net.Net.take.Goals as goal
 
@@ -75,3 +75,8 @@ returns-then-held-eq0-clause-stands c nodes header events st =
     let r = root_place nodes header events net now c.len.result (c.len.ensures ∙ c.self.inside.operators.ok.0) in
     subst (λ (p : Parts). Stands nodes header p (events ++ take ∷ [])) c.self.view_is
     (none_took nodes header events net now (c.len.result - 1) r.1 (sym c.held.ensures ∙ c.if-held-eq0.true)).1
+
+pub returns-clause-joins : goal.returns-clause-joins
+returns-clause-joins c j =
+    took_joins c.self.inside.edges c.take.new.self (c.len.result - 1) c.take.ensures.taken j
+    ∙ ap (λ (p : Parts). (edge_at p.edges j).joins) c.self.view_is

@@ -1,6 +1,5 @@
-use Rattle.std.proofs.Common.{rules, to_z, of_z, w64, arith, ◌≡◌, ◌∙◌, sym, subst, ◌^◌, ◌≤◌, ◌-◌, length, pos, ℤ}
-use Rattle.online_nodes.specs.Answering.{HasReleased}
-use Rattle.online_nodes.specs.Held.{edge_at, held_at, with_edge, with_number}
+use Rattle.std.proofs.Common.{rules, to_z, of_z, w64, arith, ◌≡◌, ◌∙◌, sym, ◌^◌, ◌≤◌, ◌-◌, length, pos}
+use Rattle.online_nodes.specs.Held.{held_at}
 use Rattle.online_nodes.proofs.AbleLemmas.{can_answer, can_release}
 use Rattle.online_nodes.proofs.AdvanceLemmas.{put_count, put_within, step_stands, step_stepped}
 use Rattle.online_nodes.proofs.DueLemmas.{begun_inside}

@@ -4,8 +4,8 @@ use Rattle.stl_syntax.specs.Stream.{IsNewText, IsRowsText}
 use Rattle.online_nodes.specs.Driven.{IsDriven, nothing}
 use Rattle.verdict_stream.proofs.verdicts.VerdictsFollow.begin.Goals as goal
 
-pub new-requires : goal.new-requires
-new-requires c = let (f, is) = c.requires.case in (c.args.case.trace.header, is.bound)
+pub joining-requires : goal.joining-requires
+joining-requires c = let (f, is) = c.requires.case in (c.args.case.trace.header, is.bound)
 
 pub returns : goal.returns
 returns c =
@@ -21,8 +21,8 @@ returns c =
         emitted = [];
         is_emitted = refl;
         start = refl;
-        no_times = c.new-2.ensures.items;
-        none_pending = c.new-3.ensures;
+        no_times = c.new.ensures.items;
+        none_pending = c.new-2.ensures;
       };
       fits = (f, is);
       told = subst (λ rows. IsRowsText (IsNewText (root case.formula.nodes)) (root case.formula.nodes) case.trace.header [] None rows [])
