@@ -16,6 +16,7 @@ use Rattle.value_laws.specs.Members.{ShapeOf}
 use Rattle.pl_signal.proofs.Values.{some_is}
 use Rattle.pieces.specs.declared.piece.Piece.{Piece}
 use Rattle.pieces.specs.Chains.{Chain, CanBeLeftOut, Each, IsNormal, IsPiece, IsWorth, end, stop, stop_from}
+use Rattle.pieces.specs.Over.{HasBreaks}
 use Rattle.pieces.proofs.Ends.{at_most_of_before, at_most_trans}
 use Rattle.pieces.proofs.ChainLemmas.{one_value, worth_same}
 use Rattle.pieces.proofs.Standing.{begin_at, begin_most, end_most, next_begin, rises_at}
@@ -193,3 +194,17 @@ module _ {P : Type 0} (shape : ShapeOf P) where
       by_next : (o : Option (Piece P)) → slice_get chain.pieces (suc i) ≡ o → IsBreakpoint F chain.from.at (stop chain).at (end p).at
       by_next None f = at_stop (end p) (same_refl (end p).at) (last_ends chain.from chain.pieces i p e f)
       by_next (Some q) f = by_ends q f (rises i p e) (follows i p q e f)
+
+  -- a chain has a breakpoint where a piece begins
+  pub breakpoint_begin : (chain : Chain P) (i : ℕ) (p : Piece P) → IsNormal shape chain → slice_get chain.pieces i ≡ Some p
+      → IsBreakpoint (IsWorth shape chain) chain.from.at (stop chain).at (begin_at chain.from chain.pieces i).at
+  breakpoint_begin chain zero p normal e = IsBreakpoint.start (same_refl chain.from.at)
+  breakpoint_begin chain (suc j) p normal e =
+      let (o, g) = prior chain.pieces j p e in
+      subst (λ c. IsBreakpoint (IsWorth shape chain) chain.from.at (stop chain).at c.at) (sym (next_begin chain.from chain.pieces j o g))
+      (breakpoint_at chain j o normal g)
+
+  -- it has one at both ends of a piece
+  pub breaks_at : (chain : Chain P) (i : ℕ) (p : Piece P) → IsNormal shape chain → slice_get chain.pieces i ≡ Some p
+      → HasBreaks shape chain (begin_at chain.from chain.pieces i) p
+  breaks_at chain i p normal e = record { first = breakpoint_begin chain i p normal e; last = breakpoint_at chain i p normal e }

@@ -25,3 +25,12 @@ pub mod WindowEnds
 pub mod Seeing
 pub mod Moving
 pub mod Reaching
+pub mod AheadOver
+pub mod BehindOver
+pub mod NowOver
+pub mod Playing
+pub mod Played
+pub mod Counted
+pub mod Trends
+pub mod Meeting
+pub mod OverWindow

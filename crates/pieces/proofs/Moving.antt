@@ -8,36 +8,40 @@ use Rattle.rational.specs.Extended.{Extended, ◌≈ᵉ◌, value_at, Passes}
 use Rattle.rational.specs.Places.{Place, After, Upto, Before, AtMost}
 use Rattle.rational.proofs.AffineLemmas.{same_reflᵉ}
 use Rattle.rational.proofs.Sames.{symᵉ, transᵉ}
-use Rattle.rational.proofs.PlaceLemmas.{after_at_most, before_through, before_trans, before_at_most, upto_same, after_same, upto_of_before}
+use Rattle.rational.proofs.PlaceLemmas.{after_at_most, before_through, before_trans, before_at_most, before_of_at_most, upto_same}
+use Rattle.rational.proofs.PlaceLemmas.{after_same, upto_of_before}
 use Rattle.value_laws.specs.Members.{ShapeOf, ShapeLaws}
 use Rattle.pieces.specs.declared.piece.Piece.{Piece}
 use Rattle.pieces.specs.declared.reach.Way.{Way}
 use Rattle.pieces.specs.declared.sliding.Sliding.{Sliding}
 use Rattle.pieces.specs.Best.{IsNoWorse, IsBetter, GetsNoBetter}
 use Rattle.pieces.specs.Chains.{Chain, end, stop, IsNormal, IsWorth}
-use Rattle.pieces.specs.Steps.{AreSteps, FallOff, HasCounted, HasSlid, StepsGive, steps_end}
+use Rattle.pieces.specs.Steps.{AreSteps, FallOff, HasCounted, HasSlid, HideTo, StepsGive, steps_end}
 use Rattle.pieces.specs.Sliding.{HasTold, IsBestWith, last_end}
-use Rattle.pieces.specs.Windows.{Sees, IsNonEmpty, IsPieceFrom, Best, BestTo, Stands, HasEntered}
-use Rattle.pieces.proofs.Bests.{Values, nw_trans, nw_back, better_is_second, better_alike, same_of_nw, best_value, best_of_fewer, best_over, over_best}
+use Rattle.pieces.specs.Windows.{Sees, IsNonEmpty, IsPieceFrom, Best, BestTo, Keeps, Stands, HasEntered}
+use Rattle.pieces.proofs.Bests.{Values, nw_trans, nw_back, better_is_first, better_is_second, better_alike, same_of_nw, best_value, best_of_fewer}
+use Rattle.pieces.proofs.Bests.{best_over, over_best}
 use Rattle.pieces.proofs.Ends.{at_most_trans}
-use Rattle.pieces.proofs.StepLemmas.{give_after, give_upto, to_end}
+use Rattle.pieces.proofs.StepLemmas.{all_above, give_after, give_upto, hide_upto, to_end}
 use Rattle.pieces.proofs.Seeing.{low, high, none, BestOf, floor, OfPiece, falling_within, met_more, all_seen, none_seen}
 
 module _ {P : Type 0} (shape : ShapeOf P) (laws : ShapeLaws shape) (chain : Chain P) (way : Way) (normal : IsNormal shape chain) where
-  -- what is best of what is seen up to a place, as a best and as a Sup or an Inf
-  abbrev SeenTo : Place → Rational → Rational → Type 0
+  -- what is seen from a time up to a place
+  abbrev pub SeenTo : Place → Rational → Rational → Type 0
   SeenTo met t u = Sees way.over t u × Upto met u
 
-  to_best : (met : Place) (t : Rational) (v : Extended) → BestTo shape chain way met t v → BestOf shape laws chain way normal (SeenTo met t) v
+  -- its Sup or its Inf is the best of it
+  pub to_best : (met : Place) (t : Rational) (v : Extended) → BestTo shape chain way met t v → BestOf shape laws chain way normal (SeenTo met t) v
   to_best met t v h = over_best way.side shape.lowest shape.highest (SeenTo met t) (IsWorth shape chain) v h
 
-  of_best : (met : Place) (t : Rational) (v : Extended) → BestOf shape laws chain way normal (SeenTo met t) v → BestTo shape chain way met t v
+  -- and the other way round
+  pub of_best : (met : Place) (t : Rational) (v : Extended) → BestOf shape laws chain way normal (SeenTo met t) v → BestTo shape chain way met t v
   of_best met t v h = best_over way.side shape.lowest shape.highest (SeenTo met t) (IsWorth shape chain) v h
 
   -- later less is seen of what has been met
-  pub falls_off : (met left : Place) (s : Sliding P) → Stands shape chain way met left s → HasEntered shape chain way met s
+  pub falls_off : (met reach left : Place) (s : Sliding P) → Keeps shape chain way met reach left s → HasEntered shape chain way met s
       → FallOff shape way.side (stop s.out) s.steps.items
-  falls_off met left s st entered t u v w order g k = best_of_fewer fewer (to_best met t v (st.gives t v g)) (to_best met u w (st.gives u w k))
+  falls_off met reach left s st entered t u v w order g k = best_of_fewer fewer (to_best met t v (st.gives t v g)) (to_best met u w (st.gives u w k))
     where
       fewer : (x : Extended) → Values (SeenTo met u) (IsWorth shape chain) x → Values (SeenTo met t) (IsWorth shape chain) x
       fewer x (z, ((a, b), k), h) =
@@ -52,7 +56,7 @@ module _ {P : Type 0} (shape : ShapeOf P) (laws : ShapeLaws shape) (chain : Chai
               by_side true h = lt_of_le_of_lt (le_shift way.over.low order) h
               by_side false h = le_trans (le_shift way.over.low order) h
 
-  module _ (met left : Place) (gap : P) (old new : Sliding P) (st : Stands shape chain way met left old)
+  module _ (met reach left : Place) (gap : P) (old new : Sliding P) (st : Keeps shape chain way met reach left old)
       (told : HasTold shape way.side gap old new) where
     -- what is told is the best, where the shape and what the steps give are the best of what will have been met
     pub tells_more : (met' : Place) → ((t : Rational) → After (stop old.out) t → Upto (stop new.out) t → ¬ Before met' (high shape laws chain way normal t))
@@ -64,10 +68,11 @@ module _ {P : Type 0} (shape : ShapeOf P) (laws : ShapeLaws shape) (chain : Chai
     ]
 
     -- the steps that are left go on giving it
-    pub stands_told : AtMost (stop new.out) (stop chain) → ((t : Rational) (v : Extended) → IsWorth shape new.out t v → Best shape chain way t v)
-        → (AtMost (stop new.out) chain.from ⊎ ((t : Rational) → Upto (stop new.out) t → ¬ Before met (high shape laws chain way normal t)))
-        → Stands shape chain way met left new
-    stands_told upto tells reached = record {
+    pub keeps_told : (reach' : Place) → AtMost (stop new.out) (stop chain) → ((t : Rational) (v : Extended) → IsWorth shape new.out t v
+        → Best shape chain way t v)
+        → (AtMost (stop new.out) chain.from ⊎ ((t : Rational) → Upto (stop new.out) t → ¬ Before reach' (high shape laws chain way normal t)))
+        → Keeps shape chain way met reach' left new
+    keeps_told reach' upto tells reached = record {
       normal = told.normal;
       begins = told.begins ∙ st.begins;
       on = at_most_trans chain.from (stop old.out) (stop new.out) st.on told.on;
@@ -79,6 +84,20 @@ module _ {P : Type 0} (shape : ShapeOf P) (laws : ShapeLaws shape) (chain : Chai
       none = λ t a u x y s k. st.none t (told.left t a) u x y s k;
       reached = reached;
     }
+
+  -- it has still come no further than a place, where it has told up to there at most
+  pub reached_on : (c reach a b next : Place) → ((t : Rational) → Before reach (high shape laws chain way normal t)
+      → Before c (high shape laws chain way normal t))
+      → (AtMost a chain.from ⊎ ((t : Rational) → Upto a t → ¬ Before c (high shape laws chain way normal t))) → AtMost b next
+      → (AtMost next a ⊎ ((t : Rational) → Upto next t → ¬ Before reach (high shape laws chain way normal t)))
+      → AtMost b chain.from ⊎ ((t : Rational) → Upto b t → ¬ Before reach (high shape laws chain way normal t))
+  reached_on c reach a b next further before upto one = elim one [
+    | inl h ↦ elim before [
+      | inl k ↦ inl (at_most_trans b a chain.from (at_most_trans b next a upto h) k)
+      | inr k ↦ inr (λ t u f. k t (h t (upto t u)) (further t f))
+    ]
+    | inr h ↦ inr (λ t u. h t (upto t u))
+  ]
 
   -- what is told where the shape is never better than no value
   pub best_with_none : (met left : Place) (gap : P) (old : Sliding P) → Stands shape chain way met left old → AtMost met left
@@ -96,8 +115,8 @@ module _ {P : Type 0} (shape : ShapeOf P) (laws : ShapeLaws shape) (chain : Chai
       of_best met t v (best_value (symᵉ (transᵉ w (is t))) (none_seen shape laws chain way normal met t
       (λ x y s k. st.none t a u x y s (most x k))))
 
-  module _ (some : IsNonEmpty way.over) (c left : Place) (p : Piece P) (is : IsPieceFrom shape chain c p) (old new : Sliding P)
-      (st : Stands shape chain way c c old) (out : new.out ≡ old.out) where
+  module _ (some : IsNonEmpty way.over) (c reach left : Place) (p : Piece P) (is : IsPieceFrom shape chain c p) (old new : Sliding P)
+      (st : Keeps shape chain way c reach c old) (further : AtMost reach (end p)) (out : new.out ≡ old.out) where
     -- the piece counts by a constant
     pub stands_counted : (k : P) (e : Place) → HasCounted shape way.side (stop old.out) old.steps.items k e new.steps.items
         → ((t : Rational) → After (stop old.out) t → Upto e t
@@ -116,7 +135,7 @@ module _ {P : Type 0} (shape : ShapeOf P) (laws : ShapeLaws shape) (chain : Chai
       sees = λ t v g. sees t (before_end t v (in_old t v g));
       none = λ t a u x y s h. absurd (past t (after_end t a) u (before_through (low shape laws chain way normal t) left x s.0 h));
       reached = subst (λ o. AtMost (stop o) chain.from ⊎ ((t : Rational) → Upto (stop o) t → ¬ Before (end p) (high shape laws chain way normal t))) (sym out)
-          (elim st.reached [ inl h ↦ inl h | inr h ↦ inr (λ t u b. h t u (before_trans c (end p) (high shape laws chain way normal t) is.order b)) ]);
+          (elim st.reached [ inl h ↦ inl h | inr h ↦ inr (λ t u b. h t u (before_of_at_most reach (end p) (high shape laws chain way normal t) further b)) ]);
     }
       where
         in_old : (t : Rational) (v : Extended) → StepsGive shape way.side (stop new.out) new.steps.items t v
@@ -159,7 +178,7 @@ module _ {P : Type 0} (shape : ShapeOf P) (laws : ShapeLaws shape) (chain : Chai
       sees = λ t v g. absurd (no_step t v (in_old t v g));
       none = λ t a u x y s h. absurd (past t (behind t (begin_after t a)) u (before_through (low shape laws chain way normal t) left x s.0 h));
       reached = subst (λ o. AtMost (stop o) chain.from ⊎ ((t : Rational) → Upto (stop o) t → ¬ Before (end p) (high shape laws chain way normal t))) (sym out)
-          (elim st.reached [ inl h ↦ inl h | inr h ↦ inr (λ t u b. h t u (before_trans c (end p) (high shape laws chain way normal t) is.order b)) ]);
+          (elim st.reached [ inl h ↦ inl h | inr h ↦ inr (λ t u b. h t u (before_of_at_most reach (end p) (high shape laws chain way normal t) further b)) ]);
     }
       where
         in_old : (t : Rational) (v : Extended) → StepsGive shape way.side (stop new.out) new.steps.items t v
@@ -174,6 +193,44 @@ module _ {P : Type 0} (shape : ShapeOf P) (laws : ShapeLaws shape) (chain : Chai
         no_step : (t : Rational) (v : Extended) → StepsGive shape way.side (stop old.out) old.steps.items t v → ⊥
         no_step t v g = past t (behind t (give_after shape way.side (stop old.out) old.steps.items t v st.steps g)) (st.sees t v g).1
             (before_at_most (low shape laws chain way normal t) c left (st.sees t v g).0 most)
+
+    -- or not at all, where the steps that go on as far are no worse
+    pub stands_hidden : new.steps.items ≡ old.steps.items → (v : Extended) (e : Place) → FallOff shape way.side (stop old.out) old.steps.items
+        → HideTo shape way.side old.steps.items v e
+        → ((t : Rational) → After (stop old.out) t → Upto (stop chain) t → Before (low shape laws chain way normal t) left
+        → BestOf shape laws chain way normal (OfPiece shape laws chain way normal some c p is t) v)
+        → ((t : Rational) → After e t → Upto (stop chain) t → ¬ Before (low shape laws chain way normal t) left) → AtMost c left
+        → Stands shape chain way (end p) left new
+    stands_hidden same v e falls hides part past most = record {
+      normal = subst (λ o. IsNormal shape o) (sym out) st.normal;
+      begins = subst (λ o. o.from ≡ chain.from) (sym out) st.begins;
+      on = subst (λ o. AtMost chain.from (stop o)) (sym out) st.on;
+      upto = subst (λ o. AtMost (stop o) (stop chain)) (sym out) st.upto;
+      told = λ t v w. st.told t v (subst (λ o. IsWorth shape o t v) out w);
+      steps = subst (λ o. AreSteps shape way.side (stop o) new.steps.items) (sym out) (subst (AreSteps shape way.side (stop old.out)) (sym same) st.steps);
+      gives = λ t x g. by_old t x (in_old t x g);
+      sees = λ t x g. let s = st.sees t x (in_old t x g) in (before_at_most (low shape laws chain way normal t) c left s.0 most, s.1);
+      none = λ t a u x y s h. absurd (past t (after_at_most e (last_end old) t (hide_upto shape way.side (stop old.out) old.steps.items v e hides)
+          (end_after t a)) u (before_through (low shape laws chain way normal t) left x s.0 h));
+      reached = subst (λ o. AtMost (stop o) chain.from ⊎ ((t : Rational) → Upto (stop o) t → ¬ Before (end p) (high shape laws chain way normal t))) (sym out)
+          (elim st.reached [ inl h ↦ inl h | inr h ↦ inr (λ t u b. h t u (before_of_at_most reach (end p) (high shape laws chain way normal t) further b)) ]);
+    }
+      where
+        in_old : (t : Rational) (x : Extended) → StepsGive shape way.side (stop new.out) new.steps.items t x
+            → StepsGive shape way.side (stop old.out) old.steps.items t x
+        in_old t x g = subst (λ xs. StepsGive shape way.side (stop old.out) xs t x) same
+            (subst (λ o. StepsGive shape way.side (stop o) new.steps.items t x) out g)
+
+        end_after : (t : Rational) → After (last_end new) t → After (last_end old) t
+        end_after t a = subst (λ xs. After (steps_end (stop old.out) xs) t) same (subst (λ o. After (steps_end (stop o) new.steps.items) t) out a)
+
+        by_old : (t : Rational) (x : Extended) → StepsGive shape way.side (stop old.out) old.steps.items t x → BestTo shape chain way (end p) t x
+        by_old t x g =
+            let s = st.sees t x g in
+            of_best (end p) t x (met_more shape laws chain way normal some c p is t (to_best c t x (st.gives t x g))
+            (part t (give_after shape way.side (stop old.out) old.steps.items t x st.steps g) s.1
+            (before_at_most (low shape laws chain way normal t) c left s.0 most))
+            (better_is_first way.side x v (all_above shape way.side (stop old.out) old.steps.items v e st.steps falls hides t x g)))
 
   module _ (some : IsNonEmpty way.over) (c : Place) (p : Piece P) (is : IsPieceFrom shape chain c p) (old new : Sliding P)
       (st : Stands shape chain way (end p) c old) (out : new.out ≡ old.out) (entered : HasEntered shape chain way c old)

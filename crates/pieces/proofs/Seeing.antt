@@ -20,7 +20,7 @@ use Rattle.pieces.proofs.Bests.{IsBest, Values, nw_same, best_alike, best_value,
 use Rattle.pieces.proofs.Telling.{worth_is_function}
 
 -- the later of two places
-record IsLaterOf (c d b : Place) : Type 0 where
+pub record IsLaterOf (c d b : Place) : Type 0 where
   -- what lies behind it lies behind both
   pub both : (u : Rational) → After b u → After c u × After d u
   -- what lies behind both lies behind it
@@ -28,7 +28,7 @@ record IsLaterOf (c d b : Place) : Type 0 where
   -- and it comes before what both come before
   pub before : (e : Place) → Before c e → Before d e → Before b e
 
-later_place : (c d : Place) → (b : Place) × IsLaterOf c d b
+pub later_place : (c d : Place) → (b : Place) × IsLaterOf c d b
 later_place c d = elim (place_order c d) as (λ o. (b : Place) × IsLaterOf c d b) [
   | inl h ↦ (d, record { both = λ u a. (after_of_before c d u h a, a); of_both = λ u a k. k; before = λ e h k. k })
   | inr o ↦ elim o as (λ o. (b : Place) × IsLaterOf c d b) [
@@ -38,7 +38,7 @@ later_place c d = elim (place_order c d) as (λ o. (b : Place) × IsLaterOf c d 
 ]
 
 -- the earlier of two places
-record IsEarlierOf (c d e : Place) : Type 0 where
+pub record IsEarlierOf (c d e : Place) : Type 0 where
   -- what lies before it lies before both
   pub both : (u : Rational) → Upto e u → Upto c u × Upto d u
   -- what lies before both lies before it
@@ -46,7 +46,7 @@ record IsEarlierOf (c d e : Place) : Type 0 where
   -- and what comes before both comes before it
   pub after : (b : Place) → Before b c → Before b d → Before b e
 
-earlier_place : (c d : Place) → (e : Place) × IsEarlierOf c d e
+pub earlier_place : (c d : Place) → (e : Place) × IsEarlierOf c d e
 earlier_place c d = elim (place_order c d) as (λ o. (e : Place) × IsEarlierOf c d e) [
   | inl h ↦ (c, record { both = λ u a. (a, upto_of_before c d u h a); of_both = λ u a k. a; after = λ b h k. h })
   | inr o ↦ elim o as (λ o. (e : Place) × IsEarlierOf c d e) [

@@ -48,7 +48,7 @@ order_from_meeting f h l r meet = elim (le_totalᵉ (value_at f r) (value_at h r
 ]
 
 -- a function that is bounded between two places is bounded at their times
-bounded_ends : (n : ℕ) (c e : Place) (f : Affine) → Before c e → ((t : Rational) → After c t → Upto e t → IsBounded n (value_at f t))
+pub bounded_ends : (n : ℕ) (c e : Place) (f : Affine) → Before c e → ((t : Rational) → After c t → Upto e t → IsBounded n (value_at f t))
     → IsBounded n (value_at f c.at) × IsBounded n (value_at f e.at)
 bounded_ends n c e f (inl l) all = (
   bounded_start n f c.at e.at l (λ t x y. all t (after_of_lt c t x) (upto_of_lt e t y)),

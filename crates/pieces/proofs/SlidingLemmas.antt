@@ -27,8 +27,8 @@ use Rattle.pieces.specs.Best.{IsNoWorse, IsBetter, FallsFrom, RisesFrom}
 use Rattle.pieces.specs.Chains.{Chain, stop, HasShape, IsNormal, IsWorth}
 use Rattle.pieces.specs.Building.{GoesOn}
 use Rattle.pieces.specs.Joining.{Joins}
-use Rattle.pieces.specs.Steps.{step_end, steps_end, IsOfStep, IsWorthWith, CountsInside, Gives, StepsGive, AreSteps, IsOther}
-use Rattle.pieces.specs.Sliding.{IsOfSteps, last_end, IsCross, IsCrossFault, IsWritten, IsBestWith, HasTold, IsToldFault}
+use Rattle.pieces.specs.Steps.{IsOfSteps, step_end, steps_end, IsOfStep, IsWorthWith, CountsInside, Gives, StepsGive, AreSteps, IsOther}
+use Rattle.pieces.specs.Sliding.{last_end, IsCross, IsCrossFault, IsWritten, IsBestWith, HasTold, IsToldFault}
 use Rattle.pieces.proofs.Bests.{nw_trans, better_of_chosen, better_some, better_is_first}
 use Rattle.pieces.proofs.Ends.{after_le, upto_le, at_most_of_before, at_most_itself, at_most_trans}
 use Rattle.pieces.proofs.StepLemmas.{level_on}

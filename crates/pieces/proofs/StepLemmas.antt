@@ -16,8 +16,8 @@ use Rattle.value_laws.specs.Members.{ShapeOf}
 use Rattle.pl_signal.specs.declared.joining.Side.{Side}
 use Rattle.pieces.specs.declared.steps.Step.{Step}
 use Rattle.pieces.specs.Best.{IsNoWorse, IsWorse, IsBetter, FallsFrom}
-use Rattle.pieces.specs.Steps.{step_end, steps_end, IsOfStep, CountsInside, IsWorthWith, Gives, StepsGive, IsLevel, IsOther, IsStep, AreSteps}
-use Rattle.pieces.specs.Steps.{FallOff, IsHidden, Outlasts, IsCapped, HasCounted, HasSlid}
+use Rattle.pieces.specs.Steps.{step_end, steps_end, IsOfStep, IsOfSteps, CountsInside, IsWorthWith, Gives, StepsGive, IsLevel, IsOther, IsStep, AreSteps}
+use Rattle.pieces.specs.Steps.{FallOff, HideTo, IsHidden, Outlasts, IsCapped, HasCounted, HasSlid}
 use Rattle.pieces.proofs.Bests.{nw_trans, nw_same, nw_back, nw_of_worse, near_place}
 use Rattle.pieces.proofs.Bests.{better_some, better_is_first, better_is_second, better_alike}
 use Rattle.pieces.proofs.Ends.{after_le, upto_le, at_most_trans, same_place}
@@ -45,6 +45,23 @@ module _ {P : Type 0} where
   pub counts_back : (b : Place) (xs ys : List (Step P)) (tau : Rational) (q : P) → CountsInside (steps_end b xs) ys tau q → CountsInside b (xs ++ ys) tau q
   counts_back b [] ys tau q h = h
   counts_back b (x ∷ xs) ys tau q h = inr (counts_back (step_end x) xs ys tau q h)
+
+  -- the shapes of joined lists are those of both
+  pub of_in : (xs ys : List (Step P)) (q : P) → IsOfSteps (xs ++ ys) q → IsOfSteps xs q ⊎ IsOfSteps ys q
+  of_in [] ys q h = inr h
+  of_in (x ∷ xs) ys q (inl h) = inl (inl h)
+  of_in (x ∷ xs) ys q (inr h) = elim (of_in xs ys q h) [ inl k ↦ inl (inr k) | inr k ↦ inr k ]
+
+  -- a shape of the first is one of both
+  pub of_front : (xs ys : List (Step P)) (q : P) → IsOfSteps xs q → IsOfSteps (xs ++ ys) q
+  of_front [] ys q h = absurd h
+  of_front (x ∷ xs) ys q (inl h) = inl h
+  of_front (x ∷ xs) ys q (inr h) = inr (of_front xs ys q h)
+
+  -- and so is one of the second
+  pub of_back : (xs ys : List (Step P)) (q : P) → IsOfSteps ys q → IsOfSteps (xs ++ ys) q
+  of_back [] ys q h = h
+  of_back (x ∷ xs) ys q h = inr (of_back xs ys q h)
 
 module _ {P : Type 0} (shape : ShapeOf P) (side : Side) where
   -- what joined lists give
@@ -119,9 +136,15 @@ module _ {P : Type 0} (shape : ShapeOf P) (side : Side) where
   ]
 
   -- what a step gives is no worse than its shape, and one of its two is no worse than it
-  with_no_worse : (p : P) (o : Option P) (t : Rational) (v : Extended) → IsWorthWith shape side p o t v → IsNoWorse side v (value_at (shape.function p) t)
+  pub with_no_worse : (p : P) (o : Option P) (t : Rational) (v : Extended) → IsWorthWith shape side p o t v → IsNoWorse side v (value_at (shape.function p) t)
   with_no_worse p None t v g = nw_same side g
   with_no_worse p (Some q) t v g = g.left
+
+  -- nor is it worse than the other one
+  pub with_other : (p q : P) (o : Option P) (t : Rational) (v : Extended) → o ≡ Some q → IsWorthWith shape side p o t v
+      → IsNoWorse side v (value_at (shape.function q) t)
+  with_other p q None t v e g = absurd (cc)
+  with_other p q (Some r) t v e g = let same : r ≡ q = cc in subst (λ r. IsNoWorse side v (value_at (shape.function r) t)) same g.right
 
   -- what is constant between two places is so between places nearer
   pub level_on : {b e b' e' : Place} (p : P) → b.at ≤ʳ b'.at → e'.at ≤ʳ e.at → IsLevel shape side b e p → IsLevel shape side b' e' p
@@ -309,6 +332,7 @@ module _ {P : Type 0} (shape : ShapeOf P) (side : Side) where
       gives = λ t v g. absurd g;
       hidden = λ t x a g. c.hidden t x (subst (λ xs. StepsGive shape side b xs t x) c.same g);
       shapes = λ tau q h. absurd h;
+      of = λ q h. absurd h;
     }
 
     -- or one is better somewhere
@@ -320,6 +344,7 @@ module _ {P : Type 0} (shape : ShapeOf P) (side : Side) where
       gives = λ t v g. by_part t v (give_in b rest (left ∷ []) t v g);
       hidden = λ t x a g. by_old t x (subst (λ s. After s t) ends_left a) (give_in b rest (last ∷ c.gone) t x (in_parts t x g));
       shapes = λ tau q h. by_count tau q (counts_in b rest (left ∷ []) tau q h);
+      of = λ q h. by_shape q (of_in rest (left ∷ []) q h);
     }
       where
         all : old ≡ rest ++ (last ∷ c.gone)
@@ -400,6 +425,14 @@ module _ {P : Type 0} (shape : ShapeOf P) (side : Side) where
               )
             ]
 
+        by_shape : (q : P) → IsOfSteps rest q ⊎ IsOfSteps (left ∷ []) q → IsOfSteps old q ⊎ (q ≡ p)
+        by_shape q (inl h) = inl (subst (λ xs. IsOfSteps xs q) (sym all) (of_front rest (last ∷ c.gone) q h))
+        by_shape q (inr (inr h)) = absurd h
+        by_shape q (inr (inl h)) = elim (out.shapes q h) [
+          | inl m ↦ inl (subst (λ xs. IsOfSteps xs q) (sym all) (of_back rest (last ∷ c.gone) q (inl m)))
+          | inr m ↦ inr m
+        ]
+
     module _ (capped : List (Step P)) (e : Place) (c : IsCapped shape side b old p capped) (last : AtMost (steps_end b old) e) where
       in_old : (tau : Rational) (q : P) → CountsInside b old tau q ⊎ ((q ≡ p) × (b.at <ʳ tau) × (tau <ʳ (steps_end b old).at))
           → CountsInside b old tau q ⊎ ((q ≡ p) × (b.at <ʳ tau) × (tau <ʳ e.at))
@@ -413,6 +446,7 @@ module _ {P : Type 0} (shape : ShapeOf P) (side : Side) where
         ends = by_order (place_order (steps_end b capped) e);
         gives = λ t v g. inl (c.gives t v g);
         shapes = λ tau q h. in_old tau q (c.shapes tau q h);
+        of = c.of;
       }
         where
           by_order : Before (steps_end b capped) e ⊎ Same (steps_end b capped) e ⊎ Before e (steps_end b capped) → Same (steps_end b capped) e
@@ -429,8 +463,13 @@ module _ {P : Type 0} (shape : ShapeOf P) (side : Side) where
         ends = subst (λ x. Same x e) (sym (steps_end_append b capped (s ∷ []))) (subst (λ x. Same x e) (sym until) (same_place e));
         gives = λ t v g. by_part t v (give_in b capped (s ∷ []) t v g);
         shapes = λ tau q h. by_count tau q (counts_in b capped (s ∷ []) tau q h);
+        of = λ q h. by_shape q (of_in capped (s ∷ []) q h);
       }
         where
+          of_two : (q : P) → (q ≡ s.shape) ⊎ (s.other ≡ Some q) → q ≡ p
+          of_two q (inl m) = subst (λ x. q ≡ x) is m
+          of_two q (inr m) = absurd (cc)
+
           worth : (t : Rational) (v : Extended) → Gives shape side s t v → Passes (shape.function p) t v
           worth t v g = subst (λ q. Passes (shape.function q) t v) is (subst (λ o. IsWorthWith shape side s.shape o t v) none g)
 
@@ -461,14 +500,42 @@ module _ {P : Type 0} (shape : ShapeOf P) (side : Side) where
           by_count tau q (inl h) = in_old tau q (c.shapes tau q h)
           by_count tau q (inr (inr h)) = absurd h
           by_count tau q (inr (inl h)) = inr (
-            of_two h.2,
+            of_two q h.2,
             lt_of_le_of_lt (le_of_at_most b (steps_end b capped) (to_end b capped c.steps)) h.0,
             subst (λ x. tau <ʳ x.at) until h.1,
           )
-            where
-              of_two : (q ≡ s.shape) ⊎ (s.other ≡ Some q) → q ≡ p
-              of_two (inl m) = subst (λ x. q ≡ x) is m
-              of_two (inr m) = absurd (cc)
+
+          by_shape : (q : P) → IsOfSteps capped q ⊎ IsOfSteps (s ∷ []) q → IsOfSteps old q ⊎ (q ≡ p)
+          by_shape q (inl h) = c.of q h
+          by_shape q (inr (inl h)) = inr (of_two q h)
+          by_shape q (inr (inr h)) = absurd h
+
+  -- where the last step is no worse than a value, and nothing that they give is better later, all that they give is no worse
+  pub all_above : (b : Place) (ss : List (Step P)) (v : Extended) (e : Place) → AreSteps shape side b ss → FallOff shape side b ss
+      → HideTo shape side ss v e → (t : Rational) (x : Extended) → StepsGive shape side b ss t x → IsNoWorse side x v
+  all_above b ss v e steps falls hides t x g = by_part (give_in b hides.front (hides.last ∷ []) t x (subst (λ xs. StepsGive shape side b xs t x) hides.are g))
+    where
+      parts : AreSteps shape side b (hides.front ++ hides.last ∷ [])
+      parts = subst (AreSteps shape side b) hides.are steps
+
+      last : IsStep shape side (steps_end b hides.front) hides.last
+      last = (steps_back b hides.front (hides.last ∷ []) parts).0
+
+      by_part : StepsGive shape side b hides.front t x ⊎ StepsGive shape side (steps_end b hides.front) (hides.last ∷ []) t x → IsNoWorse side x v
+      by_part (inl h) =
+          let u = between (steps_end b hides.front) (step_end hides.last) last.later in
+          let y = gives_some hides.last u.0 in
+          nw_trans (falls t u.0 x y.0 (le_through (steps_end b hides.front) t u.0
+          (give_upto b hides.front t x (steps_front b hides.front (hides.last ∷ []) parts) h) u.1) g
+          (subst (λ xs. StepsGive shape side b xs u.0 y.0) (sym hides.are)
+          (give_back b hides.front (hides.last ∷ []) u.0 y.0 (inl (u.1, u.2, y.1))))) (hides.above u.0 y.0 y.1)
+      by_part (inr (inl h)) = hides.above t x h.2
+      by_part (inr (inr h)) = absurd h
+
+  -- and they go on to the place
+  pub hide_upto : (b : Place) (ss : List (Step P)) (v : Extended) (e : Place) → HideTo shape side ss v e → AtMost e (steps_end b ss)
+  hide_upto b ss v e hides = subst (λ s. AtMost e s) (sym (subst (λ xs. steps_end b xs ≡ step_end hides.last) (sym hides.are)
+      (steps_end_append b hides.front (hides.last ∷ [])))) hides.upto
 
   -- a shape that gets no better as a step of its own
   pub slope_step : (b c : Place) (until : Cut) (p : P) → AtMost b c → Before c (place until) → IsWithin (2 ^ 34) (place until).at
@@ -490,6 +557,7 @@ module _ {P : Type 0} (shape : ShapeOf P) (side : Side) where
       gives = λ t v g. inl g;
       past = λ t a. (after_at_most e (steps_end b old) t (at_most_of_not_before e (steps_end b old) n) a, a);
       shapes = λ tau q h. inl h;
+      of = λ q h. inl h;
     }
 
     -- a step follows
@@ -501,8 +569,13 @@ module _ {P : Type 0} (shape : ShapeOf P) (side : Side) where
       past = λ t a. let k = subst (λ x. After x t) (steps_end_append b old (s ∷ [])) a in
           (subst (λ x. After x t) until k, after_of_before (steps_end b old) (step_end s) t step.later k);
       shapes = λ tau q h. by_count tau q (counts_in b old (s ∷ []) tau q h);
+      of = λ q h. by_shape q (of_in old (s ∷ []) q h);
     }
       where
+        of_two : (q : P) → (q ≡ s.shape) ⊎ (s.other ≡ Some q) → q ≡ p
+        of_two q (inl m) = subst (λ x. q ≡ x) is m
+        of_two q (inr m) = absurd (cc)
+
         by_part : (t : Rational) (v : Extended) → StepsGive shape side b old t v ⊎ StepsGive shape side (steps_end b old) (s ∷ []) t v
             → StepsGive shape side b old t v ⊎ (After (steps_end b old) t × Upto e t × Passes (shape.function p) t v)
         by_part t v (inl g) = inl g
@@ -518,8 +591,9 @@ module _ {P : Type 0} (shape : ShapeOf P) (side : Side) where
             → CountsInside b old tau q ⊎ ((q ≡ p) × ((steps_end b old).at <ʳ tau) × (tau <ʳ e.at))
         by_count tau q (inl h) = inl h
         by_count tau q (inr (inr h)) = absurd h
-        by_count tau q (inr (inl h)) = inr (of_two h.2, h.0, subst (λ x. tau <ʳ x.at) until h.1)
-          where
-            of_two : (q ≡ s.shape) ⊎ (s.other ≡ Some q) → q ≡ p
-            of_two (inl m) = subst (λ x. q ≡ x) is m
-            of_two (inr m) = absurd (cc)
+        by_count tau q (inr (inl h)) = inr (of_two q h.2, h.0, subst (λ x. tau <ʳ x.at) until h.1)
+
+        by_shape : (q : P) → IsOfSteps old q ⊎ IsOfSteps (s ∷ []) q → IsOfSteps old q ⊎ ((q ≡ p) × Before (steps_end b old) e)
+        by_shape q (inl h) = inl h
+        by_shape q (inr (inl h)) = inr (of_two q h, subst (Before (steps_end b old)) until step.later)
+        by_shape q (inr (inr h)) = absurd h

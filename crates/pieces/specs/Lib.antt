@@ -9,3 +9,4 @@ pub mod Best
 pub mod Steps
 pub mod Sliding
 pub mod Windows
+pub mod Over

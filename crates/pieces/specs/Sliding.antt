@@ -1,5 +1,5 @@
 -- A window on its way: what it has told, and the steps that it will give; how it goes on under a shape that gets no worse.
-use Rattle.std.specs.Prelude.{◌≡◌, ◌⊎◌, ◌≤◌, ◌^◌, ℕ, List, [], ◌∷◌}
+use Rattle.std.specs.Prelude.{◌≡◌, ◌⊎◌, ◌≤◌, ◌^◌, ℕ, []}
 use Rattle.rational.specs.Time.{Rational, ◌≤ʳ◌, HasDenominator}
 use Rattle.rational.specs.Extended.{Extended, value_at, Passes}
 use Rattle.rational.specs.Affine.{MeetAlone}
@@ -15,14 +15,9 @@ use Rattle.pieces.specs.declared.steps.Step.{Step}
 use Rattle.pieces.specs.declared.sliding.Sliding.{Sliding}
 use Rattle.pieces.specs.Best.{IsBetter}
 use Rattle.pieces.specs.Chains.{Chain, stop, HasShape, IsNormal, IsWorth}
-use Rattle.pieces.specs.Steps.{AreSteps, CountsInside, Gives, IsOfStep, StepsGive, steps_end}
+use Rattle.pieces.specs.Steps.{AreSteps, CountsInside, Gives, IsOfStep, IsOfSteps, StepsGive, steps_end}
 
 module _ {P : Type 0} where
-  -- the shape is one of those of the steps
-  abbrev pub IsOfSteps : List (Step P) → P → Type 0
-  IsOfSteps [] p = ⊥
-  IsOfSteps (s ∷ ss) p = IsOfStep s p ⊎ IsOfSteps ss p
-
   -- where the window's steps end
   abbrev pub last_end : Sliding P → Place
   last_end s = steps_end (stop s.out) s.steps.items

@@ -1,5 +1,5 @@
 -- Steps down one after another, each up to a place: what they give at a time, and what becomes of them when a constant counts with them.
-use Rattle.std.specs.Prelude.{◌≡◌, ◌⊎◌, ◌^◌, List, [], ◌∷◌, Option, Some, None}
+use Rattle.std.specs.Prelude.{◌≡◌, ◌⊎◌, ◌^◌, List, [], ◌∷◌, ◌++◌, Option, Some, None}
 use Rattle.rational.specs.Rational.{IsWithin}
 use Rattle.rational.specs.Time.{Rational, ◌≤ʳ◌, ◌<ʳ◌}
 use Rattle.rational.specs.Extended.{Extended, value_at, Passes}
@@ -25,6 +25,11 @@ module _ {P : Type 0} where
   -- the shape is one of the step's two
   abbrev pub IsOfStep : Step P → P → Type 0
   IsOfStep s p = (p ≡ s.shape) ⊎ (s.other ≡ Some p)
+
+  -- the shape is one of those of the steps
+  abbrev pub IsOfSteps : List (Step P) → P → Type 0
+  IsOfSteps [] p = ⊥
+  IsOfSteps (s ∷ ss) p = IsOfStep s p ⊎ IsOfSteps ss p
 
   -- tau lies inside a step of which p is a shape
   abbrev pub CountsInside : Place → List (Step P) → Rational → P → Type 0
@@ -75,6 +80,14 @@ module _ {P : Type 0} (shape : ShapeOf P) (side : Side) where
   abbrev pub IsHidden : Place → Step P → P → Type 0
   IsHidden b s p = (t : Rational) (v : Extended) → After b t → Upto (step_end s) t → Gives s t v → IsNoWorse side (value_at (shape.function p) t) v
 
+  -- the last of the steps goes on to the place, and is no worse than the value at any time
+  pub record HideTo (ss : List (Step P)) (v : Extended) (e : Place) : Type 0 where
+    pub front : List (Step P)
+    pub last : Step P
+    pub are : ss ≡ front ++ last ∷ []
+    pub upto : AtMost e (step_end last)
+    pub above : (t : Rational) (x : Extended) → Gives last t x → IsNoWorse side x v
+
   -- the step that is left where the constant counts with one that is better somewhere
   pub record Outlasts (b : Place) (s : Step P) (p : P) (left : Step P) : Type 0 where
     pub until : left.until ≡ s.until
@@ -93,6 +106,7 @@ module _ {P : Type 0} (shape : ShapeOf P) (side : Side) where
     pub hidden : (t : Rational) (x : Extended) → After (steps_end b new) t → StepsGive b old t x → IsNoWorse side (value_at (shape.function p) t) x
     pub shapes : (tau : Rational) (q : P) → CountsInside b new tau q
         → CountsInside b old tau q ⊎ ((q ≡ p) × (b.at <ʳ tau) × (tau <ʳ (steps_end b old).at))
+    pub of : (q : P) → IsOfSteps new q → IsOfSteps old q ⊎ (q ≡ p)
 
   -- the new steps give the better of what the old ones give and of the constant, which counts up to the place e
   pub record HasCounted (b : Place) (old : List (Step P)) (p : P) (e : Place) (new : List (Step P)) : Type 0 where
@@ -102,6 +116,7 @@ module _ {P : Type 0} (shape : ShapeOf P) (side : Side) where
         → ((x : Extended) × StepsGive b old t x × IsBetter side x (value_at (shape.function p) t) v)
         ⊎ (After (steps_end b old) t × Upto e t × Passes (shape.function p) t v)
     pub shapes : (tau : Rational) (q : P) → CountsInside b new tau q → CountsInside b old tau q ⊎ ((q ≡ p) × (b.at <ʳ tau) × (tau <ʳ e.at))
+    pub of : (q : P) → IsOfSteps new q → IsOfSteps old q ⊎ (q ≡ p)
 
   -- the new steps give what the old ones give, and behind them the shape, up to the place e
   pub record HasSlid (b : Place) (old : List (Step P)) (p : P) (e : Place) (new : List (Step P)) : Type 0 where
@@ -110,3 +125,4 @@ module _ {P : Type 0} (shape : ShapeOf P) (side : Side) where
         → StepsGive b old t v ⊎ (After (steps_end b old) t × Upto e t × Passes (shape.function p) t v)
     pub past : (t : Rational) → After (steps_end b new) t → After e t × After (steps_end b old) t
     pub shapes : (tau : Rational) (q : P) → CountsInside b new tau q → CountsInside b old tau q ⊎ ((q ≡ p) × ((steps_end b old).at <ʳ tau) × (tau <ʳ e.at))
+    pub of : (q : P) → IsOfSteps new q → IsOfSteps old q ⊎ ((q ≡ p) × Before (steps_end b old) e)

@@ -1,16 +1,17 @@
 -- A window that moves with the time over a chain of pieces: what is seen from a time, the best of it, and what has been met.
-use Rattle.std.specs.Prelude.{◌≡◌, ◌⊎◌, ◌^◌, ℕ, Option, Bool, ℤ, ◌≤ℤ◌, ◌<ℤ◌, pos, neg_ℤ, not, IsTrue}
+use Rattle.std.specs.Prelude.{◌≡◌, ◌⊎◌, ◌^◌, ℕ, Option, Bool, ℤ, ◌≤ℤ◌, ◌<ℤ◌, ◌-ℤ◌, pos, neg_ℤ, not, IsTrue}
 use Rattle.rational.specs.Rational.{add, whole}
-use Rattle.rational.specs.Time.{Rational, ◌≤ʳ◌}
+use Rattle.rational.specs.Time.{Rational, ◌≤ʳ◌, ◌≈◌}
 use Rattle.rational.specs.Extended.{Extended, value_at}
 use Rattle.rational.specs.Places.{Place, After, Upto, Before, AtMost}
 use Rattle.rational.specs.Windows.{Function, Ahead, Behind, IsSupOver, IsInfOver}
 use Rattle.value_laws.specs.Members.{ShapeOf}
+use Rattle.pl_signal.specs.declared.joining.Side.{Side}
 use Rattle.pieces.specs.declared.piece.Piece.{Piece}
 use Rattle.pieces.specs.declared.reach.Reach.{Reach}
 use Rattle.pieces.specs.declared.reach.Way.{Way}
 use Rattle.pieces.specs.declared.sliding.Sliding.{Sliding}
-use Rattle.pieces.specs.Best.{IsBestOver}
+use Rattle.pieces.specs.Best.{IsBestOver, GetsNoBetter, GetsNoWorse}
 use Rattle.pieces.specs.Chains.{Chain, end, stop, HasShape, IsLimited, IsNormal, IsWorth}
 use Rattle.pieces.specs.Steps.{AreSteps, StepsGive}
 use Rattle.pieces.specs.Sliding.{last_end}
@@ -68,6 +69,16 @@ module _ {P : Type 0} (shape : ShapeOf P) where
     pub last : (stop chain).at ≤ʳ whole (pos (2 ^ 32))
     pub small : IsSmall over
 
+  -- where p moves it is q moved by an offset of the window, by the low one only where that leads from the time `here` to the other
+  abbrev pub IsAtEnd : Reach → P → Rational → Rational → P → Type 0
+  IsAtEnd over q time here p = IsTrue (shape.moves p) → IsTrue (shape.moves q)
+      × (((shape.base p ≡ shape.base q -ℤ over.low) × (add here (whole over.low) ≈ time)) ⊎ (shape.base p ≡ shape.base q -ℤ over.high))
+
+  -- the place is where the piece from c begins, and it gets no better, or where it ends, and it gets no worse
+  abbrev pub IsBestEnd : Side → Place → Piece P → Place → Type 0
+  IsBestEnd side c p best =
+      ((best ≡ c) × GetsNoBetter side (shape.function p.shape)) ⊎ ((best ≡ end p) × GetsNoWorse side (shape.function p.shape))
+
   -- the chain has the values of the piece from the place c until the piece ends
   pub record IsPieceFrom (chain : Chain P) (c : Place) (p : Piece P) : Type 0 where
     pub order : Before c (end p)
@@ -76,18 +87,22 @@ module _ {P : Type 0} (shape : ShapeOf P) where
     pub worth : (t : Rational) → After c t → Upto (end p) t → IsWorth shape chain t (value_at (shape.function p.shape) t)
     pub has : HasShape chain p.shape
 
+  -- at each time the best of what is seen
+  abbrev pub BestOver : Chain P → Reach → Side → Function
+  BestOver chain over side t r = IsBestOver side shape.lowest shape.highest (Sees over t) (IsWorth shape chain) r
+
   module _ (chain : Chain P) (way : Way) where
-    -- at each time the best of what is seen
+    -- so over the window on its way
     abbrev pub Best : Function
-    Best t r = IsBestOver way.side shape.lowest shape.highest (Sees way.over t) (IsWorth shape chain) r
+    Best t r = BestOver chain way.over way.side t r
 
     -- and the best of what is seen before a place
     abbrev pub BestTo : Place → Function
     BestTo met t r = IsBestOver way.side shape.lowest shape.highest (λ u. Sees way.over t u × Upto met u) (IsWorth shape chain) r
 
     -- what the window has told is the best of what is seen, and its steps give the best of what is seen before the place `met`, up to where
-    -- nothing is seen before the place `left`
-    pub record Stands (met left : Place) (s : Sliding P) : Type 0 where
+    -- nothing is seen before the place `left`; as far as it has told, its high end has come no further than the place `reach`
+    pub record Keeps (met reach left : Place) (s : Sliding P) : Type 0 where
       pub normal : IsNormal shape s.out
       pub begins : s.out.from ≡ chain.from
       pub on : AtMost chain.from (stop s.out)
@@ -100,7 +115,11 @@ module _ {P : Type 0} (shape : ShapeOf P) where
       pub none : (t : Rational) → After (last_end s) t → Upto (stop chain) t → (u : Rational) (v : Extended) → Sees way.over t u → Upto left u
           → ¬ IsWorth shape chain u v
       pub reached : AtMost (stop s.out) chain.from
-          ⊎ ((t : Rational) → Upto (stop s.out) t → ¬ Before met (high_place way.over.high way.over.high_in t))
+          ⊎ ((t : Rational) → Upto (stop s.out) t → ¬ Before reach (high_place way.over.high way.over.high_in t))
+
+    -- it has told no further than to where its high end comes to the place before which all is met
+    abbrev pub Stands : Place → Place → Sliding P → Type 0
+    Stands met left s = Keeps met met left s
 
     -- from where the window has told on, its high end lies behind the place
     abbrev pub HasEntered : Place → Sliding P → Type 0

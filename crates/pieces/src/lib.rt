@@ -19,6 +19,7 @@ mod steps;
 mod turning;
 mod until;
 mod window;
+mod windows;
 
 pub use piece::Piece;
 pub use pieces::Pieces;
@@ -26,3 +27,4 @@ pub use pointwise::{lower, upper};
 pub use signals::{pieces_of, signal_of};
 pub use since::since_from_start;
 pub use until::until_to_end;
+pub use windows::{inf_ahead, inf_behind, sup_ahead, sup_behind};

@@ -1,24 +1,138 @@
 //! The least and the greatest of a function of time over a window that moves with the time.
-ghost use Rattle.std.specs.Prelude.{◌≡◌, ◌⊎◌, ◌^◌, ◌≤ℤ◌, pos, false, IsTrue, None, OnOk};
-ghost use Rattle.rational.specs.Rational.{IsWithin, whole};
-ghost use Rattle.rational.specs.Time.{Rational, ◌≤ʳ◌};
+ghost use Rattle.std.specs.Prelude.{◌≡◌, ◌⊎◌, ◌^◌, ◌≤ℤ◌, neg_ℤ, pos, false, IsTrue, IfErr, IfOk, IfSome, None, OnErr, OnOk};
+ghost use Rattle.rational.specs.Rational.{IsWithin, add, whole};
+ghost use Rattle.rational.specs.Time.{Rational, ◌≤ʳ◌, ◌<ʳ◌, ◌≈◌};
 ghost use Rattle.rational.specs.Extended.{value_at, ◌≈ᵉ◌};
-ghost use Rattle.rational.specs.Affine.{IsSteady};
+ghost use Rattle.rational.specs.Affine.{HasBoundedLevel, IsBounded, IsSteady};
 ghost use Rattle.rational.specs.Places.{After, AtMost, Before, Upto};
 ghost use Rattle.frac128.specs.Value.{value as value_of};
 ghost use Rattle.frac128.specs.Cuts.{place};
-ghost use Rattle.pieces.specs.Best.{IsTrendFor, none_of};
-ghost use Rattle.pieces.specs.Chains.{stop};
-ghost use Rattle.pieces.specs.Windows.{CanSlide, HasEntered, IsNonEmpty, IsPieceFrom, IsSmall, Stands, high_place, low_place};
+ghost use Rattle.pl_signal.specs.declared.faults.OpFault.TheVariants as F;
+ghost use Rattle.courses.specs.Courses.{IsFixed, IsValueFault};
+ghost use Rattle.pieces.specs.Best.{GetsNoBetter, GetsNoWorse, IsNoWorse, IsTrendFor, none_of};
+ghost use Rattle.pieces.specs.Chains.{IsLimited, Tells, end, stop};
+ghost use Rattle.pieces.specs.Over.{BasesOver, HasBreaks, HasCauseOver, IsCauseOver, Plays};
+ghost use Rattle.pieces.specs.Sliding.{last_end};
+ghost use Rattle.pieces.specs.Steps.{HideTo};
+ghost use Rattle.pieces.specs.Windows.{AreNear, Best, BestOver, CanSlide, HasEntered, IsAtEnd, IsBestEnd, IsNonEmpty, IsPieceFrom, IsSmall};
+ghost use Rattle.pieces.specs.Windows.{Keeps, Stands, high_place, low_place};
 
-use crate::reach::{Reach, Way, at_high, entering, leaving};
+use crate::reach::{Reach, Way, at_high, at_low, entering, leaving};
 use crate::sliding::Sliding;
-use crate::steps::count;
+use crate::steps::{Step, count, slide};
 use crate::{Piece, Pieces};
-use frac128::{Cut, Memory};
-use pl_signal::{Side, WidePair};
+use frac128::{Cut, Frac, Memory};
+use pl_signal::{OpFault, Side, WidePair, fault_of, favour};
 use std::cmp::Ordering;
+use std::collections::VecDeque;
 use value_laws::Shape;
+
+/// At each time the Sup or the Inf of what the window sees; the value of no values where it sees nothing.
+///
+/// # Errors
+///
+/// `Wide` where a crossing of two shapes that count, or a value that counts, needs a denominator of 2^60 or more; `Memory` where memory
+/// is wanting.
+pub(crate) fn over_window<P: Shape>(
+    side: Side,
+    s: &Pieces<P>,
+    over: Reach,
+) -> Result<Pieces<P>, OpFault<P>>
+    requires limited { IsLimited P.Shape s.now }
+    requires near { AreNear P.Shape s.now }
+    requires first { whole (pos 0) ≤ʳ s.now.from.at }
+    requires last { (stop s.now).at ≤ʳ whole (pos (2 ^ 32)) }
+    requires small { IsSmall over }
+    ensures told { IfOk result (Tells P.Shape (BestOver P.Shape s.now over side) s.now.from (stop s.now)) }
+    ensures bases { IfOk result (BasesOver P.Shape s.now over) }
+    ensures wide { IfErr result (HasCauseOver P.Shape s.now over) }
+{
+    let way = Way {
+        side,
+        over,
+        to: s.until(),
+    };
+    let out = Pieces::with_room(s.alloc(), &s.from(), s.len())?;
+    let mut window = Sliding {
+        out,
+        steps: VecDeque::new(s.alloc()),
+    };
+    let mut fault = None;
+    match slide_over(s, &way, &mut window, &mut fault) {
+        Ok(()) => {
+            let Sliding { out, steps: _ } = window;
+            Ok(out)
+        }
+        Err(Memory) => Err(fault_of(fault)),
+    }
+}
+
+/// Moves the window over the chain, from where that begins to where it ends.
+fn slide_over<P: Shape>(
+    s: &Pieces<P>,
+    way: &Way,
+    window: &mut Sliding<P>,
+    fault: &mut Option<WidePair<P>>,
+) -> Result<(), Memory>
+    requires can { CanSlide P.Shape s.now way.now.over }
+    requires to { place way.now.to ≡ stop s.now }
+    requires begins { Stands P.Shape s.now way.now s.now.from s.now.from window.old }
+    requires plays { Plays P.Shape s.now way.now.over window.old }
+    requires none { fault.old ≡ None }
+    ensures told { OnOk result (Tells P.Shape (Best P.Shape s.now way.now) s.now.from (stop s.now) window.new.out) }
+    ensures plays { OnOk result (Plays P.Shape s.now way.now.over window.new) }
+    ensures wide { OnErr result (IfSome fault.new (IsCauseOver P.Shape s.now way.now.over)) }
+{
+    let none = of_none(way.side);
+    if is_empty(&way.over) {
+        return window.tell(way.side, &none, &way.to, fault);
+    }
+    let mut from = s.from();
+    enter(s, way, &from, window, fault)?;
+    for i in 0..s.len() {
+        let piece = s.piece(i);
+        meet(s, way, &from, piece, window, fault)?;
+        from = piece.until;
+    }
+    window.tell(way.side, &none, &way.to, fault)
+}
+
+/// Lets the window meet the next piece, which begins at `from`.
+fn meet<P: Shape>(
+    s: &Pieces<P>,
+    way: &Way,
+    from: &Cut,
+    piece: &Piece<P>,
+    window: &mut Sliding<P>,
+    fault: &mut Option<WidePair<P>>,
+) -> Result<(), Memory>
+    requires can { CanSlide P.Shape s.now way.now.over }
+    requires to { place way.now.to ≡ stop s.now }
+    requires some { IsNonEmpty way.now.over }
+    requires piece { IsPieceFrom P.Shape s.now (place from.now) piece.now }
+    requires stands { Stands P.Shape s.now way.now (place from.now) (place from.now) window.old }
+    requires entered { HasEntered P.Shape s.now way.now (place from.now) window.old }
+    requires breaks { HasBreaks P.Shape s.now (place from.now) piece.now }
+    requires plays { Plays P.Shape s.now way.now.over window.old }
+    requires none { fault.old ≡ None }
+    ensures stands { OnOk result (Stands P.Shape s.now way.now (end piece.now) (end piece.now) window.new) }
+    ensures entered { OnOk result (HasEntered P.Shape s.now way.now (end piece.now) window.new) }
+    ensures still { OnOk result (fault.new ≡ None) }
+    ensures plays { OnOk result (Plays P.Shape s.now way.now.over window.new) }
+    ensures wide { OnErr result (IfSome fault.new (IsCauseOver P.Shape s.now way.now.over)) }
+{
+    match trend(way.side, &piece.shape) {
+        Ordering::Equal => {
+            steady(s, way, from, piece, window)?;
+            enter(s, way, &piece.until, window, fault)
+        }
+        Ordering::Greater => rising(s, way, from, piece, window, fault),
+        Ordering::Less => {
+            falling(s, way, from, piece, window, fault)?;
+            enter(s, way, &piece.until, window, fault)
+        }
+    }
+}
 
 /// Tells up to where the window reaches past the place: up to there no more comes into it.
 fn enter<P: Shape>(
@@ -33,10 +147,13 @@ fn enter<P: Shape>(
     requires begins { AtMost s.now.from (place met.now) }
     requires ends { AtMost (place met.now) (stop s.now) }
     requires stands { Stands P.Shape s.now way.now (place met.now) (place met.now) window.old }
+    requires plays { Plays P.Shape s.now way.now.over window.old }
     requires none { fault.old ≡ None }
     ensures stands { OnOk result (Stands P.Shape s.now way.now (place met.now) (place met.now) window.new) }
     ensures entered { OnOk result (HasEntered P.Shape s.now way.now (place met.now) window.new) }
     ensures still { OnOk result (fault.new ≡ None) }
+    ensures plays { OnOk result (Plays P.Shape s.now way.now.over window.new) }
+    ensures wide { OnErr result (IfSome fault.new (IsCauseOver P.Shape s.now way.now.over)) }
 {
     // For the proof alone: over which chain the window moves.
     let _ = s;
@@ -59,7 +176,10 @@ fn steady<P: Shape>(
     requires trend { IsSteady (P.function piece.now.shape) }
     requires stands { Stands P.Shape s.now way.now (place from.now) (place from.now) window.old }
     requires entered { HasEntered P.Shape s.now way.now (place from.now) window.old }
-    ensures { OnOk result (Stands P.Shape s.now way.now (place piece.now.until) (place piece.now.until) window.new) }
+    requires breaks { HasBreaks P.Shape s.now (place from.now) piece.now }
+    requires plays { Plays P.Shape s.now way.now.over window.old }
+    ensures stands { OnOk result (Stands P.Shape s.now way.now (place piece.now.until) (place piece.now.until) window.new) }
+    ensures plays { OnOk result (Plays P.Shape s.now way.now.over window.new) }
 {
     // For the proof alone: where the piece stands in the chain.
     let _ = s;
@@ -71,6 +191,236 @@ fn steady<P: Shape>(
         return count(way.side, &at, &mut window.steps, &level, &until);
     }
     Ok(())
+}
+
+/// A piece that gets better counts as itself while the window's high end moves over it, and then by its last value.
+fn rising<P: Shape>(
+    s: &Pieces<P>,
+    way: &Way,
+    from: &Cut,
+    piece: &Piece<P>,
+    window: &mut Sliding<P>,
+    fault: &mut Option<WidePair<P>>,
+) -> Result<(), Memory>
+    requires can { CanSlide P.Shape s.now way.now.over }
+    requires to { place way.now.to ≡ stop s.now }
+    requires some { IsNonEmpty way.now.over }
+    requires piece { IsPieceFrom P.Shape s.now (place from.now) piece.now }
+    requires trend { GetsNoWorse way.now.side (P.function piece.now.shape) }
+    requires stands { Stands P.Shape s.now way.now (place from.now) (place from.now) window.old }
+    requires entered { HasEntered P.Shape s.now way.now (place from.now) window.old }
+    requires breaks { HasBreaks P.Shape s.now (place from.now) piece.now }
+    requires plays { Plays P.Shape s.now way.now.over window.old }
+    requires none { fault.old ≡ None }
+    ensures stands { OnOk result (Stands P.Shape s.now way.now (end piece.now) (end piece.now) window.new) }
+    ensures entered { OnOk result (HasEntered P.Shape s.now way.now (end piece.now) window.new) }
+    ensures still { OnOk result (fault.new ≡ None) }
+    ensures plays { OnOk result (Plays P.Shape s.now way.now.over window.new) }
+    ensures wide { OnErr result (IfSome fault.new (IsCauseOver P.Shape s.now way.now.over)) }
+{
+    let gap = at_high(&way.over, &piece.shape);
+    let next = reached(way, &piece.until, &window.out.until());
+    window.tell(way.side, &gap, &next, fault)?;
+    hold(s, way, from, piece, &piece.until, window, fault)
+}
+
+/// A piece that gets worse counts by its first value, and then as itself while the window's low end moves over it.
+fn falling<P: Shape>(
+    s: &Pieces<P>,
+    way: &Way,
+    from: &Cut,
+    piece: &Piece<P>,
+    window: &mut Sliding<P>,
+    fault: &mut Option<WidePair<P>>,
+) -> Result<(), Memory>
+    requires can { CanSlide P.Shape s.now way.now.over }
+    requires to { place way.now.to ≡ stop s.now }
+    requires some { IsNonEmpty way.now.over }
+    requires piece { IsPieceFrom P.Shape s.now (place from.now) piece.now }
+    requires trend { GetsNoBetter way.now.side (P.function piece.now.shape) }
+    requires stands { Stands P.Shape s.now way.now (place from.now) (place from.now) window.old }
+    requires entered { HasEntered P.Shape s.now way.now (place from.now) window.old }
+    requires breaks { HasBreaks P.Shape s.now (place from.now) piece.now }
+    requires plays { Plays P.Shape s.now way.now.over window.old }
+    requires none { fault.old ≡ None }
+    ensures stands { OnOk result (Stands P.Shape s.now way.now (end piece.now) (end piece.now) window.new) }
+    ensures still { OnOk result (fault.new ≡ None) }
+    ensures plays { OnOk result (Plays P.Shape s.now way.now.over window.new) }
+    ensures wide { OnErr result (IfSome fault.new (IsCauseOver P.Shape s.now way.now.over)) }
+{
+    hold(s, way, from, piece, from, window, fault)?;
+    let slope = at_low(&way.over, &piece.shape);
+    let until = left(way, &piece.until);
+    let at = window.out.until();
+    slide(way.side, &at, &mut window.steps, &slope, &until)
+}
+
+/// The best value of a piece, which it has at that one of its ends, counts until the window has left that end.
+fn hold<P: Shape>(
+    s: &Pieces<P>,
+    way: &Way,
+    from: &Cut,
+    piece: &Piece<P>,
+    best: &Cut,
+    window: &mut Sliding<P>,
+    fault: &mut Option<WidePair<P>>,
+) -> Result<(), Memory>
+    requires can { CanSlide P.Shape s.now way.now.over }
+    requires to { place way.now.to ≡ stop s.now }
+    requires some { IsNonEmpty way.now.over }
+    requires piece { IsPieceFrom P.Shape s.now (place from.now) piece.now }
+    requires best { IsBestEnd P.Shape way.now.side (place from.now) piece.now (place best.now) }
+    requires keeps { Keeps P.Shape s.now way.now (place from.now) (place best.now) (place from.now) window.old }
+    requires entered { HasEntered P.Shape s.now way.now (place best.now) window.old }
+    requires breaks { HasBreaks P.Shape s.now (place from.now) piece.now }
+    requires plays { Plays P.Shape s.now way.now.over window.old }
+    requires none { fault.old ≡ None }
+    ensures stands { OnOk result (Stands P.Shape s.now way.now (end piece.now) (place best.now) window.new) }
+    ensures past { OnOk result ((t : Rational) → After (last_end window.new) t → Upto (stop s.now) t
+        → ¬ Before (low_place way.now.over.low way.now.over.low_in t) (place best.now)) }
+    ensures out { window.new.out ≡ window.old.out }
+    ensures still { OnOk result (fault.new ≡ None) }
+    ensures plays { OnOk result (Plays P.Shape s.now way.now.over window.new) }
+    ensures wide { OnErr result (IfSome fault.new (IsCauseOver P.Shape s.now way.now.over)) }
+{
+    // For the proof alone: where the piece stands in the chain.
+    let _ = s;
+    let _ = from;
+    let until = left(way, best);
+    let at = window.out.until();
+    if !at.precedes(&until) {
+        return Ok(());
+    }
+    if is_hidden(way.side, &window.steps, &piece.shape, &best.time, &until) {
+        return Ok(());
+    }
+    let value = constant(way, &piece.shape, &best.time, &at, &until, fault)?;
+    count(way.side, &at, &mut window.steps, &value, &until)
+}
+
+/// Whether the last step goes on to the place, and what it gives is no worse than the value of the shape at the time, which then need not
+/// be known.
+fn is_hidden<P: Shape>(
+    side: Side,
+    steps: &VecDeque<Step<P>>,
+    shape: &P,
+    time: &Frac,
+    until: &Cut,
+) -> bool
+    requires within { IsWithin (2 ^ 34) (value_of time.now) }
+    ensures { IsTrue result → HideTo P.Shape side steps.now.items (value_at (P.function shape.now) (value_of time.now)) (place until.now) }
+{
+    let Some(last) = steps.back() else {
+        return false;
+    };
+    if last.until.precedes(until) {
+        return false;
+    }
+    if let Some(other) = &last.other {
+        if stays_above(side, other, shape, time) {
+            return true;
+        }
+    }
+    stays_above(side, &last.shape, shape, time)
+}
+
+/// Whether a shape is constant, and no worse than the value of another one at the time.
+fn stays_above<P: Shape>(side: Side, level: &P, shape: &P, time: &Frac) -> bool
+    requires within { IsWithin (2 ^ 34) (value_of time.now) }
+    ensures { IsTrue result → (t : Rational)
+        → IsNoWorse side (value_at (P.function level.now) t) (value_at (P.function shape.now) (value_of time.now)) }
+{
+    match level.rises() {
+        Ordering::Equal => match favour(side, level, shape, time) {
+            Ordering::Greater => false,
+            _ => true,
+        },
+        _ => false,
+    }
+}
+
+/// A shape that has between the two places the value of a shape at a time. Where the places are of one time it is the shape itself, moved:
+/// one of the window's ends comes to the time there, and nothing is refused.
+///
+/// # Errors
+///
+/// `Memory` where the value needs a denominator of 2^60 or more: it is then in `fault`.
+fn constant<P: Shape>(
+    way: &Way,
+    shape: &P,
+    time: &Frac,
+    from: &Cut,
+    until: &Cut,
+    fault: &mut Option<WidePair<P>>,
+) -> Result<P, Memory>
+    requires from { whole (pos 0) ≤ʳ value_of from.now.time }
+    requires to { value_of from.now.time ≤ʳ whole (pos (2 ^ 32)) }
+    requires small { IsSmall way.now.over }
+    requires near { (neg_ℤ (pos (2 ^ 32)) ≤ℤ P.base shape.now) × (P.base shape.now ≤ℤ pos (2 ^ 33)) }
+    requires within { IsWithin (2 ^ 34) (value_of time.now) }
+    requires bounded { IsBounded (2 ^ 31) (value_at (P.function shape.now) (value_of time.now)) }
+    requires order { value_of from.now.time ≤ʳ value_of until.now.time }
+    requires one { value_of from.now.time ≈ value_of until.now.time
+        → (add (value_of from.now.time) (whole way.now.over.low) ≈ value_of time.now)
+        ⊎ (add (value_of from.now.time) (whole way.now.over.high) ≈ value_of time.now) }
+    requires none { fault.old ≡ None }
+    ensures value { IfOk result (λ p. (t : Rational) → value_of from.now.time ≤ʳ t → t ≤ʳ value_of until.now.time
+        → value_at (P.function p) t ≈ᵉ value_at (P.function shape.now) (value_of time.now)) }
+    ensures level { IfOk result (λ p. HasBoundedLevel (2 ^ 31) (P.function p)) }
+    ensures base { IfOk result (IsAtEnd P.Shape way.now.over shape.now (value_of time.now) (value_of from.now.time)) }
+    ensures fixed { IfOk result (λ p. value_of from.now.time <ʳ value_of until.now.time → IsFixed P.Shape shape.now (value_of time.now) p) }
+    ensures still { OnOk result (fault.new ≡ None) }
+    ensures wide { OnErr result (IfSome fault.new (λ pair. (value_of from.now.time <ʳ value_of until.now.time)
+        × IsValueFault P.Shape shape.now time.now (F.Wide pair))) }
+{
+    match from.time.cmp(&until.time) {
+        Ordering::Less => fixed(shape, time, fault),
+        _ => Ok(at_end(&way.over, shape, time, &from.time)),
+    }
+}
+
+/// The constant with the value at a time. What is refused is put into `fault`.
+///
+/// # Errors
+///
+/// `Memory` where the value needs a denominator of 2^60 or more.
+fn fixed<P: Shape>(shape: &P, time: &Frac, fault: &mut Option<WidePair<P>>) -> Result<P, Memory>
+    requires within { IsWithin (2 ^ 34) (value_of time.now) }
+    requires bounded { IsBounded (2 ^ 31) (value_at (P.function shape.now) (value_of time.now)) }
+    requires none { fault.old ≡ None }
+    ensures value { IfOk result (IsFixed P.Shape shape.now (value_of time.now)) }
+    ensures stays { IfOk result (λ p. P.moves p ≡ false) }
+    ensures still { OnOk result (fault.new ≡ None) }
+    ensures wide { OnErr result (IfSome fault.new (λ pair. IsValueFault P.Shape shape.now time.now (F.Wide pair))) }
+{
+    match shape.fix(time) {
+        Ok(value) => Ok(value),
+        Err(wide) => {
+            *fault = Some(WidePair::Value {
+                p: *shape,
+                at: *time,
+                den: wide.den,
+            });
+            Err(Memory)
+        }
+    }
+}
+
+/// The shape that has at the time `here` the value of a shape at another, to which an end of the window comes at `here`.
+fn at_end<P: Shape>(over: &Reach, shape: &P, time: &Frac, here: &Frac) -> P
+    requires from { whole (pos 0) ≤ʳ value_of here.now }
+    requires to { value_of here.now ≤ʳ whole (pos (2 ^ 32)) }
+    requires small { IsSmall over.now }
+    requires near { (neg_ℤ (pos (2 ^ 32)) ≤ℤ P.base shape.now) × (P.base shape.now ≤ℤ pos (2 ^ 33)) }
+    requires one { (add (value_of here.now) (whole over.now.low) ≈ value_of time.now)
+        ⊎ (add (value_of here.now) (whole over.now.high) ≈ value_of time.now) }
+    ensures value { value_at (P.function result) (value_of here.now) ≈ᵉ value_at (P.function shape.now) (value_of time.now) }
+    ensures base { IsAtEnd P.Shape over.now shape.now (value_of time.now) (value_of here.now) result }
+{
+    match here.shift(over.low).cmp(time) {
+        Ordering::Equal => at_low(over, shape),
+        _ => at_high(over, shape),
+    }
 }
 
 /// The place from which on the window reaches past the place `met`, in the domain, and no earlier than `at`.

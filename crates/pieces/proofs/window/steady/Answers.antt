@@ -20,6 +20,8 @@ use Rattle.pieces.proofs.Ends.{at_most_of_before, at_most_trans}
 use Rattle.pieces.proofs.StepLemmas.{give_some}
 use Rattle.pieces.proofs.Seeing.{steady_met}
 use Rattle.pieces.proofs.Moving.{falls_off, stands_counted, stands_left}
+use Rattle.pieces.proofs.Counted.{steady_plays}
+use Rattle.pieces.proofs.Played.{plays_counted}
 use Rattle.pieces.proofs.window.steady.Given.{Over}
 use Rattle.pieces.proofs.window.steady.Goals.{Start}
 use Rattle.pieces.proofs.window.steady.Goals as goal
@@ -45,7 +47,7 @@ count-requires-clause-from_within g c = subst (λ s. IsWithin (2 ^ 34) s.at) (sy
 pub count-requires-clause-falls : goal.count-requires-clause-falls
 count-requires-clause-falls g c = subst (λ s. FallOff g.P.Shape c.args.way.now.side s c.args.window.now.steps.items) (sym c.until-at.ensures.value)
     (falls_off g.P.Shape (assumption g.met.P.Shape) c.args.s.now c.args.way.now c.requires.can.normal (place c.args.from.now) (place c.args.from.now)
-    c.args.window.now c.requires.stands c.requires.entered)
+    (place c.args.from.now) c.args.window.now c.requires.stands c.requires.entered)
 
 pub count-requires-clause-level : goal.count-requires-clause-level
 count-requires-clause-level g c =
@@ -76,16 +78,17 @@ count-requires-clause-last g c =
       ]
     ]
 
-pub returns-then-precedes : goal.returns-then-precedes
-returns-then-precedes g c =
+pub returns-then-precedes-clause-stands : goal.returns-then-precedes-clause-stands
+returns-then-precedes-clause-stands g c =
     let laws : ShapeLaws g.P.Shape = assumption g.met.P.Shape in
     let s = c.args.s.now in
     let way = c.args.way.now in
     let from = place c.args.from.now in
     let piece = c.args.piece.now in
     let f = g.P.Shape.function piece.shape in
-    on_ok_weaker c.count.result (λ counted. stands_counted g.P.Shape laws s way c.requires.can.normal c.requires.some from (end piece) piece
-    c.requires.piece c.args.window.now (record { out = c.args.window.now.out; steps = c.count.new.steps }) c.requires.stands refl
+    on_ok_weaker c.count.result (λ counted. stands_counted g.P.Shape laws s way c.requires.can.normal c.requires.some from from (end piece) piece
+    c.requires.piece c.args.window.now (record { out = c.args.window.now.out; steps = c.count.new.steps }) c.requires.stands
+    (at_most_of_before from (end piece) c.requires.piece.order) refl
     c.at_high-level.result (place c.left-until.result)
     (subst (λ b. HasCounted g.P.Shape way.side b c.args.window.now.steps.items c.at_high-level.result (place c.left-until.result)
     c.count.new.steps.items) c.until-at.ensures.value counted)
@@ -96,13 +99,31 @@ returns-then-precedes g c =
     (λ t u. let seen = c.left-until.ensures.upto t u in (seen.0, subst (λ b. Upto b t) c.requires.to seen.1))
     (λ t a u. c.left-until.ensures.after t a (subst (λ b. Upto b t) (sym c.requires.to) u))) c.count.ensures
 
-pub returns : goal.returns
-returns g c =
+pub returns-clause-stands : goal.returns-clause-stands
+returns-clause-stands g c =
     let at = stop c.args.window.now.out in
     let e = place c.left-until.result in
     stands_left g.P.Shape (assumption g.met.P.Shape) c.args.s.now c.args.way.now c.requires.can.normal c.requires.some (place c.args.from.now)
-    (end c.args.piece.now) c.args.piece.now c.requires.piece c.args.window.now c.args.window.now c.requires.stands refl refl e
+    (place c.args.from.now) (end c.args.piece.now) c.args.piece.now c.requires.piece c.args.window.now c.args.window.now c.requires.stands
+    (at_most_of_before (place c.args.from.now) (end c.args.piece.now) c.requires.piece.order) refl refl e
     (λ t a. after_at_most e at t (at_most_of_not_before e at (λ b. false≢true (sym c.if-precedes.false ∙ c.precedes.ensures.1
     (subst (λ x. Before x e) (sym c.until-at.ensures.value) b)))) a)
     (λ t a u. c.left-until.ensures.after t a (subst (λ b. Upto b t) (sym c.requires.to) u))
     (at_most_of_before (place c.args.from.now) (end c.args.piece.now) c.requires.piece.order)
+
+pub returns-then-precedes-clause-plays : goal.returns-then-precedes-clause-plays
+returns-then-precedes-clause-plays g c =
+    let s = c.args.s.now in
+    let way = c.args.way.now in
+    let old = c.args.window.now in
+    let piece = c.args.piece.now in
+    let until = place c.left-until.result in
+    let lasts : AtMost until (stop s) = λ t u. subst (λ b. Upto b t) c.requires.to (c.left-until.ensures.upto t u).1 in
+    on_ok_weaker c.count.result (λ counted. plays_counted g.P.Shape s way.over way.side old (record { out = old.out; steps = c.count.new.steps })
+    c.requires.plays refl c.at_high-level.result until
+    (λ m. let b = c.at_high-level.ensures.base m in (piece.shape, c.requires.piece.has, b.0, inl b.1))
+    (steady_plays g.P.Shape s way.over c.requires.can.normal c.requires.can.small c.requires.some (place c.args.from.now) piece c.requires.piece
+    (stop old.out) until c.requires.breaks c.requires.trend (λ t a u. c.requires.entered t a (lasts t u)) (λ t a u. (c.left-until.ensures.upto t u).0)
+    (g.P.Shape.function c.at_high-level.result) c.at_high-level.ensures.value)
+    (subst (λ b. HasCounted g.P.Shape way.side b old.steps.items c.at_high-level.result until c.count.new.steps.items) c.until-at.ensures.value counted))
+    c.count.ensures

@@ -1,0 +1,126 @@
+-- A window that goes over a whole chain: where it begins, the pieces that it meets, and what it has told once it is behind the last.
+use Rattle.std.proofs.Common.{◌≡◌, ◌⊎◌, inl, inr, ℕ, [], Some, not, false, refl, sym, ap, ◌∙◌, subst}
+use Rattle.std.specs.Prelude.{slice_get, MatchBool}
+use Rattle.rational.specs.Time.{Rational, ◌≤ʳ◌, ◌<ʳ◌, ◌≈◌, add, whole}
+use Rattle.rational.specs.Extended.{Extended, value_at, ◌≈ᵉ◌}
+use Rattle.rational.specs.Places.{Place, AtMost, Same}
+use Rattle.rational.proofs.Order.{not_lt_of_le, same_sym}
+use Rattle.rational.proofs.Shift.{same_shift}
+use Rattle.rational.proofs.TimeFunctions.{IsFunction}
+use Rattle.rational.proofs.PlaceLemmas.{after_same, before_at_most, before_of_at_most, not_both, upto_same}
+use Rattle.value_laws.specs.Members.{ShapeOf, ShapeLaws}
+use Rattle.pieces.specs.declared.piece.Piece.{Piece}
+use Rattle.pieces.specs.declared.reach.Reach.{Reach}
+use Rattle.pieces.specs.declared.reach.Way.{Way}
+use Rattle.pieces.specs.declared.sliding.Sliding.{Sliding}
+use Rattle.pieces.specs.Chains.{Chain, begin_at, stop, IsNormal, IsWorth, Tells}
+use Rattle.pieces.specs.Steps.{AreSteps, StepsGive}
+use Rattle.pieces.specs.Sliding.{HasTold}
+use Rattle.pieces.specs.Windows.{Best, BestTo, IsPieceFrom, Sees, Stands, high_place, low_place}
+use Rattle.pieces.proofs.Bests.{best_alike, best_once, best_over, best_value, over_best}
+use Rattle.pieces.proofs.BuildingLemmas.{chain_of}
+use Rattle.pieces.proofs.ChainLemmas.{to_stop, worth_after, worth_upto}
+use Rattle.pieces.proofs.Ends.{after_le, at_most_itself, same_place, upto_le}
+use Rattle.pieces.proofs.Moving.{best_with_none, of_best, to_best}
+use Rattle.pieces.proofs.Seeing.{high, low, none}
+use Rattle.pieces.proofs.Standing.{begin_most, end_most, rises_at, shape_at, worth_place}
+use Rattle.pieces.proofs.Telling.{told as tells}
+
+-- a window of one offset with an end out sees nothing
+pub sees_nothing : (over : Reach) → (over.low ≡ over.high) × ((over.low_in ≡ false) ⊎ (over.high_in ≡ false)) → (t u : Rational) → ¬ Sees over t u
+sees_nothing over (e, inl f) t u s = not_lt_of_le (upto_le (high_place over.high over.high_in t) u s.1) (subst (λ k. add t (whole k) <ʳ u) e
+    (subst (λ b. MatchBool (not b) (add t (whole over.low) <ʳ u) (add t (whole over.low) ≤ʳ u)) f s.0))
+sees_nothing over (e, inr f) t u s =
+    not_lt_of_le (subst (λ k. add t (whole k) ≤ʳ u) e (after_le (low_place over.low over.low_in t) u s.0))
+    (subst (λ b. MatchBool b (u ≤ʳ add t (whole over.high)) (u <ʳ add t (whole over.high))) f s.1)
+
+module _ {P : Type 0} (shape : ShapeOf P) (laws : ShapeLaws shape) (chain : Chain P) (way : Way) (normal : IsNormal shape chain) where
+  -- the best of what is seen is a function of time
+  pub best_is_function : IsFunction (Best shape chain way)
+  best_is_function = record {
+    alike = λ t u v w e f h. best_over way.side shape.lowest shape.highest (Sees way.over u) (IsWorth shape chain) w (best_value f
+        (best_alike (λ x m. (m.0, seen t u e m.0 m.1, m.2)) (λ x m. (m.0, seen u t (same_sym e) m.0 m.1, m.2))
+        (over_best way.side shape.lowest shape.highest (Sees way.over t) (IsWorth shape chain) v h)));
+    one = λ t v w h k. best_once (over_best way.side shape.lowest shape.highest (Sees way.over t) (IsWorth shape chain) v h)
+        (over_best way.side shape.lowest shape.highest (Sees way.over t) (IsWorth shape chain) w k);
+  }
+    where
+      seen : (t u : Rational) → t ≈ u → (x : Rational) → Sees way.over t x → Sees way.over u x
+      seen t u e x s = (
+        after_same (low shape laws chain way normal t) (low shape laws chain way normal u) x (same_shift way.over.low e, refl) s.0,
+        upto_same (high shape laws chain way normal t) (high shape laws chain way normal u) x (same_shift way.over.high e, refl) s.1,
+      )
+
+  -- the best of what is seen before the end of the chain is the best of what is seen
+  all_met : (t : Rational) (v : Extended) → BestTo shape chain way (stop chain) t v → Best shape chain way t v
+  all_met t v h = best_over way.side shape.lowest shape.highest (Sees way.over t) (IsWorth shape chain) v
+      (best_alike (λ x m. (m.0, m.1.0, m.2)) (λ x m. (m.0, (m.1, worth_upto shape chain.from chain.pieces m.0 x normal.rising m.2), m.2))
+      (to_best shape laws chain way normal (stop chain) t v h))
+
+  -- where all is met, the window tells the rest by its steps
+  pub tells_all : (gap : P) (old new : Sliding P) (to : Place) → Stands shape chain way (stop chain) (stop chain) old
+      → HasTold shape way.side gap old new → Same (stop new.out) to → to ≡ stop chain
+      → ((t : Rational) → value_at (shape.function gap) t ≈ᵉ none shape laws chain way normal)
+      → Tells shape (Best shape chain way) chain.from (stop chain) new.out
+  tells_all gap old new to st told ends at is = tells shape (Best shape chain way) chain.from (stop chain) new.out best_is_function
+      (record { normal = told.normal; worth = worth })
+      (subst (λ s. Same s chain.from) (sym (told.begins ∙ st.begins)) (same_place chain.from)) here
+    where
+      here : Same (stop new.out) (stop chain)
+      here = subst (λ s. Same (stop new.out) s) at ends
+
+      worth : (t : Rational) (v : Extended) → IsWorth shape new.out t v → Best shape chain way t v
+      worth t v w = elim (told.worth t v w) [
+        | inl k ↦ st.told t v k
+        | inr (a, u, b) ↦ all_met t v (best_with_none shape laws chain way normal (stop chain) (stop chain) gap old st (at_most_itself (stop chain)) is t v
+            (upto_same (stop new.out) (stop chain) t here u) b)
+      ]
+
+  -- a window that has told nothing stands where the chain begins
+  pub stands_none : (s : Sliding P) → s.out ≡ chain_of chain.from [] → s.steps.items ≡ [] → Stands shape chain way chain.from chain.from s
+  stands_none s e nothing = record {
+    normal = subst (λ o. IsNormal shape o) (sym e) (record { rising = tt; each = tt });
+    begins = ap (λ o. o.from) e;
+    on = subst (λ o. AtMost chain.from (stop o)) (sym e) (at_most_itself chain.from);
+    upto = subst (λ o. AtMost (stop o) (stop chain)) (sym e) (to_stop chain.from chain.pieces normal.rising);
+    told = λ t v w. absurd (subst (λ o. IsWorth shape o t v) e w);
+    steps = subst (AreSteps shape way.side (stop s.out)) (sym nothing) tt;
+    gives = λ t v g. absurd (subst (λ xs. StepsGive shape way.side (stop s.out) xs t v) nothing g);
+    sees = λ t v g. absurd (subst (λ xs. StepsGive shape way.side (stop s.out) xs t v) nothing g);
+    none = λ t a u x y see k w. not_both chain.from x k (worth_after shape chain.from chain.pieces x y normal.rising w);
+    reached = inl (subst (λ o. AtMost (stop o) chain.from) (sym e) (at_most_itself chain.from));
+  }
+
+  -- one that sees nothing has met all
+  pub stands_blind : (s : Sliding P) → ((t u : Rational) → ¬ Sees way.over t u) → Stands shape chain way chain.from chain.from s
+      → Stands shape chain way (stop chain) (stop chain) s
+  stands_blind s blind st = record {
+    normal = st.normal;
+    begins = st.begins;
+    on = st.on;
+    upto = st.upto;
+    told = st.told;
+    steps = st.steps;
+    gives = λ t v g. of_best shape laws chain way normal (stop chain) t v
+        (best_alike (λ x m. absurd (blind t m.0 m.1.0)) (λ x m. absurd (blind t m.0 m.1.0))
+        (to_best shape laws chain way normal chain.from t v (st.gives t v g)));
+    sees = λ t v g. let s = st.sees t v g in (before_at_most (low shape laws chain way normal t) chain.from (stop chain) s.0 whole_chain, s.1);
+    none = λ t a u x y s k. absurd (blind t x s);
+    reached = elim st.reached [
+      | inl h ↦ inl h
+      | inr h ↦ inr (λ t u b. h t u (before_of_at_most chain.from (stop chain) (high shape laws chain way normal t) whole_chain b))
+    ];
+  }
+    where
+      whole_chain : AtMost chain.from (stop chain)
+      whole_chain = to_stop chain.from chain.pieces normal.rising
+
+  -- each piece of the chain, from where it begins
+  pub piece_from : (i : ℕ) (p : Piece P) → slice_get chain.pieces i ≡ Some p → IsPieceFrom shape chain (begin_at chain.from chain.pieces i) p
+  piece_from i p e = record {
+    order = rises_at chain.from chain.pieces i p normal.rising e;
+    begins = begin_most chain.from chain.pieces i normal.rising;
+    ends = end_most chain.from chain.pieces i p normal.rising e;
+    worth = λ t a u. worth_place shape chain.from chain.pieces i p t e a u;
+    has = shape_at chain.pieces i p e;
+  }
