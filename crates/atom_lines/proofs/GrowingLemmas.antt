@@ -25,7 +25,7 @@ use Rattle.value_laws.specs.Members.{ShapeOf}
 use Rattle.pl_signal.specs.declared.knot.Knot.{Knot}
 use Rattle.pl_signal.specs.Knots.{start, stop, HasShape, IsSignal, IsWorth}
 use Rattle.pl_signal.specs.Building.{GoesOn}
-use Rattle.pl_signal.proofs.Telling.{IsFunction, told}
+use Rattle.pl_signal.proofs.Telling.{told}
 use Rattle.stl_syntax.specs.Trace.{Trace, row_time}
 use Rattle.stl_syntax.specs.Trace as trace
 use Rattle.stl_syntax.specs.Truth.{compares, expression}
@@ -47,7 +47,7 @@ use Rattle.atom_lines.proofs.SumLemmas.{atom_binding, expression_at_row, express
 use Rattle.rational.specs.Affine.{IsBounded}
 use Rattle.atom_lines.proofs.Limited.{worth_bounded, along_within}
 use Rattle.pl_signal.proofs.Limits.{limited}
-use Rattle.atom_lines.proofs.Readings.{worth_same, gives, given}
+use Rattle.atom_lines.proofs.Readings.{worth_same, gives, given_is_function}
 
 -- a truth is worth what its comparison is
 pub truth_worth : (w : Truth) (rel : Rel) (y t : Rational) → compares rel y ≡ w.holds → value_at (level (truth_value w.holds)) t ≈ᵉ worth by_truth rel y
@@ -346,18 +346,6 @@ module _ {P : Type 0} (shape : ShapeOf P) (read_as : How) (rel : Rel) (g : Gap) 
           )))
       by_part t v (inr (inr (e, p))) =
           inr (inr (inr (same_trans e off.at_end, same_transᵉ v (value_at (shape.function point) t) (worth read_as rel (whole next)) p (off.there t))))
-
--- what a trace gives an atom is a function of time
-given_is_function : (read_as : How) (tr : Trace) (i : ℕ) (a : Atom) → IsFunction (Gives (reading_of read_as tr) i a)
-given_is_function read_as tr i a = record {
-  alike = λ t u v w e s h.
-      gives read_as tr i a u w (same_transᵉ w v (worth read_as a.rel (expression a tr u)) (same_symᵉ v w s)
-      (same_transᵉ v (worth read_as a.rel (expression a tr t)) (worth read_as a.rel (expression a tr u))
-      (given read_as tr i a t v h) (worth_same read_as a.rel (same_expression a tr e))));
-  one = λ t v w h k.
-      same_transᵉ v (worth read_as a.rel (expression a tr t)) w (given read_as tr i a t v h)
-      (same_symᵉ w (worth read_as a.rel (expression a tr t)) (given read_as tr i a t w k));
-}
 
 module _ {P : Type 0} (shape : ShapeOf P) (read_as : How) (b : Binding) (i : ℕ) (tr : Trace) (k : BoundAtom) (here : slice_get b.atoms i ≡ Some (Some k)) where
   -- the sum at a row is the atom's expression there

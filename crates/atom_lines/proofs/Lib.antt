@@ -9,3 +9,4 @@ pub mod Readings
 pub mod Limited
 pub mod GrowingLemmas
 pub mod WayLemmas
+mod MarginWayLemmas

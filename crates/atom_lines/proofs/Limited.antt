@@ -23,7 +23,8 @@ use Rattle.atom_lines.proofs.Crossings.{at_first, at_second}
 use Rattle.atom_lines.proofs.Signs.{compare_alike}
 use Rattle.rational.proofs.Mixed.{within_whole}
 
-truth_within : (b : Bool) → IsWithin (2 ^ 31) (whole (truth_value b))
+-- the number of a truth is small
+pub truth_within : (b : Bool) → IsWithin (2 ^ 31) (whole (truth_value b))
 truth_within true = let h : nat_abs (pos 1) ≤ 2 ^ 31 = omega (arith, ints) in within_whole (2 ^ 31) (pos 1) h
 truth_within false = let h : nat_abs (negsuc 0) ≤ 2 ^ 31 = omega (arith, ints) in within_whole (2 ^ 31) (negsuc 0) h
 

@@ -6,7 +6,8 @@ use Rattle.rational.specs.Time.{Rational, ◌<ʳ◌, ◌≈◌, whole}
 use Rattle.rational.specs.Line.{at}
 use Rattle.rational.specs.Extended.{Extended, finite, ◌≈ᵉ◌}
 use Rattle.rational.proofs.Order.{lt_trans, lt_of_lt_of_le, lt_of_le_of_lt, le_of_same, ge_of_same}
-use Rattle.rational.proofs.AffineLemmas.{same_reflᵉ, finite_same}
+use Rattle.rational.proofs.AffineLemmas.{finite_same, same_reflᵉ, same_symᵉ, same_transᵉ}
+use Rattle.rational.proofs.TimeFunctions.{IsFunction}
 use Rattle.value_laws.specs.Values.{truth_value}
 use Rattle.stl_syntax.specs.Trace.{Trace}
 use Rattle.stl_syntax.specs.Truth.{compares, expression}
@@ -14,6 +15,7 @@ use Rattle.stl_syntax.specs.SupInf.{Gives, one, minus_one}
 use Rattle.stl_syntax.specs.declared.atom.Atom.{Atom}
 use Rattle.stl_syntax.specs.declared.rel.Rel.{Rel}
 use Rattle.stl_syntax.proofs.TimeLaw.{margin_same}
+use Rattle.stl_syntax.proofs.TruthLemmas.{same_expression}
 use Rattle.atom_lines.specs.declared.truth.TruthPiece.{TruthPiece}
 use Rattle.atom_lines.specs.declared.truth.TruthPiece.TheVariants.{Whole, Split}
 use Rattle.atom_lines.specs.How.{How, by_truth, by_margin, worth, reading_of}
@@ -47,6 +49,18 @@ pub given : (read_as : How) (tr : Trace) (i : ℕ) (a : Atom) (t : Rational) (v 
     → v ≈ᵉ worth read_as a.rel (expression a tr t)
 given by_truth tr i a t v h = to_bool (compares a.rel (expression a tr t)) v h
 given by_margin tr i a t v h = h
+
+-- what a trace gives an atom is a function of time
+pub given_is_function : (read_as : How) (tr : Trace) (i : ℕ) (a : Atom) → IsFunction (Gives (reading_of read_as tr) i a)
+given_is_function read_as tr i a = record {
+  alike = λ t u v w e s h.
+      gives read_as tr i a u w (same_transᵉ w v (worth read_as a.rel (expression a tr u)) (same_symᵉ v w s)
+      (same_transᵉ v (worth read_as a.rel (expression a tr t)) (worth read_as a.rel (expression a tr u))
+      (given read_as tr i a t v h) (worth_same read_as a.rel (same_expression a tr e))));
+  one = λ t v w h k.
+      same_transᵉ v (worth read_as a.rel (expression a tr t)) w (given read_as tr i a t v h)
+      (same_symᵉ w (worth read_as a.rel (expression a tr t)) (given read_as tr i a t w k));
+}
 
 -- what it says of a test it says of another with the same truths
 pub gap_same : (from to : Rational) (test other : Rational → Bool) (piece : TruthPiece)

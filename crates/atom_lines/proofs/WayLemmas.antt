@@ -19,9 +19,9 @@ use Rattle.atom_lines.specs.declared.gap.Gap.{Gap}
 use Rattle.atom_lines.specs.declared.bound_atom.BoundAtom.{BoundAtom}
 use Rattle.atom_lines.specs.declared.passage.Passage.{Passage}
 use Rattle.atom_lines.specs.declared.passage.Passage.TheVariants.{Steady, Turns}
-use Rattle.atom_lines.specs.Binding.{Binding, IsFor, HasRow, AreNeighbours}
+use Rattle.atom_lines.specs.Binding.{Binding, IsAtomNode, IsFor, HasRow, AreNeighbours}
 use Rattle.atom_lines.specs.Gaps.{along, AreOfSign}
-use Rattle.atom_lines.specs.Growing.{IsReach}
+use Rattle.atom_lines.specs.Growing.{IsReach, IsReachAt}
 use Rattle.atom_lines.specs.Passages.{HasBlock, IsTurning, IsWay, TellsPassage, TurnsInside, crossing_time}
 use Rattle.atom_lines.specs.Rows.{row_of, values_at}
 use Rattle.atom_lines.specs.Steps.{IsStep}
@@ -104,13 +104,16 @@ d = record { time = 0; values = [] }
 
 module _ (b : Binding) (i : ℕ) (k : BoundAtom) (here : slice_get b.atoms i ≡ Some (Some k)) (a : Atom) (tr block : Trace)
     (for : IsFor b i a tr) (has : HasBlock tr block) where
-  rel_is : k.rel ≡ a.rel
+  -- the relation that is bound is that of the atom
+  pub rel_is : k.rel ≡ a.rel
   rel_is = (atom_binding b i k here a tr for).rel
 
-  row_in : (r : ℕ) → r < length block.rows → HasRow tr (row_of block r)
+  -- a row of the block stands in the trace
+  pub row_in : (r : ℕ) → r < length block.rows → HasRow tr (row_of block r)
   row_in r h = (has.place + r, has.rows r (row_of block r) (slice_get-get_or block.rows r d h))
 
-  neighbours_in : (r : ℕ) → suc r < length block.rows → AreNeighbours tr (row_of block r) (row_of block (suc r))
+  -- and two rows of the block, one right after the other, do
+  pub neighbours_in : (r : ℕ) → suc r < length block.rows → AreNeighbours tr (row_of block r) (row_of block (suc r))
   neighbours_in r h = (
     has.place + r,
     has.rows r (row_of block r) (slice_get-get_or block.rows r d (omega (arith, h))),
@@ -199,6 +202,14 @@ pub reach_next : (k : BoundAtom) (block : Trace) (r n : ℕ) (g : Gap) (next : �
 reach_next k block r n g next limit e s =
     subst (λ m. IsReach k block m (to_z w64 (of_z w64 next))) (sym e)
     (subst (IsReach k block (suc r)) (sym (read_next k block r g next limit s)) (record { sum = s.at_next; small = s.small }))
+
+-- the sum at a row, as a node's atom has it, is read as it is
+pub sum_read : (b : Binding) (i : ℕ) (block : Trace) (r : ℕ) (n : ℤ) → IsAtomNode b i → IsReachAt b i block r n → to_z w64 (of_z w64 n) ≡ n
+sum_read b i block r n node h =
+    let s = h node.0 node.1 in
+    let size : nat_abs n ≤ 2 ^ 31 =
+    subst (λ m. nat_abs m ≤ 2 ^ 31) (sym s.0.sum) (reach_small node.0 (values_at block r) (values_at block r) s.1 s.0.small) in
+    read_back n (omega (arith, size))
 
 module _ (b : Binding) (i : ℕ) (k : BoundAtom) (here : slice_get b.atoms i ≡ Some (Some k)) (block : Trace) where
   -- what is known where a way ends: it stays up to row m, and takes the gap behind it

@@ -11,3 +11,4 @@ pub mod AtomSignals
 pub mod Signs
 pub mod Passages
 pub mod Steps
+pub mod MarginWays

@@ -15,3 +15,9 @@ pub record IsStep (atom : BoundAtom) (tr : Trace) (r : ℕ) (g : Gap) (next : �
   pub to : g.to ≡ reach atom (values_at tr r) (values_at tr (suc r))
   pub at_next : next ≡ reach atom (values_at tr (suc r)) (values_at tr (suc r))
   pub small : nat_abs (sum_over atom.terms.items (values_at tr (suc r)) (values_at tr (suc r))) ≤ 2 ^ 30
+
+-- the sum stays over the gap behind row r of the trace what it is at that row, and is `next` at the next one
+pub record IsLevelStep (atom : BoundAtom) (tr : Trace) (r : ℕ) (next : ℤ) : Type 0 where
+  pub gap : Gap
+  pub step : IsStep atom tr r gap next
+  pub level : gap.to ≡ gap.from

@@ -7,6 +7,7 @@ mod bound_atom;
 mod cells;
 mod gap;
 mod margin;
+mod margin_way;
 mod passage;
 mod piecewise;
 mod points;
@@ -17,7 +18,8 @@ mod way;
 
 pub use binding::{BindFault, bind};
 pub use bound::Bound;
-pub use passage::{Crossing, Passage, Way};
+pub use margin_way::{margin_standing, margin_way_from};
+pub use passage::{Crossing, MarginWay, Passage, Way};
 pub use points::{margin_piece, margin_point, truth_piece, truth_point, truth_step};
 pub use signal::{AtomShape, atom_signal};
 pub use truth::TruthPiece;

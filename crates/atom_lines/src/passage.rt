@@ -1,5 +1,7 @@
-//! How truths go over gaps and rows, as values.
+//! How truths and margins go over gaps and rows, as values.
 ghost use Rattle.std.specs.Prelude.{◌<◌};
+
+use value_laws::Margin;
 
 /// A time in ticks, `floor + rest / den`, in no lowest terms.
 #[derive(Clone, Copy, Debug)]
@@ -38,4 +40,15 @@ pub struct Way {
     pub passage: Passage,
     /// Its truth at that row.
     pub last: bool,
+}
+
+/// How an atom's margin goes from a row of a trace to a later one: along one line, or as one constant.
+#[derive(Clone, Copy, Debug)]
+pub struct MarginWay {
+    /// The row at which the way ends.
+    pub row: usize,
+    /// How far the atom's sum lies above its constant there.
+    pub sum: i64,
+    /// Its margin from the first row on, up to just before the last.
+    pub margin: Margin,
 }

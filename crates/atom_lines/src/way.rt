@@ -26,9 +26,9 @@ use trace_reader::Trace;
 
 /// The gap behind a row, and the sum at the next row.
 #[derive(Clone, Copy)]
-struct Step {
-    gap: Gap,
-    next: i64,
+pub(crate) struct Step {
+    pub(crate) gap: Gap,
+    pub(crate) next: i64,
 }
 
 /// The time `first + past / rise`.
@@ -79,7 +79,7 @@ fn passage_over(rel: Rel, gap: &Gap) -> Passage
 
 /// The gap from row `r`, where the sum is `from`, to the next.
 #[inline(always)]
-fn step_from(atom: &BoundAtom, trace: &Trace, r: usize, next: usize, from: i64) -> Step
+pub(crate) fn step_from(atom: &BoundAtom, trace: &Trace, r: usize, next: usize, from: i64) -> Step
     requires sound { IsAtomSound (length trace.now.header.columns) atom.now }
     requires next { next ≡ r + 1 }
     requires within { next < length trace.now.rows }

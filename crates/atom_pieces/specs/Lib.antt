@@ -1,0 +1,2 @@
+pub mod AtomChains
+pub mod Growing
