@@ -106,17 +106,18 @@ fn stays(at: usize, last: usize, step: &Step) -> bool
 }
 
 /// How the atom's truth goes from row `r` on, where its sum is `from`: to the first row with a gap before it over which it may turn, or to the
-/// last row.
+/// row `last`.
 #[inline(always)]
-pub fn way_from(bound: &Bound, node: u32, trace: &Trace, r: usize, from: i64) -> Way
+pub fn way_from(bound: &Bound, node: u32, trace: &Trace, r: usize, last: usize, from: i64) -> Way
     requires atom { IsAtomNode bound.now node }
     requires columns { length trace.now.header.columns ≡ bound.now.width }
-    requires within { r + 1 < length trace.now.rows }
+    requires before { r < last }
+    requires within { last < length trace.now.rows }
     requires from { IsReachAt bound.now node trace.now r from }
-    ensures { IsWay bound.now node trace.now r result }
+    ensures way { IsWay bound.now node trace.now r result }
+    ensures last { result.row ≤ last }
 {
     let atom = bound.atom(node);
-    let last = trace.rows() - 1;
     let mut at = r;
     let mut step = step_from(atom, trace, r, r + 1, from);
     while stays(at, last, &step) {

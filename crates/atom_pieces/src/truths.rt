@@ -107,7 +107,7 @@ pub(crate) fn truth_pieces(
     let mut chain = begin(alloc, trace)?;
     let mut at = 0;
     while at < last {
-        let way = way_from(bound, node, trace, at, sum);
+        let way = way_from(bound, node, trace, at, last, sum);
         follow(
             &mut chain,
             holds,

@@ -18,7 +18,7 @@ use pl_signal::WidePair;
 use report::{LastPart, MarginPart, put_margin_line_after};
 use std::alloc::Global;
 use stl_syntax::{Formula, Text};
-use trace_reader::Row;
+use trace_reader::{Row, Rows};
 use trace_stream::{Case, Follow, FollowFault};
 use value_laws::Margin;
 
@@ -172,6 +172,15 @@ impl Follow for Margins {
             Ok(()) => Ok(()),
             Err(fault) => Err(fault),
         }
+    }
+
+    fn take_rows(
+        &mut self,
+        _rows: &mut Rows,
+        _piece: &[u8],
+        _text: &mut Text,
+    ) -> Result<usize, Memory> {
+        Ok(0)
     }
 
     fn flush(&mut self, _text: &mut Text) -> Result<(), Memory> {

@@ -3,3 +3,7 @@ mod Events
 mod Feeding
 mod Fresh
 mod Stepping
+mod Running
+mod RowParts
+mod BlockRows
+mod EdgeRows

@@ -8,7 +8,8 @@ use Rattle.stl_syntax.specs.Trace.{Header, Row, AreRowsAfter, first_time, last_t
 use Rattle.stl_syntax.specs.WellFormed.{AreWellFormed}
 use Rattle.stl_syntax.specs.declared.items.Verdict.{Verdict}
 use Rattle.stl_syntax.specs.declared.node.Node.{Node}
-use Rattle.stl_syntax.specs.declared.node.Node.TheVariants.{Const}
+use Rattle.stl_syntax.specs.declared.atom.Atom.{Atom}
+use Rattle.stl_syntax.specs.declared.node.Node.TheVariants.{Const, Atom as Leaf}
 use Rattle.stl_syntax.proofs.PostOrderLemmas.{slice_get_at}
 use Rattle.atom_lines.specs.Binding.{IsAtomNode}
 use Rattle.online_nodes.specs.Network.{Event, row, step, close, take, Front, State, last_row, shown, is_atom}
@@ -253,12 +254,17 @@ module _ (nodes : List Node) (header : Header) (events : List Event) (net : Part
   }
 
   -- a node with no operator is an atom of the formula
+  pub atom_leaf : (j : ℕ) → slice_get net.operators j ≡ Some None → (a : Atom) × (slice_get nodes j ≡ Some (Leaf a))
+  atom_leaf j is =
+      let l = slice_get_within net.operators j None is in
+      let leaf = leaf_of (slice_index_or nodes j (Const false)) (no_operator j l is) in
+      (leaf.0, slice_get_at nodes j (Const false) (within j l) ∙ ap Some leaf.1)
+
+  -- and so do its columns
   pub atoms_bound : (j : ℕ) → slice_get net.operators j ≡ Some None → IsAtomNode net.bound j
   atoms_bound j is =
-      let l = slice_get_within net.operators j None is in
-      let at = slice_get_at nodes j (Const false) (within j l) in
-      let leaf = leaf_of (slice_index_or nodes j (Const false)) (no_operator j l is) in
-      let k = st.holds.bound.atoms j leaf.0 (at ∙ ap Some leaf.1) in
+      let leaf = atom_leaf j is in
+      let k = st.holds.bound.atoms j leaf.0 leaf.1 in
       (k.0, k.1)
 
   -- the end may come

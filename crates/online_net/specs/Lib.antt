@@ -1,3 +1,4 @@
 pub mod Nets
 pub mod Atoms
 pub mod Steps
+pub mod Stretches

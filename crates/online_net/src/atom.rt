@@ -22,21 +22,21 @@ use stl_syntax::Verdict;
 use trace_reader::Row;
 
 /// Just before a time in ticks.
-fn before_tick(n: u32) -> Cut
+pub(crate) fn before_tick(n: u32) -> Cut
     ensures { Same (place result) (record { at = whole (pos n); after = false }) }
 {
     Cut::before_whole(i64::from(n))
 }
 
 /// Just after a time in ticks.
-fn after_tick(n: u32) -> Cut
+pub(crate) fn after_tick(n: u32) -> Cut
     ensures { Same (place result) (record { at = whole (pos n); after = true }) }
 {
     Cut::after_whole(i64::from(n))
 }
 
 /// Notes a number in ticks.
-fn note(edges: &mut Edges, node: u32, n: u32)
+pub(crate) fn note(edges: &mut Edges, node: u32, n: u32)
     requires { node < length edges.old.edges }
     ensures { edges.new ≡ record edges.old { edges = with_edge edges.old node (with_number (edge_at edges.old node) (pos n)) } }
 {

@@ -3,5 +3,6 @@
 
 mod atom;
 mod net;
+mod stretch;
 
 pub use net::{Net, NetFault};

@@ -12,16 +12,20 @@ ghost use Rattle.online_nodes.specs.Network.{Event, row as came, step as stepped
 ghost use Rattle.online_nodes.specs.Held.{JoinsAlike, held_at};
 ghost use Rattle.online_nodes.specs.Belonging.{Belongs, BelongsSomewhere};
 ghost use Rattle.online_net.specs.Steps.{AreFirstOperators, AreNewEdges, IsFirstOperator, IsStep, JoinsAllButRoot, JoinsNone};
-ghost use Rattle.stl_syntax.specs.Trace.{Row as ARow};
+ghost use Rattle.stl_syntax.specs.Trace.{Row as ARow, IsTrace};
+ghost use Rattle.online_nodes.specs.Driven.{rows_of};
+ghost use Rattle.atom_lines.specs.Rows.{row_of};
+ghost use Rattle.online_net.specs.Stretches.{rows_between};
 
 use crate::atom::put_row;
+use crate::stretch::put_rows;
 use atom_lines::Bound;
 use frac128::Memory;
 use online_nodes::{Edges, Operator};
 use std::alloc::Global;
 use std::marker::Model;
 use stl_syntax::{Formula, Node, Verdict};
-use trace_reader::Row;
+use trace_reader::{Row, Trace};
 
 /// Why a call was refused.
 #[derive(Clone, Copy, Debug, PartialEq, Eq)]
@@ -125,6 +129,20 @@ fn keep_row(last: &mut Option<Row>, row: &Row) -> Result<(), Memory>
     }
     *last = Some(row.copy()?);
     Ok(())
+}
+
+/// Keeps a row of a block in the place of the last one.
+#[inline(always)]
+fn keep_row_of(last: &mut Option<Row>, block: &Trace, r: usize)
+    requires within { r < length block.now.rows }
+    requires some { last.old ≢ None }
+    requires width { IfSome last.old (λ q. length q.values ≡ length block.now.header.columns) }
+    ensures row { last.new ≡ Some (row_of block.now r) }
+    ensures trace { IsTrace block.now }
+{
+    if let Some(kept) = last {
+        block.copy_row(r, kept);
+    }
 }
 
 /// One step of an operator. False where it is not ready, and then nothing changes.
@@ -238,6 +256,45 @@ impl Net {
             self.stopped = true;
             return Err(NetFault::Memory);
         };
+        Ok(())
+    }
+
+    /// The rows of a block behind row `from`, which is the last row that came, up to row `to`: as `feed` of each of them in turn. But on an
+    /// edge that joins an atom's verdict is one for as many rows as its truth goes on.
+    ///
+    /// # Errors
+    ///
+    /// As `feed`. Where it is `Memory` it may have come at any of the rows.
+    pub fn feed_rows(&mut self, block: &Trace, from: usize, to: usize) -> Result<(), NetFault>
+        requires columns { length block.now.header.columns ≡ self.old.bound.width }
+        requires order { from < to }
+        requires within { to < length block.now.rows }
+        requires last { self.old.last ≡ Some (row_of block.now from) }
+        ensures answer { MatchResult result (λ _. IsFed self.old self.new (row_of block.now to)) (IsFeedFault self.old self.new) }
+        ensures stands { (nodes : List ANode) (header : Header) (events : List Event) → Stands nodes header self.old events
+            → IfOk result (λ _. Stands nodes header self.new (events ++ rows_of (rows_between block.now from to))) }
+        ensures nodes { length self.new.operators ≡ length self.old.operators }
+        ensures bound { self.new.bound ≡ self.old.bound }
+        ensures joins { OnOk result (JoinsAlike self.old.edges self.new.edges) }
+    {
+        if self.stopped {
+            return Err(NetFault::Stopped);
+        }
+        if self.closed {
+            return Err(NetFault::Closed);
+        }
+        let Ok(()) = put_rows(
+            &mut self.edges,
+            &self.operators,
+            &self.bound,
+            block,
+            from,
+            to,
+        ) else {
+            self.stopped = true;
+            return Err(NetFault::Memory);
+        };
+        keep_row_of(&mut self.last, block, to);
         Ok(())
     }
 

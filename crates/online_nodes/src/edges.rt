@@ -89,6 +89,15 @@ impl Edges {
         self.queues[edge as usize].join();
     }
 
+    /// Whether an edge joins neighbours of one truth.
+    #[inline(always)]
+    pub fn joins(&self, edge: u32) -> bool
+        requires { edge < length self.now.edges }
+        ensures { result ≡ (edge_at self.now edge).joins }
+    {
+        self.queues[edge as usize].joins()
+    }
+
     /// As `put`, but on an edge that joins the verdict lengthens the last one that was not read, where it goes on from that with its
     /// truth.
     ///

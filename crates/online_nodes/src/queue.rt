@@ -203,6 +203,14 @@ impl Queue {
         self.items.len()
     }
 
+    /// Whether neighbours of one truth are joined.
+    #[inline(always)]
+    pub(crate) fn joins(&self) -> bool
+        ensures { result ≡ (edge_of self.now).joins }
+    {
+        self.joins
+    }
+
     /// Notes a number.
     #[inline(always)]
     pub(crate) fn reach(&mut self, number: i64)

@@ -1,6 +1,6 @@
 -- Rows of a trace, one after another.
 use Rattle.std.proofs.Common.{◌≡◌, ℕ, zero, suc, ◌+◌, ◌*◌, ◌<◌, ◌≤◌, List, [], ◌∷◌, ◌++◌, length, take}
-use Rattle.std.proofs.Common.{◌-◌, drop, get_or, refl, sym, ap, ◌∙◌, arith, ℤ, nat_abs}
+use Rattle.std.proofs.Common.{◌-◌, drop, get_or, refl, sym, ap, ◌∙◌, arith, ℤ, nat_abs, mul-le-mul_right}
 use Rattle.std.specs.Prelude.{All, pos}
 use Rattle.std.proofs.lemmas.List.{take-append-le, drop-append-le, length-append, length-drop, drop-drop}
 use Rattle.std.proofs.lemmas.List.{get_or-take, get_or-drop, get_or-append_right, take_all, nil_from_length}
@@ -120,6 +120,10 @@ last_behind (e ∷ earlier) (r ∷ rows) m n some = last_behind earlier (r ∷ r
 pub place_within : (width k c n rows : ℕ) → k < rows → c < width → n ≡ rows * width → k * width + c < n
 place_within width k c n rows h l e =
     omega (arith, mul-add-lt k width c rows h l, e)
+
+-- the values of a row stand within those of all rows
+pub row_within : (width k n rows : ℕ) → k + 1 ≤ rows → n ≡ rows * width → k * width + width ≤ n
+row_within width k n rows h e = omega (arith, mul-le-mul_right width h, e)
 
 -- where the values of the last row begin
 pub last_place : (width k n m : ℕ) → n ≡ k + 1 → m ≡ n * width → m ≡ k * width + width

@@ -103,6 +103,18 @@ impl Row {
         self.values[..columns].copy_from_slice(values);
     }
 
+    /// Sets the time and as many values as there are.
+    pub(crate) fn replace(&mut self, time: u32, values: &[i32])
+        requires width { length values.now ≡ length self.old.values }
+        requires small { All (λ v. nat_abs v ≤ 16777216) values.now }
+        ensures { self.new ≡ record { time = time; values = values.now } }
+    {
+        let columns = values.len();
+        self.time = time;
+        self.columns = columns;
+        self.values[..columns].copy_from_slice(values);
+    }
+
     /// Takes over the time and the values of another row.
     pub fn take_over(&mut self, other: &Row)
         ensures { self.new ≡ other.now }

@@ -24,7 +24,7 @@ impl Model for Trace {
     ghost invariant = { IsKept };
 }
 
-ghost use Rattle.std.specs.Prelude.{◌≡◌, ◌≤◌, ◌+◌, ◌++◌, length, drop, vec_len, vec_capacity};
+ghost use Rattle.std.specs.Prelude.{◌≡◌, ◌≤◌, ◌+◌, ◌++◌, length, take, drop, vec_len, vec_capacity};
 
 /// Adds values for which there is room, one by one: rows are short.
 #[inline(always)]
@@ -35,6 +35,16 @@ fn add_all(values: &mut Vec<i32>, more: &[i32])
     for value in more {
         values.push_reserved(*value);
     }
+}
+
+/// So many values, from a place on.
+#[inline(always)]
+fn values_at(values: &[i32], from: usize, count: usize) -> &[i32]
+    requires { from + count ≤ length values.now }
+    ensures { result.now ≡ take count (drop from values.now) }
+{
+    let rest = &values[from..];
+    &rest[..count]
 }
 
 /// Lets go of the elements before a place.
@@ -107,6 +117,18 @@ impl Trace {
     {
         let at = r * self.header.columns() + c;
         self.values[at]
+    }
+
+    /// Copies a row over another one of this trace's width; rows are counted from 0.
+    pub fn copy_row(&self, r: usize, row: &mut Row)
+        requires within { r < length self.now.rows }
+        requires width { length row.old.values ≡ length self.now.header.columns }
+        ensures row { (d : Values) → row.new ≡ slice_index_or self.now.rows r d }
+        ensures trace { IsTrace self.now }
+    {
+        let columns = self.header.columns();
+        let from = r * columns;
+        row.replace(self.times[r], values_at(&self.values, from, columns));
     }
 
     /// Copies the last row.

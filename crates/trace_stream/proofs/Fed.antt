@@ -1,5 +1,5 @@
 -- A piece in parts.
-use Rattle.std.proofs.Common.{◌≡◌, ℕ, ◌+◌, ◌-◌, false, List, ◌++◌, length, take, drop, sym, ap, ◌∙◌, subst}
+use Rattle.std.proofs.Common.{◌≡◌, ℕ, zero, suc, ◌+◌, ◌-◌, ◌<◌, false, List, ◌++◌, length, take, drop, sym, ap, ◌∙◌, subst, arith}
 use Rattle.std.proofs.Common.{take-append-drop, take-add, append_assoc}
 use Rattle.rational.proofs.Lists.{take_rest}
 use Rattle.stl_syntax.specs.Formula.{Formula}
@@ -24,3 +24,8 @@ pub fed_err : (f : Formula) (l m : Limits) (bytes piece : List ℕ) (at : ℕ) (
     → IsRefused l f false ((bytes ++ take at piece) ++ take (length piece - at) (drop at piece)) e → IsRefused m f false (bytes ++ piece) e
 fed_err f l m bytes piece at e same r =
     subst (λ (x : Limits). IsRefused x f false (bytes ++ piece) e) same (subst (λ b. IsRefused l f false b e) (fed_all bytes piece at) r)
+
+-- of a piece with bytes some are taken: n at first, and if these are none, then m of the rest
+pub some_taken : (n m rest size : ℕ) → 0 < size → rest ≡ size - n → (0 < rest → 0 < m) → 0 < n + m
+some_taken zero m rest size some e f = omega (arith, f (omega (arith, e, some)))
+some_taken (suc n) m rest size some e f = omega arith

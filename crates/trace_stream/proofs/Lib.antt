@@ -19,4 +19,5 @@ pub mod OwedRows
 pub mod WideTexts
 pub mod Refused
 pub mod Living
+pub mod OpenRows
 pub mod Told

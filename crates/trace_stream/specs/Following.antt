@@ -2,11 +2,13 @@
 use Rattle.std.specs.Prelude.{◌≡◌, ◌⊎◌, ℕ, Bool, true, false, List, [], ◌++◌, Option, Some, None}
 use Rattle.stl_syntax.specs.Formula.{Formula, root}
 use Rattle.stl_syntax.specs.Trace.{Header, Row}
+use Rattle.trace_reader.specs.Reader.{Reader, StandsFor}
 use Rattle.trace_reader.specs.declared.refusal.Limits.{Limits}
 use Rattle.trace_stream.specs.Streams.{Stream, margins, limits_of, HasStream, StreamText, StreamOf, IsLastVerdict, status_of_truth}
 use Rattle.trace_reader.specs.InputFaults.{Fault, IsInputFault, AreRowsBefore}
 use Rattle.trace_stream.specs.Cases.{IsFault, IsCase, Takes}
 use Rattle.trace_stream.specs.CaseReader.{IsKept, IsWhole}
+use Rattle.trace_stream.specs.Kept.{with_rows}
 use Rattle.trace_stream.specs.Wides.{IsNeededByThen, IsWideStream}
 use Rattle.trace_stream.specs.declared.case.Case.{Case}
 use Rattle.trace_stream.specs.declared.fault.StreamStop.{StreamStop}
@@ -36,6 +38,12 @@ HasOpen Stands Owes kind r = (c : Case) × (made : List ℕ) × IsOpen Stands Ow
 -- the text grew, and that of the rows of the case is made, or some of it is owed
 abbrev pub IsOpenOn : (Case → List ℕ → Type 0) → (Case → List ℕ → Type 0) → Stream → Case → List ℕ → List ℕ → List ℕ → Type 0
 IsOpenOn Stands Owes kind c old new made = (grown : List ℕ) × (new ≡ old ++ grown) × IsOpen Stands Owes kind c (made ++ grown)
+
+-- some bytes more were taken, which are rows, and the text grew: that of the rows of the case with them is made, or some of it is owed
+pub record IsOpenBy (Stands Owes : Case → List ℕ → Type 0) (kind : Stream) (before after : Reader) (c : Case) (taken old new made : List ℕ) : Type 0 where
+  pub more : List Row
+  pub stands : (bytes : List ℕ) (rows : List Row) → StandsFor before bytes rows → StandsFor after (bytes ++ taken) (rows ++ more)
+  pub opened : IsOpenOn Stands Owes kind (with_rows more c) old new made
 
 -- the text grew to that of the rows of the case
 abbrev pub IsFollowedOn : (Case → List ℕ → Type 0) → Stream → Case → List ℕ → List ℕ → List ℕ → Type 0
@@ -147,6 +155,14 @@ module _ {F : Type 0} (Stands Owes : F → Case → List ℕ → Type 0) (kind :
   IsOpened None (Some c) made = ⊥
   IsOpened (Some x) None made = ⊥
   IsOpened (Some x) (Some c) made = IsOpen (Stands x) (Owes x) kind c made
+
+  -- the reader took these bytes, and the text grew: that of the case's rows is made, but for what is owed
+  pub record IsOpenedBy (f : Formula) (reader : Reader) (follower : Option F) (bytes old new made : List ℕ) : Type 0 where
+    pub case : Option Case
+    pub kept : IsKept f reader case bytes
+    pub grown : List ℕ
+    pub text : new ≡ old ++ grown
+    pub opened : IsOpened follower case (made ++ grown)
 
   -- as `IsLive`, but for text that is owed
   pub record IsLiveOpen (live : Live F) (bytes written : List ℕ) : Type 0 where

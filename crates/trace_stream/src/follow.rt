@@ -1,17 +1,18 @@
 //! What a stream makes of a trace's rows as they come.
-ghost use Rattle.std.specs.Prelude.{◌≡◌, ◌++◌, ℕ, List, [], false, true, IfOk, IfErr, MatchResult};
+ghost use Rattle.std.specs.Prelude.{◌≡◌, ◌≤◌, ◌++◌, ℕ, List, [], length, take, false, true, IfOk, IfErr, MatchResult};
 ghost use Rattle.stl_syntax.specs.Formula.{Formula as Parsed};
 ghost use Rattle.stl_syntax.specs.Trace.{IsTrace};
+ghost use Rattle.trace_reader.specs.Taken.{HasTraceSoFar};
 ghost use Rattle.trace_stream.specs.Cases.{IsCase, Takes, with_row};
 ghost use Rattle.trace_stream.specs.Streams.{Stream as Kind, HasStream};
-ghost use Rattle.trace_stream.specs.Following.{Follows, HasOpen, IsOpen, IsOpenOn, IsFollowedOn, IsFollowedOut, IsFollowFault, IsUnwritten};
+ghost use Rattle.trace_stream.specs.Following.{Follows, HasOpen, IsOpen, IsOpenBy, IsOpenOn, IsFollowedOn, IsFollowedOut, IsFollowFault, IsUnwritten};
 ghost use Rattle.trace_stream.specs.declared.case.Case.{Case as Of};
 
 use crate::case::Case;
 use frac128::Memory;
 use std::alloc::Global;
 use stl_syntax::Text;
-use trace_reader::Row;
+use trace_reader::{Row, Rows};
 
 /// Why rows are not followed on.
 #[derive(Clone, Copy, Debug)]
@@ -59,6 +60,19 @@ pub trait Follow: Drop {
             → IfErr result (IsFollowFault kind (with_row row.now c) false) }
         ensures unwritten { IfErr result (IsUnwritten text.old text.new) }
         ensures owing { (c : Of) (made : List ℕ) → owes self.old c made → IfErr result (λ e. e ≡ FollowFault.Memory) };
+
+    /// Takes rows that the piece begins with, and answers how many bytes they are: as `Rows::take_rows`, so it may take none. What they
+    /// answer is added to the text now, or by `flush`.
+    ///
+    /// # Errors
+    /// Want of memory.
+    fn take_rows(&mut self, rows: &mut Rows, piece: &[u8], text: &mut Text) -> Result<usize, Memory>
+        requires { (c : Of) × (made : List ℕ) × IsOpen (stands self.old) (owes self.old) kind c made × HasTraceSoFar rows.old c.trace }
+        ensures within { IfOk result (λ n. n ≤ length piece.now) }
+        ensures taken { IfOk result (λ n. (c : Of) (made : List ℕ) → IsOpen (stands self.old) (owes self.old) kind c made
+            → HasTraceSoFar rows.old c.trace
+            → IsOpenBy (stands self.new) (owes self.new) kind rows.old rows.new c (take n piece.now) text.old text.new made) }
+        ensures kept { (rows.new.limits ≡ rows.old.limits) × (rows.new.least ≡ rows.old.least) × (rows.new.heading ≡ rows.old.heading) };
 
     /// Adds to the text what the rows answer and what it does not have yet.
     ///

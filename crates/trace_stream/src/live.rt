@@ -9,7 +9,8 @@ ghost use Rattle.trace_reader.specs.Reader.{header_of};
 ghost use Rattle.trace_stream.specs.Cases.{IsBegun, IsNoBegin, CanKeep, with_row};
 ghost use Rattle.trace_stream.specs.Streams.{HasStream};
 ghost use Rattle.trace_stream.specs.Following.{IsFollowed, IsOpened, IsEndedOut, IsHeldUp, IsLive, HasLived};
-ghost use Rattle.trace_stream.specs.Following.{IsLiveOpen, HasLivedOpen, IsLastTaken, IsOver, IsLiveStop, IsOpenStop};
+ghost use Rattle.trace_stream.specs.CaseReader.{IsKept};
+ghost use Rattle.trace_stream.specs.Following.{IsLiveOpen, HasLivedOpen, IsLastTaken, IsOpenedBy, IsOver, IsLiveStop, IsOpenStop};
 ghost use Rattle.trace_stream.specs.declared.case.Case.{Case as Of};
 
 use crate::case::begin;
@@ -73,6 +74,28 @@ fn take_row<F: Follow>(
     match follower {
         Some(follower) => Ok(follower.row(row, text)?),
         None => unreachable!(),
+    }
+}
+
+/// Takes rows that the piece begins with, once the header was read, and answers how many bytes they are. Their text may be owed.
+fn take_rows<F: Follow>(
+    rows: &mut Rows,
+    follower: &mut Option<F>,
+    piece: &[u8],
+    text: &mut Text,
+) -> Result<usize, StreamStop>
+    requires { (f : Parsed) × (case : Option Of) × (bytes made : List ℕ) × IsKept f rows.old case bytes
+        × IsOpened F.stands F.owes F.kind follower.old case made }
+    ensures taken { IfOk result (λ n. (f : Parsed) (case : Option Of) (bytes made : List ℕ) → IsKept f rows.old case bytes
+        → IsOpened F.stands F.owes F.kind follower.old case made
+        → IsOpenedBy F.stands F.owes F.kind f rows.new follower.new (bytes ++ take n piece.now) text.old text.new made) }
+    ensures within { IfOk result (λ n. n ≤ length piece.now) }
+    ensures memory { IfErr result (λ e. e ≡ StreamStop.NoMemory) }
+    ensures limits { rows.new.limits ≡ rows.old.limits }
+{
+    match follower {
+        Some(follower) => Ok(follower.take_rows(rows, piece, text)?),
+        None => Ok(0),
     }
 }
 
@@ -157,6 +180,24 @@ impl<F: Follow> Live<F> {
         Ok(took.bytes)
     }
 
+    /// Takes the rows that a piece begins with, and then bytes up to the header's line or a further row's at most. Answers how many they
+    /// are. The text of the rows may be owed.
+    fn advance(&mut self, piece: &[u8]) -> Result<usize, StreamStop>
+        requires { HasLivedOpen F.stands F.owes F.kind self.old }
+        ensures taken { (bytes written : List ℕ) → IsLiveOpen F.stands F.owes F.kind self.old bytes written → MatchResult result
+            (λ n. IsLiveOpen F.stands F.owes F.kind self.new (bytes ++ take n piece.now) written)
+            (λ e. IsOpenStop F.stands F.owes F.kind self.old.rows.limits self.old.formula false
+            (bytes ++ piece.now) self.new.follower (written ++ self.new.text) e) }
+        ensures within { MatchResult result (λ n. n ≤ length piece.now) (λ _. Unit {0}) }
+        ensures progress { MatchResult result (λ n. 0 < length piece.now → 0 < n) (λ _. Unit {0}) }
+        ensures limits { self.new.rows.limits ≡ self.old.rows.limits }
+        ensures formula { self.new.formula ≡ self.old.formula }
+    {
+        let rows = take_rows(&mut self.rows, &mut self.follower, piece, &mut self.text)?;
+        let more = self.step(&piece[rows..])?;
+        Ok(rows + more)
+    }
+
     /// Takes all bytes of a piece. The text of its rows may be owed.
     fn take_piece(&mut self, piece: &[u8]) -> Result<(), StreamStop>
         requires { HasLivedOpen F.stands F.owes F.kind self.old }
@@ -169,7 +210,7 @@ impl<F: Follow> Live<F> {
     {
         let mut at = 0;
         while at < piece.len() {
-            at += self.step(&piece[at..])?;
+            at += self.advance(&piece[at..])?;
         }
         Ok(())
     }

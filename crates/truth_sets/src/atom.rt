@@ -102,7 +102,7 @@ pub(crate) fn grow(set: &mut NodeSet, bound: &Bound, node: u32, trace: &Trace) -
     let last = trace.rows() - 1;
     let mut at = 0;
     while at < last {
-        let way = way_from(bound, node, trace, at, set.sum);
+        let way = way_from(bound, node, trace, at, last, set.sum);
         go_along(
             &mut set.times,
             trace.time(way.row - 1),

@@ -1,7 +1,8 @@
 -- When the network of a formula stands for the rows of a case, and what was taken of what its root gave out.
-use Rattle.std.specs.Prelude.{◌≡◌, ℕ, ◌+◌, ◌-◌, ◌<◌, ◌≤◌, Bool, true, false, List, [], ◌∷◌, ◌++◌, length, map, take, drop, Option, Some, None}
+use Rattle.std.specs.Prelude.{◌≡◌, ◌⊎◌, ℕ, ◌+◌, ◌-◌, ◌<◌, ◌≤◌, Bool, true, false, List, [], ◌∷◌, ◌++◌, length, map, take, drop, Option, Some, None}
 use Rattle.stl_syntax.specs.Formula.{Formula, horizon, root}
-use Rattle.stl_syntax.specs.Trace.{Header, Row}
+use Rattle.stl_syntax.specs.Trace.{Header, Row, Trace}
+use Rattle.atom_lines.specs.Rows.{row_of}
 use Rattle.stl_syntax.specs.Verdicts.{AreAlike}
 use Rattle.stl_syntax.specs.Texts.{AreVerdictLines}
 use Rattle.stl_syntax.specs.declared.items.Verdict.{Verdict}
@@ -64,9 +65,28 @@ pub record IsOwing (v : Verdicts) (c : Case) (made : List ℕ) : Type 0 where
   pub none_pending : v.pending ≡ []
   pub told : StreamText verdicts (root c.formula.nodes) c.trace.header before false made
 
+-- the block has the last row of the trace alone, or no row
+pub record KeepsLast (block t : Trace) : Type 0 where
+  pub header : block.header ≡ t.header
+  pub rows : (block.rows ≡ []) ⊎ ((before : List Row) × (r : Row) × (block.rows ≡ r ∷ []) × (t.rows ≡ before ++ r ∷ []))
+
+-- row `at` of the block is the last row of the trace
+pub record IsLastAt (block : Trace) (at : ℕ) (t : Trace) : Type 0 where
+  pub header : block.header ≡ t.header
+  pub before : List Row
+  pub rows : t.rows ≡ before ++ row_of block at ∷ []
+
 -- the network stands for the rows so far
 abbrev pub WatchesRows : Verdicts → Case → List ℕ → Type 0
 WatchesRows v c made = IsWatched false v c
+
+-- and the last of them is kept
+abbrev pub KeepsRows : Verdicts → Case → List ℕ → Type 0
+KeepsRows v c made = IsWatched false v c × KeepsLast v.block c.trace
+
+-- the text of some rows is owed, and the last of the rows is kept
+abbrev pub OwesRows : Verdicts → Case → List ℕ → Type 0
+OwesRows v c made = IsOwing v c made × KeepsLast v.block c.trace
 
 -- the network stands for all rows and their end
 abbrev pub WatchesEnd : Verdicts → Case → List ℕ → Type 0

@@ -1,6 +1,6 @@
 //! The verdicts of a formula as the rows of a trace come: a network of operators follows them.
-ghost use Rattle.std.specs.Prelude.{◌≡◌, ◌-◌, ◌++◌, ◌<◌, ℕ, List, length, true, false, IfOk, OnOk};
-ghost use Rattle.stl_syntax.specs.Trace.{Header, IsTrace};
+ghost use Rattle.std.specs.Prelude.{◌≡◌, ◌-◌, ◌++◌, ◌∷◌, [], ◌<◌, ◌≤◌, ℕ, List, length, drop, true, false, IfOk, OnOk};
+ghost use Rattle.stl_syntax.specs.Trace.{Header, IsTrace, Trace as Recorded};
 ghost use Rattle.stl_syntax.specs.Texts.{IsVerdictLine};
 ghost use Rattle.online_nodes.specs.Network.{Event, node_is_atom};
 ghost use Rattle.online_nodes.specs.Driven.{most_rows, steps_of};
@@ -9,7 +9,10 @@ ghost use Rattle.report.specs.Appended.{Grew};
 ghost use Rattle.verdict_stream.specs.Pendings.{IsTextOfRow, IsTextOfRows};
 ghost use Rattle.trace_stream.specs.Streams.{verdicts};
 ghost use Rattle.trace_stream.specs.Cases.{Takes, with_row};
-ghost use Rattle.trace_stream.specs.Following.{Follows, HasOpen, IsOpen, IsOpenOn, IsFollowedOut};
+ghost use Rattle.trace_stream.specs.Following.{Follows, HasOpen, IsOpen, IsOpenOn, IsFollowedOn, IsFollowedOut};
+ghost use Rattle.trace_stream.specs.Kept.{with_rows};
+ghost use Rattle.online_net.specs.Stretches.{rows_between};
+ghost use Rattle.verdict_stream.specs.Watching.{KeepsLast, IsLastAt, KeepsRows, OwesRows};
 ghost use Rattle.verdict_stream.specs.Watching.{WatchesRows, WatchesEnd, IsOwing, Pass, CanTake, HasGivenAll, HasTakenAll, kept_truth};
 ghost use Rattle.trace_stream.specs.declared.case.Case.{Case as Of};
 
@@ -19,7 +22,7 @@ use online_net::Net;
 use report::{LastTime, put_start, put_verdict_after};
 use std::alloc::Global;
 use stl_syntax::{Formula, Node, Text, Verdict};
-use trace_reader::Row;
+use trace_reader::{Row, Rows, Trace};
 use trace_stream::{Case, Follow, FollowFault};
 
 /// How many rows come at most before every node steps, so that what the edges hold does not grow with a piece.
@@ -40,6 +43,8 @@ pub struct Network {
 #[derive(Drop)]
 pub struct Verdicts {
     network: Network,
+    /// The last row that was taken, alone, behind which further rows are read; none before the first row, and none where the root is an atom.
+    block: Trace,
     /// How far ahead the formula looks.
     horizon: u64,
     times: Vec<u32>,
@@ -166,11 +171,33 @@ impl Verdicts {
         ensures open { (c : Of) (made : List ℕ) → IsOpen (WatchesRows self.old) (IsOwing self.old) verdicts c made
             → IfOk result (λ _. IsOpenOn (WatchesRows self.new) (IsOwing self.new) verdicts c text.old text.new made) }
         ensures room { OnOk result (length self.new.times.items < most_rows) }
+        ensures block { self.new.block ≡ self.old.block }
     {
         if self.times.len() < MOST_ROWS {
             return Ok(());
         }
-        self.flush(text)
+        self.make_owed(text)
+    }
+
+    /// Makes the text that is owed.
+    ///
+    /// # Errors
+    /// Want of memory.
+    fn make_owed(&mut self, text: &mut Text) -> Result<(), Memory>
+        requires { (c : Of) × (made : List ℕ) × IsOpen (WatchesRows self.old) (IsOwing self.old) verdicts c made }
+        ensures followed { (c : Of) (made : List ℕ) → IsOpen (WatchesRows self.old) (IsOwing self.old) verdicts c made
+            → IfOk result (λ _. IsFollowedOn (WatchesRows self.new) verdicts c text.old text.new made) }
+        ensures block { self.new.block ≡ self.old.block }
+    {
+        if self.times.is_empty() {
+            return Ok(());
+        }
+        self.network.step_all()?;
+        self.network.give_all(&mut self.pending)?;
+        self.put_rows(text)?;
+        self.times.clear();
+        self.pending.clear();
+        Ok(())
     }
 
     /// Takes the next row. A root that is an atom answers it at once; else its answer is owed.
@@ -194,6 +221,75 @@ impl Verdicts {
             Ok(()) => Ok(()),
             Err(_) => Err(Memory),
         }
+    }
+
+    /// Keeps a row as the last one.
+    ///
+    /// # Errors
+    /// Want of memory.
+    fn keep_row(&mut self, row: &Row) -> Result<(), Memory>
+        requires { (t : Recorded) × KeepsLast self.old.block t × Takes row.now t }
+        ensures kept { (t : Recorded) → KeepsLast self.old.block t → Takes row.now t
+            → IfOk result (λ _. KeepsLast self.new.block (record t { rows = t.rows ++ row.now ∷ [] })) }
+        ensures others { self.new ≡ record self.old { block = self.new.block } }
+    {
+        self.block.push(row)?;
+        self.block.keep_last();
+        Ok(())
+    }
+
+    /// Takes the rows of the block behind row `at`, the last one that was taken, as many as may come before the nodes step, and answers
+    /// which row is the last of them. Their text is owed.
+    ///
+    /// # Errors
+    /// Want of memory.
+    fn take_slice(&mut self, at: usize, last: usize) -> Result<usize, Memory>
+        requires room { length self.old.times.items < most_rows }
+        requires order { at < last }
+        requires within { last < length self.old.block.rows }
+        requires root { node_is_atom self.old.network.formula.nodes (length self.old.network.formula.nodes - 1) ≡ false }
+        requires open { (c : Of) × (made : List ℕ) × IsOpen (WatchesRows self.old) (IsOwing self.old) verdicts c made × IsLastAt self.old.block at c.trace }
+        ensures open { (c : Of) (made : List ℕ) → IsOpen (WatchesRows self.old) (IsOwing self.old) verdicts c made → IsLastAt self.old.block at c.trace
+            → IfOk result (λ to. IsOpen (WatchesRows self.new) (IsOwing self.new) verdicts (with_rows (rows_between self.old.block at to) c) made) }
+        ensures later { IfOk result (λ to. (at < to) × (to ≤ last)) }
+        ensures block { self.new.block ≡ self.old.block }
+        ensures formula { self.new.network.formula ≡ self.old.network.formula }
+    {
+        let to = last.min(at + (MOST_ROWS - self.times.len()));
+        let Ok(()) = self.network.net.feed_rows(&self.block, at, to) else {
+            return Err(Memory);
+        };
+        for r in at..to {
+            let Ok(()) = self.times.push(self.block.time(r + 1)) else {
+                return Err(Memory);
+            };
+        }
+        Ok(to)
+    }
+
+    /// Takes the rows of the block behind its first one, which is the last that was taken before, and makes the text that is owed after each
+    /// 64 of them. The last row alone is left in the block.
+    ///
+    /// # Errors
+    /// Want of memory.
+    fn take_block(&mut self, text: &mut Text) -> Result<(), Memory>
+        requires some { 0 < length self.old.block.rows }
+        requires root { node_is_atom self.old.network.formula.nodes (length self.old.network.formula.nodes - 1) ≡ false }
+        requires open { (c : Of) × (made : List ℕ) × IsOpen (WatchesRows self.old) (IsOwing self.old) verdicts c made × IsLastAt self.old.block 0 c.trace }
+        ensures open { (c : Of) (made : List ℕ) → IsOpen (WatchesRows self.old) (IsOwing self.old) verdicts c made → IsLastAt self.old.block 0 c.trace
+            → IfOk result (λ _. IsOpenOn (WatchesRows self.new) (IsOwing self.new) verdicts (with_rows (drop 1 self.old.block.rows) c)
+            text.old text.new made) }
+        ensures kept { (c : Of) → IsLastAt self.old.block 0 c.trace
+            → IfOk result (λ _. KeepsLast self.new.block (record c.trace { rows = c.trace.rows ++ drop 1 self.old.block.rows })) }
+    {
+        let last = self.block.rows() - 1;
+        let mut at = 0;
+        while at < last {
+            self.make_room(text)?;
+            at = self.take_slice(at, last)?;
+        }
+        self.block.keep_last();
+        Ok(())
     }
 
     /// Takes the end, adds to the text what is left, and answers the truth at the start.
@@ -227,6 +323,7 @@ impl Verdicts {
         ensures network { self.new.network ≡ self.old.network }
         ensures horizon { self.new.horizon ≡ self.old.horizon }
         ensures times { self.new.times.items ≡ self.old.times.items }
+        ensures block { self.new.block ≡ self.old.block }
     {
         let time = u64::from(time);
         if time < self.horizon {
@@ -246,6 +343,7 @@ impl Verdicts {
             IsTextOfRows self.old.network.formula.scale self.old.horizon self.old.times.items self.old.pending grown self.new.pending) text.old text.new) }
         ensures network { self.new.network ≡ self.old.network }
         ensures horizon { self.new.horizon ≡ self.old.horizon }
+        ensures block { self.new.block ≡ self.old.block }
     {
         for i in 0..self.times.len() {
             let time = self.times[i];
@@ -258,9 +356,9 @@ impl Verdicts {
 impl Follow for Verdicts {
     ghost kind = { verdicts };
 
-    ghost stands = { WatchesRows };
+    ghost stands = { KeepsRows };
 
-    ghost owes = { λ s c made. IsOwing s c made };
+    ghost owes = { OwesRows };
 
     ghost ended = { WatchesEnd };
 
@@ -268,7 +366,7 @@ impl Follow for Verdicts {
         let Case {
             formula,
             bound,
-            trace: _trace,
+            trace,
         } = case;
         let net = Net::joining(alloc, &formula, bound)?;
         let horizon = formula.horizon();
@@ -278,6 +376,7 @@ impl Follow for Verdicts {
                 formula,
                 start: None,
             },
+            block: trace,
             horizon,
             times: Vec::new(alloc),
             pending: Pending::new(alloc),
@@ -289,22 +388,34 @@ impl Follow for Verdicts {
         let Ok(()) = self.make_room(text) else {
             return Err(FollowFault::Memory);
         };
-        match self.take_row(row, text) {
+        let Ok(()) = self.take_row(row, text) else {
+            return Err(FollowFault::Memory);
+        };
+        if is_atom(&self.network.formula) {
+            return Ok(());
+        }
+        match self.keep_row(row) {
             Ok(()) => Ok(()),
             Err(_) => Err(FollowFault::Memory),
         }
     }
 
-    fn flush(&mut self, text: &mut Text) -> Result<(), Memory> {
-        if self.times.is_empty() {
-            return Ok(());
+    fn take_rows(
+        &mut self,
+        rows: &mut Rows,
+        piece: &[u8],
+        text: &mut Text,
+    ) -> Result<usize, Memory> {
+        if self.block.rows() == 0 {
+            return Ok(0);
         }
-        self.network.step_all()?;
-        self.network.give_all(&mut self.pending)?;
-        self.put_rows(text)?;
-        self.times.clear();
-        self.pending.clear();
-        Ok(())
+        let bytes = rows.take_rows(piece, &mut self.block)?;
+        self.take_block(text)?;
+        Ok(bytes)
+    }
+
+    fn flush(&mut self, text: &mut Text) -> Result<(), Memory> {
+        self.make_owed(text)
     }
 
     fn end(&mut self, text: &mut Text) -> Result<bool, FollowFault> {

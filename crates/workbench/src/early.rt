@@ -9,7 +9,7 @@ use frac128::Memory;
 use report::{put_decided, put_start};
 use std::alloc::Global;
 use stl_syntax::{Scale, Text};
-use trace_reader::Row;
+use trace_reader::{Row, Rows};
 use trace_stream::{Case, Follow, FollowFault};
 
 /// What follows the rows of a trace for its early verdict, with the ticks in which its times are written.
@@ -157,6 +157,15 @@ impl Follow for Deciding {
             Ok(()) => Ok(()),
             Err(_) => Err(FollowFault::Memory),
         }
+    }
+
+    fn take_rows(
+        &mut self,
+        _rows: &mut Rows,
+        _piece: &[u8],
+        _text: &mut Text,
+    ) -> Result<usize, Memory> {
+        Ok(0)
     }
 
     fn flush(&mut self, _text: &mut Text) -> Result<(), Memory> {

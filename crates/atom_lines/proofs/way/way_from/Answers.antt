@@ -10,7 +10,7 @@ use Rattle.atom_lines.proofs.way.way_from.Goals as goal
 pub loop-at-init : goal.loop-at-init
 loop-at-init c = record {
   begins = omega arith;
-  within = let h = c.requires.within in omega (arith, h, c.rows-last.ensures.count);
+  within = c.requires.before;
   order = omega arith;
   step = c.step_from-step.ensures;
   stays = λ a tr for has t low high.
@@ -39,15 +39,15 @@ loop-at-preserved c =
           (subst (λ j. t ≤ʳ row_time (row_of c.args.trace.now j)) (let k : n ≡ suc c.loop-at.at = omega arith in k) high);
     }
 
-pub returns : goal.returns
-returns c =
+pub returns-clause-way : goal.returns-clause-way
+returns-clause-way c =
     let i = c.loop-at.invariant in
     let k = c.atom-atom.result.now in
     let read = read_next k c.args.trace.now c.loop-at.at c.loop-at.step.gap c.loop-at.step.next c.atom-atom.ensures.sound.limit i.step in
     way_is c.args.bound.now c.args.node k c.atom-atom.ensures.at c.args.trace.now c.args.r c.loop-at.at (c.loop-at.at + 1)
     c.loop-at.step.gap c.loop-at.step.next
     (to_z w64 (of_z w64 c.loop-at.step.next)) c.passage_over.result c.holds-holds.result (record {
-      count = omega arith;
+      count = let h = i.within in let w = c.requires.within in omega (arith, h, w);
       begins = i.begins;
       order = i.order;
       limit = c.atom-atom.ensures.sound.limit;
@@ -57,3 +57,6 @@ returns c =
       at_end = c.holds-holds.ensures ∙ c.truth_at.ensures ∙ ap (λ m. compares k.rel (whole m)) read;
       stays = i.stays;
     })
+
+pub returns-clause-last : goal.returns-clause-last
+returns-clause-last c = let h = c.loop-at.invariant.within in omega (arith, h)

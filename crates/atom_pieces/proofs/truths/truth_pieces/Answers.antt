@@ -35,19 +35,19 @@ pub follow-requires-clause-later : goal.follow-requires-clause-later
 follow-requires-clause-later c =
     subst (λ n. Before (stop c.loop-at.chain) (after (whole (pos n)))) (sym (c.time.ensures none))
     (way_later c.args.bound.now c.args.node c.args.trace.now c.loop-at.at c.loop-at.holds c.way_from-way.result c.loop-at.chain
-    c.way_from-way.ensures c.loop-at.invariant.grown)
+    c.way_from-way.ensures.way c.loop-at.invariant.grown)
 
 pub loop-at-preserved : goal.loop-at-preserved
 loop-at-preserved c =
     let b = c.args.bound.now in
     let tr = c.args.trace.now in
     let w = c.way_from-way.result in
-    let way = c.way_from-way.ensures in
+    let way = c.way_from-way.ensures.way in
     let e = c.time.ensures none in
     let f = c.time-in-loop-at.ensures none in
     let few : (row_of tr w.row).time < 2 ^ 32 = omega (arith, f) in
     record {
-      within = let h = way.within in omega (arith, h, c.rows-last.ensures.count);
+      within = c.way_from-way.ensures.last;
       few = few;
       sum = subst (IsReachAt b c.args.node tr w.row) (sym (sum_read b c.args.node tr w.row w.sum c.requires.atom way.sum)) way.sum;
       grown = truths_on b c.args.node tr c.loop-at.at c.loop-at.holds w c.loop-at.chain c.follow.new.chain few way c.loop-at.invariant.grown

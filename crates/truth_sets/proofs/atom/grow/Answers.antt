@@ -30,7 +30,7 @@ go_along-requires-clause-tidy c =
     let g = c.loop-at.invariant.grown c.requires.grown.0 rows c.requires.grown.2 c.requires.grown.3 in (
       first_time rows,
       tidy_later (first_time rows) (row_of c.args.trace.now c.loop-at.at).time c.time.result c.loop-at.set.times
-          (let o = c.way_from-way.ensures.order in omega (arith, o, c.time.ensures none)) g.tidy,
+          (let o = c.way_from-way.ensures.way.order in omega (arith, o, c.time.ensures none)) g.tidy,
     )
 
 pub loop-at-preserved : goal.loop-at-preserved
@@ -45,10 +45,10 @@ loop-at-preserved c =
     let f : c.time-in-loop-at.result ≡ (row_of block w.row).time = c.time-in-loop-at.ensures none in
     let along = c.in_ok-go_along.ensures in
     record {
-      within = let h = c.way_from-way.ensures.within in omega (arith, h, c.rows-last.ensures.count);
+      within = c.way_from-way.ensures.last;
       grown = λ header rows tail g.
-          grown_on b i header rows block tail c.loop-at.at c.loop-at.set (record { sum = to_z w64 (of_z w64 w.sum); times = new }) w c.way_from-way.ensures
-          (c.loop-at.invariant.grown header rows tail g) (sum_read b i block w.row w.sum c.requires.atom c.way_from-way.ensures.sum)
+          grown_on b i header rows block tail c.loop-at.at c.loop-at.set (record { sum = to_z w64 (of_z w64 w.sum); times = new }) w c.way_from-way.ensures.way
+          (c.loop-at.invariant.grown header rows tail g) (sum_read b i block w.row w.sum c.requires.atom c.way_from-way.ensures.way.sum)
           (subst (λ m. (from : ℕ) → IsTidy from m old → IsTidy from (row_of block w.row).time new) e
           (subst (λ n. (from : ℕ) → IsTidy from c.time.result old → IsTidy from n new) f along.tidy))
           (subst (λ m. (test : Rational → Bool) → TellsPassage (whole (pos m)) (whole (pos (row_of block w.row).time)) test w.passage

@@ -1,10 +1,10 @@
 -- Rows, and then a line.
-use Rattle.std.proofs.Common.{◌≡◌, ℕ, zero, suc, ◌≤◌, ◌+◌, ◌-◌, ◌<◌, ◌++◌, false, length, take, drop, sym, ◌∙◌, subst, arith, length-drop}
+use Rattle.std.proofs.Common.{◌≡◌, ℕ, ◌≤◌, ◌+◌, ◌-◌, ◌++◌, false, length, take, drop, sym, ◌∙◌, subst, arith, length-drop}
 use Rattle.std.proofs.lemmas.Result.{err_from_is_err_and}
 use Rattle.rational.proofs.Lists.{take_rest}
 use Rattle.trace_stream.specs.CaseReader.{IsRefused}
 use Rattle.trace_stream.specs.Kept.{IsKeptAs}
-use Rattle.trace_stream.proofs.Fed.{fed, fed_err}
+use Rattle.trace_stream.proofs.Fed.{fed, fed_err, some_taken}
 use Rattle.trace_stream.proofs.case_reader.CaseReader.advance.Goals as goal
 
 pub take_rows-requires : goal.take_rows-requires
@@ -56,11 +56,7 @@ returns-clause-progress g c = λ some.
     let rest = take_rest piece n in
     let progress = c.in_ok-more.ensures.progress in
     let on = rw rest at progress in
-    by_size n c.in_ok-more.more (length (drop n piece)) (length piece) some (length-drop n piece) on
-  where
-    by_size : (n m rest size : ℕ) → 0 < size → rest ≡ size - n → (0 < rest → 0 < m) → 0 < n + m
-    by_size zero m rest size some e f = omega (arith, f (omega (arith, e, some)))
-    by_size (suc n) m rest size some e f = omega arith
+    some_taken n c.in_ok-more.more (length (drop n piece)) (length piece) some (length-drop n piece) on
 
 pub returns-clause-limits : goal.returns-clause-limits
 returns-clause-limits g c = c.in_ok-more.ensures.limits ∙ c.in_ok-rows.ensures.limits

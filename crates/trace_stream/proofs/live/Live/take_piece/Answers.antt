@@ -16,8 +16,8 @@ loop-at-init g c = record {
   taken = λ bytes written k. subst (λ b. IsLiveOpen g.F.Follow.stands g.F.Follow.owes g.F.Follow.kind c.args.self.now b written) (sym (append-nil bytes)) k;
 }
 
-pub step-requires : goal.step-requires
-step-requires g c = record {
+pub advance-requires : goal.advance-requires
+advance-requires g c = record {
   bytes = c.requires.bytes ++ take c.loop-at.at c.args.piece.now;
   written = c.requires.written;
   is = c.loop-at.invariant.taken c.requires.bytes c.requires.written c.requires.is;
@@ -29,14 +29,14 @@ returns-in_err-at-clause-taken g c =
     let piece = c.args.piece.now in
     rw (p.1, p.2) (λ bytes written k.
     live_fed g.F.Follow.stands g.F.Follow.owes g.F.Follow.kind c.args.self.now.rows.limits c.args.self.now.formula bytes piece
-    (written ++ c.step.new.self.text) c.loop-at.at c.step.new.self.follower c.in_err-at.field-0.0
+    (written ++ c.advance.new.self.text) c.loop-at.at c.advance.new.self.follower c.in_err-at.field-0.0
     (subst (λ (l : Limits). IsOpenStop g.F.Follow.stands g.F.Follow.owes g.F.Follow.kind l c.args.self.now.formula false ((bytes ++ take c.loop-at.at piece)
-    ++ drop c.loop-at.at piece) c.step.new.self.follower (written ++ c.step.new.self.text) c.in_err-at.field-0.0) c.loop-at.invariant.limits
+    ++ drop c.loop-at.at piece) c.advance.new.self.follower (written ++ c.advance.new.self.text) c.in_err-at.field-0.0) c.loop-at.invariant.limits
     (subst (λ (f : Formula). IsOpenStop g.F.Follow.stands g.F.Follow.owes g.F.Follow.kind c.loop-at.self.rows.limits f false
-    ((bytes ++ take c.loop-at.at piece) ++ drop c.loop-at.at piece) c.step.new.self.follower (written ++ c.step.new.self.text) c.in_err-at.field-0.0)
+    ((bytes ++ take c.loop-at.at piece) ++ drop c.loop-at.at piece) c.advance.new.self.follower (written ++ c.advance.new.self.text) c.in_err-at.field-0.0)
     c.loop-at.invariant.formula
     (subst (λ b. IsOpenStop g.F.Follow.stands g.F.Follow.owes g.F.Follow.kind c.loop-at.self.rows.limits c.loop-at.self.formula false
-    ((bytes ++ take c.loop-at.at piece) ++ b) c.step.new.self.follower (written ++ c.step.new.self.text) c.in_err-at.field-0.0)
+    ((bytes ++ take c.loop-at.at piece) ++ b) c.advance.new.self.follower (written ++ c.advance.new.self.text) c.in_err-at.field-0.0)
     (take_rest piece c.loop-at.at)
     (c.in_err-at.ensures.taken (bytes ++ take c.loop-at.at piece) written (c.loop-at.invariant.taken bytes written k))))))
 
@@ -55,7 +55,7 @@ loop-at-preserved g c =
       within = omega (arith, length-drop c.loop-at.at c.args.piece.now);
       limits = c.in_ok-at.ensures.limits ∙ c.loop-at.invariant.limits;
       formula = c.in_ok-at.ensures.formula ∙ c.loop-at.invariant.formula;
-      taken = λ bytes written k. subst (λ b. IsLiveOpen g.F.Follow.stands g.F.Follow.owes g.F.Follow.kind c.step.new.self b written)
+      taken = λ bytes written k. subst (λ b. IsLiveOpen g.F.Follow.stands g.F.Follow.owes g.F.Follow.kind c.advance.new.self b written)
           (fed bytes c.args.piece.now c.loop-at.at c.in_ok-at.field-0)
           (c.in_ok-at.ensures.taken (bytes ++ take c.loop-at.at c.args.piece.now) written (c.loop-at.invariant.taken bytes written k));
     }

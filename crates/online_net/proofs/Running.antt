@@ -1,0 +1,306 @@
+-- An atom's truth along a block, run by run.
+use Rattle.std.proofs.Common.{◌≡◌, ◌≢◌, ◌⊎◌, inl, inr, refl, sym, ap, subst, ◌∙◌, ℕ, suc, ◌-◌, ◌<◌, ◌≤◌, Bool, true, false, not, Option, Some, None}
+use Rattle.std.proofs.Common.{List, [], ◌∷◌, ◌++◌, length, set, ℤ, pos, ◌<ℤ◌, ◌≤ℤ◌, arith, append_assoc}
+use Rattle.std.proofs.lemmas.Bool.{cases_order}
+use Rattle.std.proofs.lemmas.Int.{ints}
+use Rattle.std.proofs.lemmas.List.{append-nil, get_or-set_same, get_or-set_other, length-set, set-get_or, set-set}
+use Rattle.rational.specs.Rational.{Rational, ◌<ʳ◌, ◌≤ʳ◌, ◌≈◌, whole}
+use Rattle.rational.specs.Places.{Place, begins, ends, After, Upto, AtMost, Before, Same}
+use Rattle.rational.proofs.Order.{same_refl, same_of_le, le_of_lt, le_trans, not_lt_of_le}
+use Rattle.rational.proofs.Shift.{lt_whole, le_whole}
+use Rattle.rational.proofs.PlaceLemmas.{same_places, same_trans_places, same_before, before_trans, before_at_most, before_of_at_most, after_same}
+use Rattle.frac128.specs.Cuts.{place}
+use Rattle.frac128.specs.Spans.{interval}
+use Rattle.frac128.specs.declared.cut.Cut.{Cut}
+use Rattle.stl_syntax.specs.Trace.{Row, Trace, row_time}
+use Rattle.stl_syntax.specs.Formula.{Subformula, atom}
+use Rattle.stl_syntax.specs.Truth.{Truth, holds_at}
+use Rattle.stl_syntax.specs.declared.atom.Atom.{Atom}
+use Rattle.stl_syntax.specs.declared.items.Verdict.{Verdict}
+use Rattle.atom_lines.specs.Binding.{Binding, IsFor}
+use Rattle.atom_lines.specs.Growing.{IsReachAt}
+use Rattle.atom_lines.specs.Passages.{HasBlock, IsWay, TellsPassage, TurnsInside, crossing_time}
+use Rattle.atom_lines.specs.Rows.{row_of}
+use Rattle.atom_lines.specs.declared.passage.Passage.{Passage}
+use Rattle.atom_lines.specs.declared.passage.Passage.TheVariants.{Steady, Turns}
+use Rattle.atom_lines.specs.declared.passage.Way.{Way}
+use Rattle.online_nodes.specs.Held.{Edge, Held, HasMore, Stand, edge_at, no_edge, with_edge}
+use Rattle.online_nodes.specs.Truths.{AllAre}
+use Rattle.online_nodes.specs.Written.{Lead}
+use Rattle.online_nodes.proofs.Stretches.{some_verdict, stand_again, stand_given, stand_more}
+use Rattle.online_nodes.proofs.Writing.{joined, told_same, same_itself, lead_on, lead_to}
+use Rattle.online_net.specs.Stretches.{after_time, before_time, first_truth, HasMoreAt, HasPutRun, HasRun, HasTurned, HasPassed, HasGone, HasCome, HasPutStretch}
+use Rattle.online_net.specs.declared.stretch.Run.{Run}
+use Rattle.online_net.specs.declared.stretch.Along.{Along}
+use Rattle.online_net.proofs.Saying.{is_test}
+
+-- ---- an edge that got verdicts
+
+-- nothing more was put
+pub none_at_all : (e : Held) (i : ℕ) → HasMoreAt e e i []
+none_at_all e i = record {
+  here = record {
+    seen = refl;
+    fresh = subst (λ l. Stand (edge_at e i).joins l (edge_at e i).fresh) (sym (append-nil (edge_at e i).fresh))
+        (stand_given (edge_at e i).joins (edge_at e i).fresh);
+    number = refl;
+    joins = refl;
+  };
+  others = sym (set-get_or e.edges i no_edge);
+  start = refl;
+}
+
+-- as many edges as before
+pub more_count : {old new : Held} {i : ℕ} {more : List Verdict} → HasMoreAt old new i more → length new.edges ≡ length old.edges
+more_count {old} {new} {i} got = ap length got.others ∙ length-set old.edges i _
+
+-- verdicts more, and then others
+pub more_both : {a b c : Held} {i : ℕ} {xs ys : List Verdict} → HasMoreAt a b i xs → HasMoreAt b c i ys → HasMoreAt a c i (xs ++ ys)
+more_both {a} {b} {c} {i} {xs} {ys} first second = record {
+  here = record {
+    seen = second.here.seen ∙ first.here.seen;
+    fresh = subst (λ l. Stand x.joins l z.fresh) (append_assoc x.fresh xs ys)
+        (stand_again x.joins ((x.fresh ++ xs) ++ ys) (y.fresh ++ ys) z.fresh (stand_more x.joins (x.fresh ++ xs) y.fresh first.here.fresh ys)
+        (subst (λ t. Stand t (y.fresh ++ ys) z.fresh) first.here.joins second.here.fresh));
+    number = second.here.number ∙ first.here.number;
+    joins = second.here.joins ∙ first.here.joins;
+  };
+  others = second.others ∙ ap (λ es. set es i z) first.others ∙ set-set a.edges i _ _;
+  start = second.start ∙ first.start;
+}
+  where
+    x : Edge
+    x = edge_at a i
+
+    y : Edge
+    y = edge_at b i
+
+    z : Edge
+    z = edge_at c i
+
+-- ---- one place after another
+
+time_order : (m n : ℕ) → m < n → Before (after_time m) (before_time n)
+time_order m n l = inl (lt_whole (let h : pos m <ℤ pos n = omega (arith, ints, l) in h))
+
+pub own_order : (n : ℕ) → Before (before_time n) (after_time n)
+own_order n = inr (same_refl (whole (pos n)), refl, refl)
+
+pub later_order : (m n : ℕ) → m < n → Before (after_time m) (after_time n)
+later_order m n l = before_trans (after_time m) (before_time n) (after_time n) (time_order m n l) (own_order n)
+
+at_most_order : (m n : ℕ) → m ≤ n → AtMost (after_time m) (after_time n)
+at_most_order m n l t u = le_trans u (le_whole (let h : pos m ≤ℤ pos n = omega (arith, ints, l) in h))
+
+-- ---- turns
+
+module _ (i : ℕ) (old : Held) (run : Run) (at : Cut) (holds : Bool) (c : Place) (same : Same (place at) c)
+    (order : (d : Place) → Before (place at) d → Before (place run.from) d) where
+  -- the truth goes on
+  pub turn_none : run.holds ≡ holds → HasTurned old old i run c holds run
+  turn_none e = record {
+    more = [];
+    got = none_at_all old i;
+    truth = e;
+    order = λ d b. order d (same_before (place at) c d same b);
+    told = λ n tr begin written h d all. record {
+      last = h.last;
+      lead = subst (λ l. Lead n tr begin None l (place run.from) h.last) (sym (append-nil written)) h.lead;
+      other = h.other;
+      all = joined run.holds (Truth n tr) (place run.from) c d h.all (subst (λ b. AllAre b (Truth n tr) c d) (sym e) all);
+    };
+  }
+
+  -- the run before is put
+  pub turn_put : {new : Held} → run.holds ≢ holds → HasPutRun old new i run (place at)
+      → HasTurned old new i run c holds (record { from = at; holds = holds })
+  turn_put {new} differ put = record {
+    more = put.verdict ∷ [];
+    got = put.got;
+    truth = refl;
+    order = λ d b. same_before (place at) c d same b;
+    told = λ n tr begin written h d all. record {
+      last = Some put.verdict.holds;
+      lead = run_lead n tr begin written h (same_trans_places put.end same) put;
+      other = λ e. differ (sym put.is ∙ some_is e);
+      all = told_same holds (Truth n tr) c d (place at) d (same_places same) (same_itself d) all;
+    };
+  }
+    where
+      some_is : {a b : Bool} → Some a ≡ Some b → a ≡ b
+      some_is {a} {b} e = ap or_true e
+        where
+          or_true : Option Bool → Bool
+          or_true None = true
+          or_true (Some x) = x
+
+      run_lead : (n : Subformula) (tr : Trace) (begin : Place) (written : List Verdict) → (h : HasRun n tr begin written run c)
+          → Same (ends (interval put.verdict.on)) c → (p : HasPutRun old new i run (place at))
+          → Lead n tr begin None (written ++ put.verdict ∷ []) (place at) (Some put.verdict.holds)
+      run_lead n tr begin written h to p =
+          lead_to n tr begin None (written ++ put.verdict ∷ []) (ends (interval put.verdict.on)) (place at) (Some put.verdict.holds) put.end
+          (lead_on n tr begin None written (place run.from) h.last put.verdict h.lead put.begin (some_verdict put.verdict)
+          (λ e. h.other (e ∙ ap Some put.is))
+          (subst (λ b. AllAre b (Truth n tr) (begins (interval put.verdict.on)) (ends (interval put.verdict.on))) (sym put.is)
+          (told_same run.holds (Truth n tr) (place run.from) c (begins (interval put.verdict.on)) (ends (interval put.verdict.on)) put.begin
+          (same_places to) h.all)))
+
+-- ---- a gap
+
+-- behind a passage the run began before the row at its end
+pub passed_before : (i first second : ℕ) → first < second → (old new : Held) (before after : Run) (passage : Passage)
+    → TurnsInside (whole (pos first)) (whole (pos second)) passage → HasPassed old new i before first passage after
+    → Before (place after.from) (before_time second)
+passed_before i first second later old new before after (Steady holds) inside p = p.order (before_time second) (time_order first second later)
+passed_before i first second later old new before after (Turns holds x side) inside p = p.3.order (before_time second) (inl inside.1)
+
+-- and there are as many edges as before
+pub passed_count : (i first : ℕ) (old new : Held) (before after : Run) (passage : Passage) → HasPassed old new i before first passage after
+    → length new.edges ≡ length old.edges
+passed_count i first old new before after (Steady holds) p = more_count p.got
+passed_count i first old new before after (Turns holds x side) p = more_count p.3.got ∙ more_count p.2.got
+
+-- a run was put up to a place by another name
+pub put_run_to : {old new : Held} {i : ℕ} {run : Run} {c d : Place} → Same c d → HasPutRun old new i run c → HasPutRun old new i run d
+put_run_to same put = record {
+  verdict = put.verdict;
+  got = put.got;
+  begin = put.begin;
+  end = same_trans_places put.end same;
+  is = put.is;
+}
+
+-- over the gap, and to the row
+pub gone : (i first second : ℕ) → first < second → (e0 e1 e2 : Held) (before mid after : Run) (passage : Passage) (last : Bool)
+    → HasPassed e0 e1 i before first passage mid → HasTurned e1 e2 i mid (before_time second) last after
+    → HasGone e0 e2 i before first second passage last after
+gone i first second later e0 e1 e2 before mid after (Steady holds) last p t = record {
+  more = p.more ++ t.more;
+  got = more_both p.got t.got;
+  truth = t.truth;
+  some = t.order (after_time second) (own_order second);
+  told = λ a tr begin written h passes there.
+      subst (λ l. HasRun (atom i a) tr begin l after (after_time second)) (append_assoc written p.more t.more)
+      (t.told (atom i a) tr begin (written ++ p.more)
+      (p.told (atom i a) tr begin written h (before_time second) (λ x low high. is_test a tr x holds (passes x low high)))
+      (after_time second) (λ x low high. is_test a tr x last (there x (same_of_le high low))));
+}
+gone i first second later e0 e1 e2 before mid after (Turns holds x side) last p t = record {
+  more = (p.2.more ++ p.3.more) ++ t.more;
+  got = more_both (more_both p.2.got p.3.got) t.got;
+  truth = t.truth;
+  some = t.order (after_time second) (own_order second);
+  told = λ a tr begin written h passes there.
+      subst (λ l. HasRun (atom i a) tr begin l after (after_time second))
+      (ap (λ l. l ++ t.more) (append_assoc written p.2.more p.3.more) ∙ append_assoc written (p.2.more ++ p.3.more) t.more)
+      (t.told (atom i a) tr begin ((written ++ p.2.more) ++ p.3.more)
+      (p.3.told (atom i a) tr begin (written ++ p.2.more)
+      (p.2.told (atom i a) tr begin written h (record { at = crossing_time x; after = side })
+      (λ u low high. is_test a tr u holds (passes.until_then u low high)))
+      (before_time second) (λ u low high. is_test a tr u (not holds) (passes.from_then u low high)))
+      (after_time second) (λ u low high. is_test a tr u last (there u (same_of_le high low))));
+}
+
+-- ---- along the block
+
+module _ (b : Binding) (block : Trace) (from to i : ℕ) where
+  abbrev time_at : ℕ → ℕ
+  time_at k = (row_of block k).time
+
+  -- the first way
+  pub come_first : {old new : Held} {run after : Run} (w : Way) (holds : Bool) (sum : ℤ) → IsWay b i block from w → w.row ≤ to
+      → ((a : Atom) (tr : Trace) (t : Rational) → IsFor b i a tr → HasBlock tr block → t ≈ row_time (row_of block from) → holds_at a tr t ≡ holds)
+      → Same (place run.from) (after_time (time_at from)) → (time_at from < time_at (w.row - 1) → run.holds ≡ holds) → IsReachAt b i block w.row sum
+      → HasGone old new i run (time_at (w.row - 1)) (time_at w.row) w.passage w.last after
+      → HasCome b block from to i old new (record { at = w.row; sum = sum; run = after })
+  come_first {old} {new} {run} {after} w holds sum way within stands begins_so stays reaches g = record {
+    more = g.more;
+    got = g.got;
+    later = way.later;
+    within = within;
+    sum = reaches;
+    some = g.some;
+    told = λ a tr for has.
+        let v = way.tells a tr for has in (
+          g.told a tr (after_time (time_at from)) [] (record {
+            last = None;
+            lead = (same_places begins_so, refl);
+            other = λ e. (let x = e in cc);
+            all = λ t low high. is_test a tr t run.holds (by_place a tr for has t (after_same (place run.from) (after_time (time_at from)) t begins_so low) high);
+          }) v.passes v.there,
+          v.there (row_time (row_of block w.row)) (same_refl (row_time (row_of block w.row))) ∙ sym g.truth,
+        );
+  }
+    where
+      by_place : (a : Atom) (tr : Trace) → IsFor b i a tr → HasBlock tr block → (t : Rational) → row_time (row_of block from) <ʳ t
+          → t ≤ʳ row_time (row_of block (w.row - 1)) → holds_at a tr t ≡ run.holds
+      by_place a tr for has t low high = by_order (cases_order (time_at from) (time_at (w.row - 1)))
+        where
+          by_order : (time_at from ≡ time_at (w.row - 1)) ⊎ ((time_at from < time_at (w.row - 1)) ⊎ (time_at (w.row - 1) < time_at from))
+              → holds_at a tr t ≡ run.holds
+          by_order (inl e) = absurd (not_lt_of_le (subst (λ m. t ≤ʳ whole (pos m)) (sym e) high) low)
+          by_order (inr (inl l)) =
+              (way.tells a tr for has).stays t (le_of_lt low) high
+              ∙ stands a tr (row_time (row_of block from)) for has (same_refl (row_time (row_of block from))) ∙ sym (stays l)
+          by_order (inr (inr l)) = absurd (let o = way.order in omega (arith, l, o))
+
+  -- one way more
+  pub come_on : {e0 e1 e2 : Held} (along : Along) (after : Run) (w : Way) (sum : ℤ) → HasCome b block from to i e0 e1 along → IsWay b i block along.at w
+      → w.row ≤ to → IsReachAt b i block w.row sum
+      → HasGone e1 e2 i along.run (time_at (w.row - 1)) (time_at w.row) w.passage w.last after
+      → HasCome b block from to i e0 e2 (record { at = w.row; sum = sum; run = after })
+  come_on along after w sum c way within reaches g = record {
+    more = c.more ++ g.more;
+    got = more_both c.got g.got;
+    later = let l = c.later in let m = way.later in omega (arith, l, m);
+    within = within;
+    sum = reaches;
+    some = g.some;
+    told = λ a tr for has.
+        let v = way.tells a tr for has in
+        let old = c.told a tr for has in
+        let run = old.0 in (
+          g.told a tr (after_time (time_at from)) c.more (record {
+            last = run.last;
+            lead = run.lead;
+            other = run.other;
+            all = joined along.run.holds (Truth (atom i a) tr) (place along.run.from) (after_time (time_at along.at)) (after_time (time_at (w.row - 1)))
+                run.all (λ t low high. is_test a tr t along.run.holds (v.stays t (le_of_lt low) high ∙ old.1));
+          }) v.passes v.there,
+          v.there (row_time (row_of block w.row)) (same_refl (row_time (row_of block w.row))) ∙ sym g.truth,
+        );
+  }
+
+  -- what a way more needs
+  pub goes_some : {e0 e1 : Held} (along : Along) (w : Way) → HasCome b block from to i e0 e1 along → IsWay b i block along.at w
+      → Before (place along.run.from) (after_time (time_at (w.row - 1)))
+  goes_some along w c way = before_at_most (place along.run.from) (after_time (time_at along.at)) (after_time (time_at (w.row - 1))) c.some
+      (at_most_order (time_at along.at) (time_at (w.row - 1)) way.order)
+
+  -- what a first way needs
+  pub first_order : (run : Run) (w : Way) → IsWay b i block from w → Same (place run.from) (after_time (time_at from)) → (d : Place)
+      → Before (after_time (time_at (w.row - 1))) d → Before (place run.from) d
+  first_order run w way same d h = same_before (place run.from) (after_time (time_at from)) d same
+      (before_of_at_most (after_time (time_at from)) (after_time (time_at (w.row - 1))) d
+      (at_most_order (time_at from) (time_at (w.row - 1)) way.order) h)
+
+  -- the last run is put
+  pub stretch_put : {e0 e1 e2 : Held} (along : Along) → HasCome b block from to i e0 e1 along → along.at ≡ to
+      → HasPutRun e1 e2 i along.run (after_time (time_at to)) → HasPutStretch b block from to i e0 e2
+  stretch_put {e0} {e1} {e2} along c here put = record {
+    more = c.more ++ put.verdict ∷ [];
+    got = more_both c.got put.got;
+    led = λ a tr for has.
+        let run = (c.told a tr for has).0 in
+        let v = put.verdict in
+        let up : Same (ends (interval v.on)) (after_time (time_at along.at)) =
+        subst (λ k. Same (ends (interval v.on)) (after_time (time_at k))) (sym here) put.end in (
+          Some v.holds,
+          lead_to (atom i a) tr (after_time (time_at from)) None (c.more ++ v ∷ []) (ends (interval v.on)) (after_time (time_at to)) (Some v.holds) put.end
+              (lead_on (atom i a) tr (after_time (time_at from)) None c.more (place along.run.from) run.last v run.lead put.begin (some_verdict v)
+              (λ e. run.other (e ∙ ap Some put.is))
+              (subst (λ x. AllAre x (Truth (atom i a) tr) (begins (interval v.on)) (ends (interval v.on))) (sym put.is)
+              (told_same along.run.holds (Truth (atom i a) tr) (place along.run.from) (after_time (time_at along.at)) (begins (interval v.on))
+              (ends (interval v.on)) put.begin (same_places up) run.all))),
+        );
+  }
