@@ -7,7 +7,7 @@ use Rattle.stl_syntax.specs.Trace.{Row, Trace, row_time, start, stop}
 use Rattle.stl_syntax.specs.Truth.{holds_at}
 use Rattle.stl_syntax.specs.declared.atom.Atom.{Atom}
 use Rattle.atom_lines.specs.Binding.{AreNeighbours}
-use Rattle.rational.specs.Places.{Place, After, Upto, Same}
+use Rattle.rational.specs.Places.{Place, Same}
 use Rattle.growing_sets.specs.Spans.{Lies, IsOn, Grows}
 use Rattle.growing_sets.specs.Steps.{Tells, Gains}
 use Rattle.growing_sets.specs.Growing.{Adds}

@@ -14,7 +14,7 @@ use Rattle.stl_syntax.specs.WellFormed.{HasBounds}
 use Rattle.stl_syntax.specs.declared.node.Node.{Node}
 use Rattle.stl_syntax.specs.declared.node.Node.TheVariants.{Const, Atom as Leaf, Not, And, Or, Implies, Until, Eventually, Always, Since, Once, Historically}
 use Rattle.growing_sets.specs.Spans.{IsOn, Lies, AreTidy}
-use Rattle.early_verdict.specs.Readings.{SomeAhead, OnlyAhead, SomeBehind, OnlyBehind, UntilHolds, UntilFails, SinceHolds, SinceFails}
+use Rattle.early_verdict.specs.Readings.{SinceHolds, SinceFails}
 use Rattle.early_verdict.specs.Fitting.{Lists, lists_at, lists_of, SayBoth, SayOfParts, SinceHolding, SinceFailing, AreSetsTidy, ArePartsTidy, Fits}
 use Rattle.early_verdict.specs.Living.{IsShown, LooksAlong, LooksAt, ReachesBack}
 use Rattle.growing_sets.specs.declared.stretch.Stretch.{Stretch}

@@ -1,7 +1,7 @@
 -- One entry goes on from node to node.
-use Rattle.std.proofs.Common.{◌≡◌, ◌≢◌, ◌⊎◌, inl, inr, refl, sym, subst, ◌∙◌, ℕ, zero, suc, ◌+◌, ◌<◌, ◌≤◌}
-use Rattle.std.proofs.Common.{false, Option, Some, None, List, [], ◌∷◌, length, take, arith, below_more}
-use Rattle.std.specs.Prelude.{MatchOption, IsSome, slice_get}
+use Rattle.std.proofs.Common.{◌≡◌, ◌≢◌, ◌⊎◌, inl, inr, refl, sym, subst, ◌∙◌, ℕ, ◌+◌, ◌<◌, ◌≤◌}
+use Rattle.std.proofs.Common.{false, Option, Some, None, List, take, arith, below_more}
+use Rattle.std.specs.Prelude.{slice_get}
 use Rattle.std.proofs.lemmas.Option.{same_Some, slice_get_within}
 use Rattle.rational.proofs.Lists.{slice_get_there}
 use Rattle.stl_syntax.specs.Trace.{Row, Trace, start}
@@ -10,15 +10,13 @@ use Rattle.stl_syntax.specs.declared.node.Node.{Node}
 use Rattle.stl_syntax.specs.declared.node.Node.TheVariants.{Atom as Leaf}
 use Rattle.atom_lines.specs.Binding.{Binding}
 use Rattle.growing_sets.specs.Spans.{Lies}
-use Rattle.early_verdict.specs.Fitting.{Lists, Fits, HasStepped, HasFailBounds, AreSetsTidy, lists_at}
+use Rattle.early_verdict.specs.Fitting.{Lists, Fits, HasStepped, AreSetsTidy, lists_at}
 use Rattle.early_verdict.specs.Happening.{Had, Happens, Was}
 use Rattle.early_verdict.specs.Looking.{WasList}
-use Rattle.early_verdict.specs.Standing.{AllGo, AllTidy, AllWere, HadAll, HasParts, LeafGoes, StepsAt, SteppedTo, left_of}
+use Rattle.early_verdict.specs.Standing.{AllGo, AllTidy, AllWere, HadAll, HasParts, LeafGoes, StepsAt, SteppedTo}
 use Rattle.early_verdict.specs.Living.{AreLive, HasShown, IsLive, ShowsAt, ShownTo}
 use Rattle.early_verdict.specs.declared.entry.Entry.{Entry}
-use Rattle.growing_sets.specs.declared.stretch.Stretch.{Stretch}
 use Rattle.early_verdict.specs.declared.sets.Sets.{Sets}
-use Rattle.early_verdict.specs.declared.sets.Parts.{Parts}
 use Rattle.early_verdict.proofs.FitLemmas.{fits_alike}
 use Rattle.early_verdict.proofs.AllSets.{lists_are}
 use Rattle.early_verdict.proofs.LivingLemmas.{parts_as}

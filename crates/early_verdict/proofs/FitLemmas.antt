@@ -1,5 +1,5 @@
 -- Sets that fit do so by whatever function the children's lists are given, and lie within their bounds.
-use Rattle.std.proofs.Common.{◌≡◌, ◌⊎◌, inl, inr, refl, subst, ℕ, ◌<◌, Bool, Option, Some, None}
+use Rattle.std.proofs.Common.{◌≡◌, inl, inr, refl, subst, ℕ, ◌<◌, Bool, Option, Some, None}
 use Rattle.std.specs.Prelude.{MatchOption}
 use Rattle.rational.specs.Time.{Rational}
 use Rattle.stl_syntax.specs.Trace.{Trace}

@@ -1,10 +1,10 @@
 -- Windows of lists, in the words of the early reading.
-use Rattle.std.proofs.Common.{◌≡◌, ◌⊎◌, inl, inr, sym, subst, ℕ, Bool, true, false, Option, Some, None, List}
+use Rattle.std.proofs.Common.{inl, inr, sym, subst, ℕ, Bool, true, false, Option, Some, None, List}
 use Rattle.std.specs.Prelude.{◌↔◌, MatchBool}
-use Rattle.rational.specs.Time.{Rational, later, ◌≤ʳ◌, ◌≈◌}
+use Rattle.rational.specs.Time.{Rational, later, ◌≤ʳ◌}
 use Rattle.rational.proofs.Order.{le_refl, le_trans, same_of_le}
 use Rattle.rational.proofs.TimeLemmas.{later_from, precedes_le, precedes_before, precedes_after}
-use Rattle.stl_syntax.specs.Trace.{Trace, start, stop}
+use Rattle.stl_syntax.specs.Trace.{Trace, start}
 use Rattle.stl_syntax.specs.Early.{OpenAhead, OpenBehind}
 use Rattle.rational.specs.Places.{Place, Same}
 use Rattle.frac128.specs.Cuts.{place}

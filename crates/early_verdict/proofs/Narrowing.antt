@@ -4,9 +4,8 @@ use Rattle.std.proofs.Common.{Bool, true, false, Option, Some, None, List, [], �
 use Rattle.std.specs.Prelude.{MatchBool, MatchOption, slice_get}
 use Rattle.std.proofs.lemmas.Option.{same_Some, slice_get_within}
 use Rattle.std.proofs.lemmas.Bool.{cases_eq}
-use Rattle.rational.specs.Time.{Rational, later, ◌≤ʳ◌, ◌<ʳ◌}
+use Rattle.rational.specs.Time.{Rational, ◌≤ʳ◌, ◌<ʳ◌}
 use Rattle.rational.proofs.Order.{le_of_lt}
-use Rattle.rational.proofs.TimeLemmas.{precedes_le}
 use Rattle.stl_syntax.specs.Trace.{Trace, start}
 use Rattle.stl_syntax.specs.Formula.{subformula}
 use Rattle.stl_syntax.specs.WellFormed.{AreWellFormed}

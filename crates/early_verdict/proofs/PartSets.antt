@@ -1,5 +1,5 @@
 -- What the sets of until and since, and those between, told before an entry.
-use Rattle.std.proofs.Common.{◌≡◌, ◌⊎◌, inl, inr, subst, Option, Some, None}
+use Rattle.std.proofs.Common.{◌≡◌, inl, inr, subst, Option, Some, None}
 use Rattle.std.specs.Prelude.{MatchOption}
 use Rattle.stl_syntax.specs.Trace.{Trace}
 use Rattle.early_verdict.specs.Fitting.{SayOfParts, ArePartsEmpty, AreEmpty, IsHoldingEmpty, IsFailingEmpty, FailWithin, HasFailBounds}

@@ -1,5 +1,5 @@
 -- How sets tell: the same by other words, and nothing.
-use Rattle.std.proofs.Common.{◌≡◌, ◌⊎◌, refl, sym, subst, Option, Some, None, List, []}
+use Rattle.std.proofs.Common.{◌≡◌, refl, sym, subst, Option, Some, None, List, []}
 use Rattle.std.specs.Prelude.{◌↔◌, MatchOption}
 use Rattle.rational.specs.Time.{Rational}
 use Rattle.stl_syntax.specs.Trace.{Trace}

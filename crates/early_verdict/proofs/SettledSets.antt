@@ -10,7 +10,7 @@ use Rattle.stl_syntax.specs.WellFormed.{HasBounds}
 use Rattle.stl_syntax.specs.declared.node.Node.{Node}
 use Rattle.stl_syntax.specs.declared.node.Node.TheVariants.{Until, Eventually, Always, Since}
 use Rattle.stl_syntax.proofs.PostOrderLemmas.{child_below}
-use Rattle.growing_sets.specs.Spans.{IsOn, Lies, AreTidy}
+use Rattle.growing_sets.specs.Spans.{Lies, AreTidy}
 use Rattle.early_verdict.specs.Readings.{SinceHolds, SinceFails}
 use Rattle.early_verdict.specs.Fitting.{lists_at, SayBoth, SayOfParts, SinceHolding, SinceFailing, AreSetsTidy, ArePartsTidy, Fits}
 use Rattle.early_verdict.specs.Living.{IsShown, Known, LooksAlong, LooksAt, ReachesBack}

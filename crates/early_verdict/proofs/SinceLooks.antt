@@ -2,7 +2,6 @@
 use Rattle.std.proofs.Common.{◌≡◌, ◌⊎◌, inl, inr, sym, subst, ◌∙◌, ℕ, ◌≤◌, Bool, Option, Some, None, List}
 use Rattle.std.specs.Prelude.{MatchOption, slice_get}
 use Rattle.std.proofs.lemmas.Option.{same_Some}
-use Rattle.std.proofs.lemmas.Bool.{cases_eq}
 use Rattle.rational.specs.Time.{Rational, Within, later, ◌≤ʳ◌, ◌<ʳ◌}
 use Rattle.rational.proofs.Order.{le_of_lt, le_refl, le_trans, lt_of_le_of_lt}
 use Rattle.rational.proofs.TimeLemmas.{later_more, later_le_back, later_zero}

@@ -2,32 +2,32 @@
 use Rattle.std.proofs.Common.{◌≡◌, ◌≢◌, ◌⊎◌, inl, inr, refl, sym, subst, ◌∙◌, ℕ, ◌<◌, ◌≤◌, true, false, Option, Some, None, List, length, arith}
 use Rattle.std.specs.Prelude.{IfSome, MatchOption, IsSome, slice_get, slice_index_or}
 use Rattle.std.proofs.lemmas.Option.{same_Some, slice_get_within}
-use Rattle.rational.specs.Time.{Rational, Within, later, ◌≤ʳ◌, ◌<ʳ◌}
-use Rattle.rational.proofs.Order.{le_of_lt, le_or_lt, le_refl, le_trans}
+use Rattle.rational.specs.Time.{Rational, later, ◌≤ʳ◌, ◌<ʳ◌}
+use Rattle.rational.proofs.Order.{le_refl, le_trans}
 use Rattle.rational.proofs.TimeLemmas.{later_from, later_zero}
 use Rattle.stl_syntax.specs.Trace.{Trace, start}
 use Rattle.stl_syntax.specs.Early.{OpenBehind}
 use Rattle.stl_syntax.specs.WellFormed.{AreWellFormed, HasBounds}
 use Rattle.stl_syntax.specs.declared.node.Node.{Node}
 use Rattle.stl_syntax.specs.declared.node.Node.TheVariants.{Const, Since}
-use Rattle.stl_syntax.proofs.PostOrderLemmas.{placed, slice_get_at, child_below}
+use Rattle.stl_syntax.proofs.PostOrderLemmas.{slice_get_at}
 use Rattle.stl_syntax.specs.Cells.{IsChild}
 use Rattle.rational.specs.Places.{Upto}
 use Rattle.frac128.specs.Cuts.{place}
 use Rattle.growing_sets.specs.Spans.{IsOn, Lies}
 use Rattle.early_verdict.specs.Readings.{SinceHolds, SinceFails}
-use Rattle.early_verdict.specs.Fitting.{Lists, lists_at, lists_of, ArePartsTidy, AreSetsTidy, FailWithin, HasFailBounds}
+use Rattle.early_verdict.specs.Fitting.{Lists, lists_at, ArePartsTidy, AreSetsTidy, FailWithin, HasFailBounds}
 use Rattle.early_verdict.specs.Fitting.{IsTidy, Says, SayOfParts, SinceFits, SinceHolding, SinceFailing}
 use Rattle.early_verdict.specs.Standing.{AllTidy}
 use Rattle.early_verdict.specs.Living.{IsLive, IsShown, Known, LooksAlong, NetStands, ReachesBack}
 use Rattle.growing_sets.specs.Showing.{IsCutAt}
-use Rattle.early_verdict.specs.Letting.{AreLess, ArePartsInside, IsAskedFrom, IsFailingInside, IsHoldingInside, IsInside, IsLess, ShowsFrom}
+use Rattle.early_verdict.specs.Letting.{AreLess, ArePartsInside, IsAskedFrom, IsFailingInside, IsHoldingInside, IsLess, ShowsFrom}
 use Rattle.growing_sets.specs.declared.stretch.Stretch.{Stretch}
 use Rattle.growing_sets.specs.declared.grown.Grown.{Grown}
 use Rattle.early_verdict.specs.declared.sets.Sets.{Sets}
 use Rattle.early_verdict.specs.declared.sets.Parts.{Parts}
 use Rattle.early_verdict.proofs.AllSets.{is_shown, lists_are, lists_tidy, shown_is, shown_within, yes_there, no_there}
-use Rattle.early_verdict.proofs.LettingLemmas.{less_shown, still_on, two_less, two_others, two_shows}
+use Rattle.early_verdict.proofs.LettingLemmas.{less_shown, two_less, two_others, two_shows}
 use Rattle.early_verdict.proofs.Narrowing.{agree, lists_apart, live_by, one_stands, shown_begun, shown_inside}
 use Rattle.early_verdict.proofs.NodeReads.{ListedNo, ListedYes, read_on, since_fails, since_holds}
 use Rattle.rational.proofs.PlaceLemmas.{between}
@@ -38,6 +38,7 @@ use Rattle.early_verdict.proofs.SetsTell.{both_alike}
 use Rattle.early_verdict.proofs.SinceSets.{none_later}
 use Rattle.growing_sets.proofs.StretchLemmas.{rises}
 use Rattle.early_verdict.proofs.UntilCuts.{Agree}
+use Rattle.early_verdict.proofs.UntilStands.{agree_from}
 
 -- the bounds of a since are in order
 pub ordered : (nodes : List Node) → AreWellFormed nodes → (i : ℕ) → i < length nodes → (p q a b : ℕ) → slice_get nodes i ≡ Some (Since p q a (Some b)) → a ≤ b
@@ -113,30 +114,11 @@ module _ {nodes : List Node} (formed : AreWellFormed nodes) {tr : Trace} {live :
   shows_from : (n : ℕ) (w x : Sets) → IsChild (Since p q a b) n → slice_get old n ≡ Some w → slice_get new n ≡ Some x → ShowsFrom d w x
   shows_from n w x c e f = two_shows h g n w x c e f
 
-  -- an operand shows from there on what it showed
-  agree_from : (n : ℕ) → IsChild (Since p q a b) n → Agree d (lists_at old n) (lists_at new n)
-  agree_from n c =
-      let below = child_below i n (Since p q a b) (placed nodes i (Since p q a b) formed.post_order at) c in
-      let x = slice_get_there new n (let e = small in let m = st.have.shown_count in let f = less.count in omega (arith, below, e, m, f)) in
-      let w = less.each n x.0 x.1 in
-      by_sets w.0 x.0 w.1 x.1 w.2 (shows_from n w.0 x.0 c w.1 x.1) (shown_inside st n w.0 w.1)
-    where
-      by_sets : (w x : Sets) → slice_get old n ≡ Some w → slice_get new n ≡ Some x → IsLess w x → ShowsFrom d w x → IsInside w
-          → Agree d (lists_at old n) (lists_at new n)
-      by_sets w x e f fewer shows inside =
-          subst (λ (l : Lists). Agree d l (lists_at new n)) (sym (lists_are old n w e))
-          (subst (λ (l : Lists). Agree d (lists_of w) l) (sym (lists_are new n x f)) (record {
-            yes_in = λ t k o. fewer.yes_in t (shows.left t (inside.yes t o) k) o;
-            yes_out = fewer.yes_out;
-            no_in = λ t k o. fewer.no_in t (shows.left t (inside.no t o) k) o;
-            no_out = fewer.no_out;
-          }))
-
   P : Agree d (lists_at old p) (lists_at new p)
-  P = agree_from p (inl refl)
+  P = agree_from formed at small less shows_from st p (inl refl)
 
   Q : Agree d (lists_at old q) (lists_at new q)
-  Q = agree_from q (inr refl)
+  Q = agree_from formed at small less shows_from st q (inr refl)
 
   -- the left operand's bounds, as they were
   was_left : (l : Sets) × (slice_get old p ≡ Some l) × IsLess l l'

@@ -1,6 +1,6 @@
 -- How far the nodes of a formula are asked.
 use Rattle.std.proofs.Common.{◌≡◌, ◌⊎◌, inl, inr, refl, sym, subst, ap, ℕ, zero, suc, ◌+◌, ◌<◌, ◌≤◌}
-use Rattle.std.proofs.Common.{List, [], ◌∷◌, Some, None, length, drop, arith, add-one}
+use Rattle.std.proofs.Common.{List, [], ◌∷◌, Some, None, drop, arith, add-one}
 use Rattle.std.proofs.lemmas.List.Sums.{sum_by-cons}
 use Rattle.std.specs.Prelude.{slice_get, sum_by}
 use Rattle.stl_syntax.specs.Limits.{own_reach}

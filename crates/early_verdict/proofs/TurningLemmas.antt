@@ -6,7 +6,7 @@ use Rattle.rational.proofs.Order.{le_of_lt, lt_or_same_or_gt, le_of_same, ge_of_
 use Rattle.stl_syntax.specs.Trace.{Row, Trace, row_time}
 use Rattle.stl_syntax.specs.Truth.{holds_at}
 use Rattle.stl_syntax.specs.declared.atom.Atom.{Atom}
-use Rattle.rational.specs.Places.{Place, After, Upto, Same, AtMost}
+use Rattle.rational.specs.Places.{Place, Same, AtMost}
 use Rattle.frac128.specs.Cuts.{place}
 use Rattle.early_verdict.specs.Adding.{AddsOnce, HasAdded, HasGrown, Piece, Turns, BetweenRows, before_row, after_row}
 use Rattle.early_verdict.specs.Fitting.{AreSetsTidy}

@@ -1,5 +1,5 @@
 -- What is known while nothing is decided.
-use Rattle.std.proofs.Common.{◌≡◌, refl, sym, ap, subst, ◌∙◌, ℕ, ◌<◌, Bool, true, Option, Some, None, List, [], ◌∷◌, ◌++◌, length}
+use Rattle.std.proofs.Common.{◌≡◌, refl, sym, subst, ◌∙◌, ℕ, ◌<◌, Bool, true, Option, Some, None, List, [], ◌∷◌, length}
 use Rattle.std.specs.Prelude.{IfSome}
 use Rattle.stl_syntax.specs.Trace.{Header, Row, AreRows}
 use Rattle.stl_syntax.specs.Formula.{Formula, root}

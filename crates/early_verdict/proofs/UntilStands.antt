@@ -18,7 +18,7 @@ use Rattle.growing_sets.specs.Steps.{Tells}
 use Rattle.early_verdict.specs.Fitting.{Lists, lists_at, lists_of, ArePartsTidy, AreSetsTidy, FailWithin, HasFailBounds}
 use Rattle.early_verdict.specs.Fitting.{IsTidy, SayOfParts, UntilFits, UntilHolding, UntilFailing}
 use Rattle.early_verdict.specs.Living.{IsLive, NetStands, ReachesAhead}
-use Rattle.early_verdict.specs.Letting.{AreAskedBy, ArePartsCut, ArePartsInside, IsFailingCut, IsFailingInside}
+use Rattle.early_verdict.specs.Letting.{AreAskedBy, AreLess, ArePartsCut, ArePartsInside, IsFailingCut, IsFailingInside}
 use Rattle.early_verdict.specs.Letting.{IsHoldingCut, IsHoldingInside, IsInside, IsLess, IsRunCutAt, ShowsFrom}
 use Rattle.growing_sets.specs.declared.stretch.Stretch.{Stretch}
 use Rattle.growing_sets.specs.declared.grown.Grown.{Grown}
@@ -74,6 +74,30 @@ module _ {nodes : List Node} {tr : Trace} {live old new : List Sets} (i : ℕ) {
         },
       )
 
+-- a node's children that show from a time on what they showed
+module _ {nodes : List Node} (formed : AreWellFormed nodes) {tr : Trace} {live old new : List Sets} {i : ℕ} {n : Node} (at : slice_get nodes i ≡ Some n)
+    (small : i < length nodes) {from : Rational} (less : AreLess old new)
+    (shows : (r : ℕ) (w x : Sets) → IsChild n r → slice_get old r ≡ Some w → slice_get new r ≡ Some x → ShowsFrom from w x)
+    (st : NetStands nodes tr live old) where
+  -- their lists agree from there on
+  pub agree_from : (r : ℕ) → IsChild n r → Agree from (lists_at old r) (lists_at new r)
+  agree_from r c =
+      let below = child_below i r n (placed nodes i n formed.post_order at) c in
+      let x = slice_get_there new r (let e = small in let d = st.have.shown_count in let f = less.count in omega (arith, below, e, d, f)) in
+      let w = less.each r x.0 x.1 in
+      by_sets w.0 x.0 w.1 x.1 w.2 (shows r w.0 x.0 c w.1 x.1) (shown_inside st r w.0 w.1)
+    where
+      by_sets : (w x : Sets) → slice_get old r ≡ Some w → slice_get new r ≡ Some x → IsLess w x → ShowsFrom from w x → IsInside w
+          → Agree from (lists_at old r) (lists_at new r)
+      by_sets w x e f fewer shows inside =
+          subst (λ (l : Lists). Agree from l (lists_at new r)) (sym (lists_are old r w e))
+          (subst (λ (l : Lists). Agree from (lists_of w) l) (sym (lists_are new r x f)) (record {
+            yes_in = λ t k o. fewer.yes_in t (shows.left t (inside.yes t o) k) o;
+            yes_out = fewer.yes_out;
+            no_in = λ t k o. fewer.no_in t (shows.left t (inside.no t o) k) o;
+            no_out = fewer.no_out;
+          }))
+
 module _ {nodes : List Node} (formed : AreWellFormed nodes) {tr : Trace} {live left old new : List Sets} {i p q a b : ℕ}
     (at : slice_get nodes i ≡ Some (Until p q a b))
     {from : Rational} {wide : Stretch} (cut : IsRunCutAt i from from wide live left) {l' : Sets}
@@ -81,25 +105,6 @@ module _ {nodes : List Node} (formed : AreWellFormed nodes) {tr : Trace} {live l
     (begins : (t : Rational) → Lies cut.was.no.bounds t → from ≤ʳ t) (asked : AreAskedBy (Until p q a b) from old new) (st : NetStands nodes tr live old) where
   small : i < length nodes
   small = let e = slice_get_within live i cut.was cut.at_old in let c = st.have.count in omega (arith, e, c)
-
-  -- an operand shows from there on what it showed
-  agree_from : (r : ℕ) → IsChild (Until p q a b) r → Agree from (lists_at old r) (lists_at new r)
-  agree_from r c =
-      let below = child_below i r (Until p q a b) (placed nodes i (Until p q a b) formed.post_order at) c in
-      let x = slice_get_there new r (let e = small in let d = st.have.shown_count in let f = asked.less.count in omega (arith, below, e, d, f)) in
-      let w = asked.less.each r x.0 x.1 in
-      by_sets w.0 x.0 w.1 x.1 w.2 (asked.cut tt r w.0 x.0 c w.1 x.1) (shown_inside st r w.0 w.1)
-    where
-      by_sets : (w x : Sets) → slice_get old r ≡ Some w → slice_get new r ≡ Some x → IsLess w x → ShowsFrom from w x → IsInside w
-          → Agree from (lists_at old r) (lists_at new r)
-      by_sets w x e f less shows inside =
-          subst (λ (l : Lists). Agree from l (lists_at new r)) (sym (lists_are old r w e))
-          (subst (λ (l : Lists). Agree from (lists_of w) l) (sym (lists_are new r x f)) (record {
-            yes_in = λ t k o. less.yes_in t (shows.left t (inside.yes t o) k) o;
-            yes_out = less.yes_out;
-            no_in = λ t k o. less.no_in t (shows.left t (inside.no t o) k) o;
-            no_out = less.no_out;
-          }))
 
   -- the left operand's bounds, as they were
   was_left : (l : Sets) × (slice_get old p ≡ Some l) × IsLess l l'
@@ -158,8 +163,8 @@ module _ {nodes : List Node} (formed : AreWellFormed nodes) {tr : Trace} {live l
         → UntilHolding tr a b (lists_at new p) (lists_at new q) y.holding
         × UntilFailing false tr a b (lists_at new p) (lists_at new q) y.failing × SayOfParts cut.is y
     parts_fit (h, f, s) =
-        let P = agree_from p (inl refl) in
-        let Q = agree_from q (inr refl) in
+        let P = agree_from formed at small asked.less (asked.cut tt) st p (inl refl) in
+        let Q = agree_from formed at small asked.less (asked.cut tt) st q (inr refl) in
         let z = r.some now.0 now.1 in
         let v = r.never now.0 now.1 in
         let c = r.both now.0 now.0 now.1 (le_refl now.0) (later_from now.0 b) in

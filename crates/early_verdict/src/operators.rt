@@ -1,5 +1,5 @@
 //! One entry over the sets of an operator, by those of its children.
-ghost use Rattle.std.specs.Prelude.{◌≡◌, ◌<◌, ◌^◌, ℕ, OnOk, Option, Some, slice_get, pos, true, length, unsigned_abs, ◌≤◌};
+ghost use Rattle.std.specs.Prelude.{◌≡◌, ◌<◌, ◌^◌, OnOk, Option, Some, slice_get, pos, true, length, unsigned_abs, ◌≤◌};
 ghost use lib.IntN.{neg_ℤ};
 ghost use Rattle.stl_syntax.specs.Formula.{HasChildrenBelow};
 ghost use Rattle.early_verdict.specs.Looking.{IsAhead, IsBehind};

@@ -1,5 +1,5 @@
 -- The first and the last that a list of stretches has within one.
-use Rattle.std.proofs.Common.{◌≡◌, ◌⊎◌, inl, inr, refl, sym, subst, ℕ, zero, suc, ◌<◌, List, [], ◌∷◌, Some, length, take, drop, arith}
+use Rattle.std.proofs.Common.{◌≡◌, ◌⊎◌, inl, inr, refl, sym, subst, ℕ, zero, suc, ◌<◌, List, [], ◌∷◌, Some, length, take, drop}
 use Rattle.std.specs.Prelude.{slice_get, ◌↔◌}
 use Rattle.std.proofs.lemmas.Option.{same_Some}
 use Rattle.rational.specs.Rational.{Rational, ◌≤ʳ◌}

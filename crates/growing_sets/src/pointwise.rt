@@ -1,5 +1,5 @@
 //! What the inputs of a set gained, added to it at the same times.
-ghost use Rattle.std.specs.Prelude.{◌≡◌, ◌⊎◌, OnOk};
+ghost use Rattle.std.specs.Prelude.{◌≡◌, OnOk};
 ghost use Rattle.growing_sets.specs.Spans.{AreTidy, Lies};
 ghost use Rattle.growing_sets.specs.Growing.{Adds};
 ghost use Rattle.growing_sets.specs.Steps.{BySome, Common};

@@ -1,7 +1,7 @@
 use Rattle.std.proofs.Common.{true, refl, sym, ◌∙◌}
 use Rattle.rational.proofs.Order.{same_refl}
 use Rattle.stl_syntax.specs.Trace.{row_time}
-use Rattle.early_verdict.specs.Adding.{AfterRow, Piece, before_row}
+use Rattle.early_verdict.specs.Adding.{AfterRow, before_row}
 use Rattle.frac128.specs.Cuts.{place}
 use Rattle.frac128.proofs.Wholes.{same_at_tick}
 use Rattle.early_verdict.proofs.AtomSets.{atom_fits, atom_stepped, grown_of, grown_then, near_of}

@@ -1,4 +1,3 @@
-use Rattle.std.proofs.Common.{◌⊎◌}
 use Rattle.early_verdict.specs.Fitting.{SinceHolding, SinceFailing}
 use Rattle.early_verdict.proofs.PartSets.{fail_bounds_of, parts_were}
 use Rattle.early_verdict.proofs.runs.step_since.Goals as goal

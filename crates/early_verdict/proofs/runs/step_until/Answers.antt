@@ -1,4 +1,4 @@
-use Rattle.std.proofs.Common.{◌⊎◌, false}
+use Rattle.std.proofs.Common.{false}
 use Rattle.early_verdict.specs.Fitting.{UntilHolding, UntilFailing}
 use Rattle.early_verdict.proofs.PartSets.{fail_bounds_of, parts_were}
 use Rattle.early_verdict.proofs.runs.step_until.Goals as goal

@@ -3,7 +3,7 @@ use Rattle.std.proofs.Common.{◌≤◌, ◌^◌}
 use Rattle.rational.specs.Time.{Rational}
 use Rattle.growing_sets.specs.Bounds.{reach_of}
 use Rattle.std.specs.Prelude.{◌↔◌, unsigned_abs, IfSome}
-use Rattle.rational.specs.Places.{After, Upto, Before}
+use Rattle.rational.specs.Places.{Upto, Before}
 use Rattle.frac128.specs.Cuts.{place}
 use Rattle.growing_sets.specs.Windows.{SeesPart, low_place}
 use Rattle.growing_sets.proofs.AddLemmas.{adds_none, adds_alike}
