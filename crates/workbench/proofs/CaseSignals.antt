@@ -39,14 +39,14 @@ module _ {P : Type 0} (shape : ShapeOf P) (reading : Trace → Reading) (c : Cas
   -- the stack over the ends of the trace is one over the same ends
   pub stands_over : (from to n : ℕ) (xs : List (List (Knot P))) → from ≡ first_time c.trace.rows → to ≡ last_time 0 c.trace.rows
       → IsStack (of_knots shape) (first_time c.trace.rows) (last_time 0 c.trace.rows) c.formula.nodes n xs → IsStack
-          (of_knots shape) from to c.formula.nodes n xs
+      (of_knots shape) from to c.formula.nodes n xs
   stands_over from to n xs e h st = subst (λ f. IsStack (of_knots shape) f to c.formula.nodes n xs) (sym e)
       (subst (λ t. IsStack (of_knots shape) (first_time c.trace.rows) t c.formula.nodes n xs) (sym h) st)
 
   -- and the other way round
   pub stands_back : (from to n : ℕ) (xs : List (List (Knot P))) → from ≡ first_time c.trace.rows → to ≡ last_time 0 c.trace.rows
       → IsStack (of_knots shape) from to c.formula.nodes n xs → IsStack (of_knots shape) (first_time c.trace.rows)
-          (last_time 0 c.trace.rows) c.formula.nodes n xs
+      (last_time 0 c.trace.rows) c.formula.nodes n xs
   stands_back from to n xs e h st = subst (λ f. IsStack (of_knots shape) f (last_time 0 c.trace.rows) c.formula.nodes n xs) e
       (subst (λ t. IsStack (of_knots shape) from t c.formula.nodes n xs) h st)
 
