@@ -2,6 +2,7 @@
 use Rattle.std.proofs.Common.{◌≡◌, ◌⊎◌, inl, inr, refl, sym, ap, subst, ℕ, zero, suc, ◌<◌, ◌≤◌}
 use Rattle.std.proofs.Common.{true, false, Some, None, List, [], ◌∷◌, length, arith, below_more}
 use Rattle.std.specs.Prelude.{slice_get, slice_index_or}
+use Rattle.std.proofs.lemmas.Option.{same_Some}
 use Rattle.rational.specs.Time.{Rational, ◌≤ʳ◌}
 use Rattle.rational.proofs.Lists.{slice_get_there}
 use Rattle.stl_syntax.specs.Trace.{Trace, start, stop}
@@ -25,10 +26,7 @@ use Rattle.early_verdict.proofs.EndedSets.{Final, node_final}
 -- the lists of a node are those of its sets
 pub lists_are : (sets : List Sets) (i : ℕ) (s : Sets) → slice_get sets i ≡ Some s → lists_at sets i ≡ lists_of s
 lists_are [] i s e = absurd (let f : None ≡ Some s = e in cc)
-lists_are (r ∷ sets) zero s e = ap lists_of (same r s e)
-  where
-    same : (a b : Sets) → Some a ≡ Some b → a ≡ b
-    same a b e = cc
+lists_are (r ∷ sets) zero s e = ap lists_of (same_Some r s e)
 lists_are (r ∷ sets) (suc i) s e = lists_are sets i s e
 
 -- tidy sets have tidy lists
@@ -40,19 +38,13 @@ lists_tidy (s ∷ sets) h (suc p) = lists_tidy sets (λ i r e. h (suc i) r e) p
 -- what a node shows is what its shown sets lie within
 pub shown_is : (shown : List Sets) (i : ℕ) (x : Sets) (u : Rational) → slice_get shown i ≡ Some x → IsShown shown i u → Lies x.no.bounds u
 shown_is [] i x u e h = absurd h
-shown_is (y ∷ shown) zero x u e h = subst (λ z. Lies z.no.bounds u) (same y x e) h
-  where
-    same : (a b : Sets) → Some a ≡ Some b → a ≡ b
-    same a b e = cc
+shown_is (y ∷ shown) zero x u e h = subst (λ z. Lies z.no.bounds u) (same_Some y x e) h
 shown_is (y ∷ shown) (suc i) x u e h = shown_is shown i x u e h
 
 -- a time within the bounds of what is shown is shown
 pub is_shown : (shown : List Sets) (i : ℕ) (x : Sets) (u : Rational) → slice_get shown i ≡ Some x → Lies x.no.bounds u → IsShown shown i u
 is_shown [] i x u e h = absurd (let f : None ≡ Some x = e in cc)
-is_shown (y ∷ shown) zero x u e h = subst (λ z. Lies z.no.bounds u) (sym (same y x e)) h
-  where
-    same : (a b : Sets) → Some a ≡ Some b → a ≡ b
-    same a b e = cc
+is_shown (y ∷ shown) zero x u e h = subst (λ z. Lies z.no.bounds u) (sym (same_Some y x e)) h
 is_shown (y ∷ shown) (suc i) x u e h = is_shown shown i x u e h
 
 -- only nodes of the formula show anything
@@ -127,8 +119,8 @@ module _ {nodes : List Node} (tr : Trace) {live shown : List Sets} (formed : Are
         let below = placed nodes m n formed.post_order at in
         known_of m n s.0 x.0 at s.1 x.1
         (subst (λ z. SayBoth s.0 (Settled z tr) (SettledNot z tr)) (sym (subformula-at nodes m n at below))
-        (node_told tr h.own s.0 h.yes h.no h.starts (tidy m s.0 s.1) shown (lists_at shown) (λ q. refl) (subformula nodes) m known
-        (λ q. (lists_tidy shown shown_tidy q).1) n below (formed.bounds m (Const false) le) h.looks (fit m n s.0 at s.1)))
+        (node_told tr h.own s.0 h.yes h.no h.starts (tidy m s.0 s.1) shown (λ q. (lists_tidy shown shown_tidy q).1)
+        (subformula nodes) m known n below (formed.bounds m (Const false) le) h.looks (fit m n s.0 at s.1)))
 
     -- sets that fit tell of each node what rows settle
     pub all_known : AllFit nodes false tr live shown → (m : ℕ) → m ≤ length nodes → (p : ℕ) → p < m
@@ -165,7 +157,7 @@ module _ {nodes : List Node} (tr : Trace) {live shown : List Sets} (formed : Are
         let below = placed nodes m n formed.post_order at in
         final_of m n s.0 x.0 at s.1 x.1 h
         (subst (λ z. Final tr (Lies h.own) (lists_of s.0) z) (sym (subformula-at nodes m n at below))
-        (node_final tr h.own s.0 h.yes h.no h.starts (tidy m s.0 s.1) shown (lists_at shown) (λ q. refl) (subformula nodes) m known
+        (node_final tr h.own s.0 h.yes h.no h.starts (tidy m s.0 s.1) shown (subformula nodes) m known
         (λ q. (lists_tidy shown shown_tidy q).1) (λ q. (lists_tidy shown shown_tidy q).0) n below (formed.bounds m (Const false) le) h.looks
         (fit m n s.0 at s.1)))
 

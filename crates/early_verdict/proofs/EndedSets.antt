@@ -14,7 +14,7 @@ use Rattle.stl_syntax.specs.WellFormed.{HasBounds}
 use Rattle.stl_syntax.specs.declared.node.Node.{Node}
 use Rattle.stl_syntax.specs.declared.node.Node.TheVariants.{Const, Atom as Leaf, Not, And, Or, Implies, Until, Eventually, Always, Since, Once, Historically}
 use Rattle.growing_sets.specs.Spans.{IsOn, Lies, AreTidy}
-use Rattle.early_verdict.specs.Readings.{SomeAhead, OnlyAhead, SomeBehind, OnlyBehind, UntilHolds, UntilFails, SinceHolds, SinceFails}
+use Rattle.early_verdict.specs.Readings.{SinceHolds, SinceFails}
 use Rattle.early_verdict.specs.Fitting.{Lists, lists_at, lists_of, SayBoth, SayOfParts, SinceHolding, SinceFailing, AreSetsTidy, ArePartsTidy, Fits}
 use Rattle.early_verdict.specs.Living.{IsShown, LooksAlong, LooksAt, ReachesBack}
 use Rattle.growing_sets.specs.declared.stretch.Stretch.{Stretch}
@@ -70,35 +70,35 @@ module _ (tr : Trace) (own : Stretch) (s : Sets) (is_yes : s.yes.bounds ≡ own)
   to_no t l = subst (λ x. Lies x t) (sym is_no) l
 
   -- what the sets say is so, and they say it of each time
-  final : (P N : Rational → Type 0) (p : Subformula) → SayBoth s P N → ((t : Rational) → start tr ≤ʳ t → t ≤ʳ stop tr → P t → Truth p tr t)
-      → ((t : Rational) → start tr ≤ʳ t → t ≤ʳ stop tr → N t → ¬ (Truth p tr t))
+  final : {P N : Rational → Type 0} (p : Subformula) → SayBoth s P N → ((t : Rational) → t ≤ʳ stop tr → P t → Truth p tr t)
+      → ((t : Rational) → t ≤ʳ stop tr → N t → ¬ (Truth p tr t))
       → ((t : Rational) → Lies own t → t ≤ʳ stop tr → P t ⊎ N t) → Final tr (Lies own) (lists_of s) p
-  final P N p h holds fails all = record {
-    yes = λ u o l. let k = h.yes.only u o in holds u (from u (in_yes u k.0)) l k.1;
-    no = λ u o l. let k = h.no.only u o in fails u (from u (in_no u k.0)) l k.1;
+  final p h holds fails all = record {
+    yes = λ u o l. holds u l (h.yes.only u o).1;
+    no = λ u o l. fails u l (h.no.only u o).1;
     all = λ u l e. elim (all u l e) [ inl y ↦ inl (h.yes.has u (to_yes u l) y) | inr y ↦ inr (h.no.has u (to_no u l) y) ];
   }
 
   -- a time is of the one or, where it is not, of the other
-  one_side : (P N : Rational → Type 0) → SayBoth s P N → (t : Rational) → Lies own t → (¬ (P t) → N t) → P t ⊎ N t
-  one_side P N h t l other = elim (decided_on s.yes.spans.items t) [
+  one_side : {P N : Rational → Type 0} → SayBoth s P N → (t : Rational) → Lies own t → (¬ (P t) → N t) → P t ⊎ N t
+  one_side h t l other = elim (decided_on s.yes.spans.items t) [
     | inl o ↦ inl ((h.yes.only t o).1)
     | inr n ↦ inr (other (λ y. n (h.yes.has t (to_yes t l) y)))
   ]
 
-  other_side : (P N : Rational → Type 0) → SayBoth s P N → (t : Rational) → Lies own t → (¬ (N t) → P t) → P t ⊎ N t
-  other_side P N h t l other = elim (decided_on s.no.spans.items t) [
+  other_side : {P N : Rational → Type 0} → SayBoth s P N → (t : Rational) → Lies own t → (¬ (N t) → P t) → P t ⊎ N t
+  other_side h t l other = elim (decided_on s.no.spans.items t) [
     | inl o ↦ inr ((h.no.only t o).1)
     | inr n ↦ inl (other (λ y. n (h.no.has t (to_no t l) y)))
   ]
 
-  module _ (shown : List Sets) (at : ℕ → Lists) (is_at : (p : ℕ) → lists_at shown p ≡ at p) (sub : ℕ → Subformula) (i : ℕ)
-      (known : (p : ℕ) → p < i → Final tr (IsShown shown p) (at p) (sub p))
-      (tidy_at : (p : ℕ) → AreTidy (at p).no) (tidy_yes : (p : ℕ) → AreTidy (at p).yes) where
+  module _ (shown : List Sets) (sub : ℕ → Subformula) (i : ℕ)
+      (known : (p : ℕ) → p < i → Final tr (IsShown shown p) (lists_at shown p) (sub p))
+      (tidy_at : (p : ℕ) → AreTidy (lists_at shown p).no) (tidy_yes : (p : ℕ) → AreTidy (lists_at shown p).yes) where
     -- times at which p is settled false break the way from t to u, or p is true all along
     broken : (p : ℕ) → p < i → (t u : Rational) → ((v : Rational) → Within t u v → IsShown shown p v) → u ≤ʳ stop tr
-        → ((v : Rational) → Within t u v → IsOn (at p).yes v) ⊎ ((v : Rational) × Within t u v × IsOn (at p).no v)
-    broken p c t u near e = elim (covers (at_time t) (past_time u) (at p).yes (tidy_yes p)) [
+        → ((v : Rational) → Within t u v → IsOn (lists_at shown p).yes v) ⊎ ((v : Rational) × Within t u v × IsOn (lists_at shown p).no v)
+    broken p c t u near e = elim (covers (at_time t) (past_time u) (lists_at shown p).yes (tidy_yes p)) [
       | inl all ↦ inl (λ v w. all v w.above w.below)
       | inr (v, a, b, n) ↦ elim ((known p c).all v (near v (record { above = a; below = b })) (le_trans b e)) [
         | inl y ↦ absurd (n y)
@@ -106,44 +106,45 @@ module _ (tr : Trace) (own : Stretch) (s : Sets) (is_yes : s.yes.bounds ≡ own)
       ]
     ]
 
-    -- since, at times up to the last row
-    since_fails_then : (p q x : ℕ) (y : Option ℕ) → (c : (p < i) × (q < i)) → (t : Rational) → t ≤ʳ stop tr → LooksAlong (start tr) p q x y shown t
-        → ¬ (SinceHolds tr x y (IsOn (at p).yes) (IsOn (at q).yes) t) → SinceFails tr x y (IsOn (at p).no) (IsOn (at q).no) t
-    since_fails_then p q x y c t e (inl k) n u d =
+    -- at a time of its window from which on the operands are shown, a since that does not hold has no right operand, or breaks off
+    fails_at : (p q x : ℕ) (y : Option ℕ) → (c : (p < i) × (q < i)) → (t : Rational) → t ≤ʳ stop tr
+        → ¬ (SinceHolds tr x y (IsOn (lists_at shown p).yes) (IsOn (lists_at shown q).yes) t)
+        → (u : Rational) → OpenBehind (start tr) x y true true t u → ((v : Rational) → Within u t v → IsShown shown p v × IsShown shown q v)
+        → IsOn (lists_at shown q).no u ⊎ ((v : Rational) × Within u t v × IsOn (lists_at shown p).no v)
+    fails_at p q x y c t e n u d far =
         let ut = none_later u t x d.ends in
         let us = le_trans ut e in
-        elim ((known q c.1).all u (k u (along (start tr) x y t u u d (le_refl u) ut)).1 us) [
+        elim ((known q c.1).all u (far u (record { above = le_refl u; below = ut })).1 us) [
           | inr z ↦ inl z
-          | inl z ↦ elim (broken p c.0 u t (λ v w. (k v (along (start tr) x y t u v d w.above w.below)).0) e) [
+          | inl z ↦ elim (broken p c.0 u t (λ v w. (far v w).0) e) [
             | inl all ↦ absurd (n (u, d, (d.after, inl us), z, all))
             | inr g ↦ inr g
           ]
         ]
-    since_fails_then p q x y c t e (inr (w, f, k, g)) n u d =
-        let ut = none_later u t x d.ends in
-        let us = le_trans ut e in
-        let wt = none_later w t x f.ends in
-        elim (le_or_lt w u) [
-          | inl l ↦ elim ((known q c.1).all u (k u (record { above = l; below = ut })).1 us) [
-            | inr z ↦ inl z
-            | inl z ↦ elim (broken p c.0 u t (λ v m. (k v (record { above = le_trans l m.above; below = m.below })).0) e) [
-              | inl all ↦ absurd (n (u, d, (d.after, inl us), z, all))
-              | inr m ↦ inr m
-            ]
-          ]
-          | inr l ↦ elim g [
-            | inr m ↦ inr (w, record { above = le_of_lt l; below = wt }, subst (λ (z : Lists). IsOn z.no w) (is_at p) m)
+
+    -- since, at times up to the last row
+    since_fails_then : (p q x : ℕ) (y : Option ℕ) → (c : (p < i) × (q < i)) → (t : Rational) → t ≤ʳ stop tr → LooksAlong (start tr) p q x y shown t
+        → ¬ (SinceHolds tr x y (IsOn (lists_at shown p).yes) (IsOn (lists_at shown q).yes) t)
+        → SinceFails tr x y (IsOn (lists_at shown p).no) (IsOn (lists_at shown q).no) t
+    since_fails_then p q x y c t e (inl k) n u d = fails_at p q x y c t e n u d (λ v w. k v (along (start tr) x y t u v d w.above w.below))
+    since_fails_then p q x y c t e (inr (w, f, k, g)) n u d = elim (le_or_lt w u) [
+      | inl l ↦ fails_at p q x y c t e n u d (λ v m. k v (record { above = le_trans l m.above; below = m.below }))
+      | inr l ↦
+          let wt = none_later w t x f.ends in
+          elim g [
+            | inr m ↦ inr (w, record { above = le_of_lt l; below = wt }, m)
             | inl m ↦ elim (broken p c.0 w t (λ v r. (k v r).0) e) [
-              | inl all ↦ absurd (n (w, f, (f.after, inr wt), subst (λ (z : Lists). IsOn z.yes w) (is_at q) m.1, all))
+              | inl all ↦ absurd (n (w, f, (f.after, inr wt), m.1, all))
               | inr (v, r, z) ↦ inr (v, record { above = le_trans (le_of_lt l) r.above; below = r.below }, z)
             ]
           ]
-        ]
+    ]
 
     since_final : (p q x : ℕ) (y : Option ℕ) → (c : (p < i) × (q < i))
         → ((t : Rational) → Lies own t → LooksAlong (start tr) p q x y shown t) → (o : Option Parts)
         → MatchOption o (Unit {0}) ArePartsTidy → MatchOption o (Unit {0}) (ReachesBack (start tr) y p shown own)
-        → MatchOption o ⊥ (λ z. SinceHolding tr x y (at p) (at q) z.holding × SinceFailing tr x y (at p) (at q) z.failing × SayOfParts s z)
+        → MatchOption o ⊥ (λ z. SinceHolding tr x y (lists_at shown p) (lists_at shown q) z.holding
+        × SinceFailing tr x y (lists_at shown p) (lists_at shown q) z.failing × SayOfParts s z)
         → Final tr (Lies own) (lists_of s) (tree_of sub i (Since p q x y))
     since_final p q x y c a None ty r h = absurd h
     since_final p q x y c a (Some z) ty r (h, f, say) = record {
@@ -165,27 +166,26 @@ module _ (tr : Trace) (own : Stretch) (s : Sets) (is_yes : s.yes.bounds ≡ own)
       ];
     }
       where
-        apart : (n : ℕ) → n < i → (w : Rational) → w ≤ʳ stop tr → IsOn (at n).yes w → ¬ (IsOn (at n).no w)
+        apart : (n : ℕ) → n < i → (w : Rational) → w ≤ʳ stop tr → IsOn (lists_at shown n).yes w → ¬ (IsOn (lists_at shown n).no w)
         apart n k w e m l = (known n k).no w l e ((known n k).yes w m e)
 
-        says : (t : Rational) → Lies own t → t ≤ʳ stop tr → SaysSince tr x y (at p) (at q) z t
+        says : (t : Rational) → Lies own t → t ≤ʳ stop tr → SaysSince tr x y (lists_at shown p) (lists_at shown q) z t
         says t l e =
             says_since z h f ty (tidy_at q) t (r.some t l) (r.never t l)
             (λ w m. apart p c.0 w (le_trans m e)) (λ w m. apart q c.1 w (le_trans m e))
-            (reaches_along tr x q (is_at p) (is_at q) r t l (a t l))
+            (reaches_along tr x q r t l (a t l))
 
     -- sets of a node that fit are so once the input has ended
     pub node_final : (n : Node) → HasChildrenBelow i n → HasBounds n → LooksAt n (start tr) shown own s.parts
-        → Fits n true tr at s → Final tr (Lies own) (lists_of s) (tree_of sub i n)
-    node_final (Const b) c o a h = final (λ t. IsTrue b) (λ t. IsFalse b) (tree_of sub i (Const b)) h (λ t f e x. x) (λ t f e x y. both_ways b x y)
+        → Fits n true tr (lists_at shown) s → Final tr (Lies own) (lists_of s) (tree_of sub i n)
+    node_final (Const b) c o a h = final (tree_of sub i (Const b)) h (λ t e x. x) (λ t e x y. both_ways b x y)
         (λ t l e. by_value b)
       where
         by_value : (b : Bool) → IsTrue b ⊎ IsFalse b
         by_value true = inl refl
         by_value false = inr refl
     node_final (Leaf x) c o a h =
-        final (λ t. (t ≤ʳ stop tr) × IsTrue (holds_at x tr t)) (λ t. (t ≤ʳ stop tr) × IsFalse (holds_at x tr t)) (tree_of sub i (Leaf x)) h
-        (λ t f e y. y.1) (λ t f e y z. both_ways (holds_at x tr t) y.1 z)
+        final (tree_of sub i (Leaf x)) h (λ t e y. y.1) (λ t e y z. both_ways (holds_at x tr t) y.1 z)
         (λ t l e. elim (by_value (holds_at x tr t)) [ inl y ↦ inl (e, y) | inr y ↦ inr (e, y) ])
       where
         by_value : (b : Bool) → IsTrue b ⊎ IsFalse b
@@ -193,13 +193,13 @@ module _ (tr : Trace) (own : Stretch) (s : Sets) (is_yes : s.yes.bounds ≡ own)
         by_value false = inr refl
     node_final (Not p) c o a h =
         let k = known p c in
-        final (IsOn (at p).no) (IsOn (at p).yes) (tree_of sub i (Not p)) h (λ t f e x. k.no t x e) (λ t f e x n. n (k.yes t x e))
+        final (tree_of sub i (Not p)) h (λ t e x. k.no t x e) (λ t e x n. n (k.yes t x e))
         (λ t l e. elim (k.all t (a t l) e) [ inl y ↦ inr y | inr y ↦ inl y ])
     node_final (And p q) c o a h =
         let k = known p c.0 in
         let m = known q c.1 in
-        final (λ t. IsOn (at p).yes t × IsOn (at q).yes t) (λ t. IsOn (at p).no t ⊎ IsOn (at q).no t) (tree_of sub i (And p q)) h
-        (λ t f e x. (k.yes t x.0 e, m.yes t x.1 e)) (λ t f e x y. elim x [ inl z ↦ k.no t z e y.0 | inr z ↦ m.no t z e y.1 ])
+        final (tree_of sub i (And p q)) h
+        (λ t e x. (k.yes t x.0 e, m.yes t x.1 e)) (λ t e x y. elim x [ inl z ↦ k.no t z e y.0 | inr z ↦ m.no t z e y.1 ])
         (λ t l e. elim (k.all t (a t l).0 e) [
           | inl y ↦ elim (m.all t (a t l).1 e) [ inl z ↦ inl (y, z) | inr z ↦ inr (inr z) ]
           | inr y ↦ inr (inl y)
@@ -207,9 +207,9 @@ module _ (tr : Trace) (own : Stretch) (s : Sets) (is_yes : s.yes.bounds ≡ own)
     node_final (Or p q) c o a h =
         let k = known p c.0 in
         let m = known q c.1 in
-        final (λ t. IsOn (at p).yes t ⊎ IsOn (at q).yes t) (λ t. IsOn (at p).no t × IsOn (at q).no t) (tree_of sub i (Or p q)) h
-        (λ t f e x. elim x [ inl z ↦ inl (k.yes t z e) | inr z ↦ inr (m.yes t z e) ])
-        (λ t f e x y. elim y [ inl z ↦ k.no t x.0 e z | inr z ↦ m.no t x.1 e z ])
+        final (tree_of sub i (Or p q)) h
+        (λ t e x. elim x [ inl z ↦ inl (k.yes t z e) | inr z ↦ inr (m.yes t z e) ])
+        (λ t e x y. elim y [ inl z ↦ k.no t x.0 e z | inr z ↦ m.no t x.1 e z ])
         (λ t l e. elim (k.all t (a t l).0 e) [
           | inl y ↦ inl (inl y)
           | inr y ↦ elim (m.all t (a t l).1 e) [ inl z ↦ inl (inr z) | inr z ↦ inr (y, z) ]
@@ -217,9 +217,9 @@ module _ (tr : Trace) (own : Stretch) (s : Sets) (is_yes : s.yes.bounds ≡ own)
     node_final (Implies p q) c o a h =
         let k = known p c.0 in
         let m = known q c.1 in
-        final (λ t. IsOn (at p).no t ⊎ IsOn (at q).yes t) (λ t. IsOn (at p).yes t × IsOn (at q).no t) (tree_of sub i (Implies p q)) h
-        (λ t f e x y. elim x [ inl z ↦ absurd (k.no t z e y) | inr z ↦ m.yes t z e ])
-        (λ t f e x y. m.no t x.1 e (y (k.yes t x.0 e)))
+        final (tree_of sub i (Implies p q)) h
+        (λ t e x y. elim x [ inl z ↦ absurd (k.no t z e y) | inr z ↦ m.yes t z e ])
+        (λ t e x y. m.no t x.1 e (y (k.yes t x.0 e)))
         (λ t l e. elim (k.all t (a t l).0 e) [
           | inr y ↦ inl (inl y)
           | inl y ↦ elim (m.all t (a t l).1 e) [ inl z ↦ inl (inr z) | inr z ↦ inr (y, z) ]
@@ -227,16 +227,15 @@ module _ (tr : Trace) (own : Stretch) (s : Sets) (is_yes : s.yes.bounds ≡ own)
     node_final (Until p q x y) c o a h =
         let k = known p c.0 in
         let m = known q c.1 in
-        let b = until_fits tr own (at p) (at q) s is_yes is_no from tidy (tidy_at q) true x y o a.1 h in
-        final (UntilHolds tr x y (IsOn (at p).yes) (IsOn (at q).yes)) (UntilFails true tr x y (IsOn (at p).no) (IsOn (at q).no))
-        (tree_of sub i (Until p q x y)) b
-        (λ t f e (u, d, r, g, z). let us = sure_in tr t u e r in
+        let b = until_fits tr own (lists_at shown p) (lists_at shown q) s is_yes is_no from tidy (tidy_at q) true x y o a.1 h in
+        final (tree_of sub i (Until p q x y)) b
+        (λ t e (u, d, r, g, z). let us = sure_in tr t u e r in
         (u, met tr x y true true t u d us, m.yes u g us, λ v j. k.yes v (z v j) (le_trans j.below us)))
-        (λ t f e z (u, d, g, j). elim (z u (open_ahead tr x y true true t u d) d.inside.below) [
+        (λ t e z (u, d, g, j). elim (z u (open_ahead tr x y true true t u d) d.inside.below) [
           | inl i ↦ m.no u i d.inside.below g
           | inr (v, n, i) ↦ k.no v i (le_trans n.below d.inside.below) (j v n)
         ])
-        (λ t l e. one_side (UntilHolds tr x y (IsOn (at p).yes) (IsOn (at q).yes)) (UntilFails true tr x y (IsOn (at p).no) (IsOn (at q).no)) b t l
+        (λ t l e. one_side b t l
         (λ n u d r. elim (m.all u (a.0 t u l (le_trans (later_from t x) d.begins) d.ends).1 r) [
           | inr z ↦ inl z
           | inl z ↦ elim (broken p c.0 t u (λ v w. (a.0 t v l w.above (le_trans w.below d.ends)).0) r) [
@@ -246,20 +245,20 @@ module _ (tr : Trace) (own : Stretch) (s : Sets) (is_yes : s.yes.bounds ≡ own)
         ]))
     node_final (Eventually p x y x_in y_in) c o a h =
         let k = known p c in
-        final (SomeAhead tr x y x_in y_in (IsOn (at p).yes)) (OnlyAhead true tr x y x_in y_in (IsOn (at p).no)) (tree_of sub i (Eventually p x y x_in y_in)) h
-        (λ t f e (u, d, r, g). let us = sure_in tr t u e r in (u, met tr x y x_in y_in t u d us, k.yes u g us))
-        (λ t f e z (u, d, g). k.no u (z u (open_ahead tr x y x_in y_in t u d) d.inside.below) d.inside.below g)
-        (λ t l e. one_side (SomeAhead tr x y x_in y_in (IsOn (at p).yes)) (OnlyAhead true tr x y x_in y_in (IsOn (at p).no)) h t l
+        final (tree_of sub i (Eventually p x y x_in y_in)) h
+        (λ t e (u, d, r, g). let us = sure_in tr t u e r in (u, met tr x y x_in y_in t u d us, k.yes u g us))
+        (λ t e z (u, d, g). k.no u (z u (open_ahead tr x y x_in y_in t u d) d.inside.below) d.inside.below g)
+        (λ t l e. one_side h t l
         (λ n u d r. elim (k.all u (a t u l d) r) [
           | inl z ↦ absurd (n (u, d, (d.after, inl r), z))
           | inr z ↦ z
         ]))
     node_final (Always p x y x_in y_in) c o a h =
         let k = known p c in
-        final (OnlyAhead true tr x y x_in y_in (IsOn (at p).yes)) (SomeAhead tr x y x_in y_in (IsOn (at p).no)) (tree_of sub i (Always p x y x_in y_in)) h
-        (λ t f e z u d. k.yes u (z u (open_ahead tr x y x_in y_in t u d) d.inside.below) d.inside.below)
-        (λ t f e (u, d, r, g) z. let us = sure_in tr t u e r in k.no u g us (z u (met tr x y x_in y_in t u d us)))
-        (λ t l e. other_side (OnlyAhead true tr x y x_in y_in (IsOn (at p).yes)) (SomeAhead tr x y x_in y_in (IsOn (at p).no)) h t l
+        final (tree_of sub i (Always p x y x_in y_in)) h
+        (λ t e z u d. k.yes u (z u (open_ahead tr x y x_in y_in t u d) d.inside.below) d.inside.below)
+        (λ t e (u, d, r, g) z. let us = sure_in tr t u e r in k.no u g us (z u (met tr x y x_in y_in t u d us)))
+        (λ t l e. other_side h t l
         (λ n u d r. elim (k.all u (a t u l d) r) [
           | inl z ↦ z
           | inr z ↦ absurd (n (u, d, (d.after, inl r), z))
@@ -267,24 +266,24 @@ module _ (tr : Trace) (own : Stretch) (s : Sets) (is_yes : s.yes.bounds ≡ own)
     node_final (Since p q x y) c o a h = since_final p q x y c a.0 s.parts tidy.parts a.1 h
     node_final (Once p x y x_in y_in) c o a h =
         let k = known p c in
-        final (SomeBehind tr x y x_in y_in (IsOn (at p).yes)) (OnlyBehind tr x y x_in y_in (IsOn (at p).no)) (tree_of sub i (Once p x y x_in y_in)) h
-        (λ t f e (u, d, r, g). let us = sure_in tr t u e r in (u, met_behind tr x y x_in y_in t u d us, k.yes u g us))
-        (λ t f e z (u, d, g). k.no u (z u (open_behind tr x y x_in y_in t u d)) d.inside.below g)
-        (λ t l e. one_side (SomeBehind tr x y x_in y_in (IsOn (at p).yes)) (OnlyBehind tr x y x_in y_in (IsOn (at p).no)) h t l
+        final (tree_of sub i (Once p x y x_in y_in)) h
+        (λ t e (u, d, r, g). let us = sure_in tr t u e r in (u, met_behind tr x y x_in y_in t u d us, k.yes u g us))
+        (λ t e z (u, d, g). k.no u (z u (open_behind tr x y x_in y_in t u d)) d.inside.below g)
+        (λ t l e. one_side h t l
         (λ n u d. let ut = none_later u t x (precedes_le x_in (later u x) t d.ends) in elim (a t u l d) [
           | inl i ↦ elim (k.all u i (le_trans ut e)) [
             | inl z ↦ absurd (n (u, d, (d.after, inr ut), z))
             | inr z ↦ z
           ]
           | inr (w, f, i, z) ↦
-              absurd (n (w, f, (f.after, inr (none_later w t x (precedes_le x_in (later w x) t f.ends))), subst (λ (l : Lists). IsOn l.yes w) (is_at p) z))
+              absurd (n (w, f, (f.after, inr (none_later w t x (precedes_le x_in (later w x) t f.ends))), z))
         ]))
     node_final (Historically p x y x_in y_in) c o a h =
         let k = known p c in
-        final (OnlyBehind tr x y x_in y_in (IsOn (at p).yes)) (SomeBehind tr x y x_in y_in (IsOn (at p).no)) (tree_of sub i (Historically p x y x_in y_in)) h
-        (λ t f e z u d. k.yes u (z u (open_behind tr x y x_in y_in t u d)) d.inside.below)
-        (λ t f e (u, d, r, g) z. let us = sure_in tr t u e r in k.no u g us (z u (met_behind tr x y x_in y_in t u d us)))
-        (λ t l e. other_side (OnlyBehind tr x y x_in y_in (IsOn (at p).yes)) (SomeBehind tr x y x_in y_in (IsOn (at p).no)) h t l
+        final (tree_of sub i (Historically p x y x_in y_in)) h
+        (λ t e z u d. k.yes u (z u (open_behind tr x y x_in y_in t u d)) d.inside.below)
+        (λ t e (u, d, r, g) z. let us = sure_in tr t u e r in k.no u g us (z u (met_behind tr x y x_in y_in t u d us)))
+        (λ t l e. other_side h t l
         (λ n u d. let ut = none_later u t x (precedes_le x_in (later u x) t d.ends) in
         elim (a t u l d) [
           | inl i ↦ elim (k.all u i (le_trans ut e)) [
@@ -292,5 +291,5 @@ module _ (tr : Trace) (own : Stretch) (s : Sets) (is_yes : s.yes.bounds ≡ own)
             | inr z ↦ absurd (n (u, d, (d.after, inr ut), z))
           ]
           | inr (w, f, i, z) ↦
-              absurd (n (w, f, (f.after, inr (none_later w t x (precedes_le x_in (later w x) t f.ends))), subst (λ (l : Lists). IsOn l.no w) (is_at p) z))
+              absurd (n (w, f, (f.after, inr (none_later w t x (precedes_le x_in (later w x) t f.ends))), z))
         ]))

@@ -1,9 +1,8 @@
 -- One entry goes on from node to node.
-use Rattle.std.proofs.Common.{◌≡◌, ◌≢◌, ◌⊎◌, inl, inr, refl, sym, subst, ◌∙◌, ℕ, zero, suc, ◌+◌, ◌<◌, ◌≤◌}
-use Rattle.std.proofs.Common.{false, Option, Some, None, List, [], ◌∷◌, length, take, arith, below_more}
-use Rattle.std.specs.Prelude.{MatchOption, IsSome, slice_get}
+use Rattle.std.proofs.Common.{◌≡◌, ◌≢◌, ◌⊎◌, inl, inr, refl, sym, subst, ◌∙◌, ℕ, ◌+◌, ◌<◌, ◌≤◌}
+use Rattle.std.proofs.Common.{false, Option, Some, None, List, take, arith, below_more}
+use Rattle.std.specs.Prelude.{slice_get}
 use Rattle.std.proofs.lemmas.Option.{same_Some, slice_get_within}
-use Rattle.std.proofs.lemmas.Bool.{cases_eq}
 use Rattle.rational.proofs.Lists.{slice_get_there}
 use Rattle.stl_syntax.specs.Trace.{Row, Trace, start}
 use Rattle.stl_syntax.specs.Formula.{HasChildrenBelow}
@@ -11,34 +10,23 @@ use Rattle.stl_syntax.specs.declared.node.Node.{Node}
 use Rattle.stl_syntax.specs.declared.node.Node.TheVariants.{Atom as Leaf}
 use Rattle.atom_lines.specs.Binding.{Binding}
 use Rattle.growing_sets.specs.Spans.{Lies}
-use Rattle.early_verdict.specs.Fitting.{Lists, Fits, HasStepped, HadLists, HasFailBounds, AreSetsTidy, lists_at, nothing}
+use Rattle.early_verdict.specs.Fitting.{Lists, Fits, HasStepped, AreSetsTidy, lists_at}
 use Rattle.early_verdict.specs.Happening.{Had, Happens, Was}
-use Rattle.early_verdict.specs.Standing.{AllGo, AllTidy, AllWere, HadAll, HasParts, LeafGoes, StepsAt, SteppedTo, left_of}
+use Rattle.early_verdict.specs.Looking.{WasList}
+use Rattle.early_verdict.specs.Standing.{AllGo, AllTidy, AllWere, HadAll, HasParts, LeafGoes, StepsAt, SteppedTo}
 use Rattle.early_verdict.specs.Living.{AreLive, HasShown, IsLive, ShowsAt, ShownTo}
 use Rattle.early_verdict.specs.declared.entry.Entry.{Entry}
-use Rattle.growing_sets.specs.declared.stretch.Stretch.{Stretch}
 use Rattle.early_verdict.specs.declared.sets.Sets.{Sets}
-use Rattle.early_verdict.specs.declared.sets.Parts.{Parts}
 use Rattle.early_verdict.proofs.FitLemmas.{fits_alike}
 use Rattle.early_verdict.proofs.AllSets.{lists_are}
+use Rattle.early_verdict.proofs.LivingLemmas.{parts_as}
+use Rattle.early_verdict.proofs.SetsTell.{parts_kept}
+use Rattle.early_verdict.proofs.Splitting.{changed_each}
 use Rattle.early_verdict.proofs.Places.{taken_at, taken_within, lists_by}
 
 -- a place no later is before or there
 nat_or : (j i : ℕ) → j ≤ i → (j < i) ⊎ (j ≡ i)
 nat_or j i h = below_more (λ k. (k < i) ⊎ (k ≡ i)) i (λ k l. inl l) (inr refl) j (omega (arith, h))
-
--- each place has its node
-pub nodes_at : (nodes : List Node) (p : ℕ) → p < length nodes → (m : Node) × (slice_get nodes p ≡ Some m)
-nodes_at [] p h = absurd (omega (arith, h))
-nodes_at (n ∷ nodes) zero h = (n, refl)
-nodes_at (n ∷ nodes) (suc p) h = nodes_at nodes p (omega (arith, h))
-
--- lists of two
-abbrev lists : List Stretch → List Stretch → Lists
-lists x y = record { yes = x; no = y }
-
-both_none : (x y : List Stretch) → x ≡ [] → y ≡ [] → lists x y ≡ nothing
-both_none x y d f = subst (λ l. lists l y ≡ nothing) (sym d) (subst (λ l. lists [] l ≡ nothing) (sym f) refl)
 
 -- one place more
 pub stepped_on : (i : ℕ) (old mid new : List Sets) → SteppedTo i old mid → StepsAt i mid new → SteppedTo (i + 1) old new
@@ -55,7 +43,7 @@ stepped_on i old mid new h at = record {
         let b : slice_get new i ≡ Some r = subst (λ k. slice_get new k ≡ Some r) q f in
         let c = same_Some at.was s (sym at.at_old ∙ h.others i (omega arith) ∙ a) in
         let d = same_Some at.is r (sym at.at_new ∙ b) in
-        subst (λ x. HasStepped x r) c (subst (λ x. HasStepped at.was x) d at.stepped)
+        subst (λ x. HasStepped x r) c (subst (λ x. HasStepped at.was x) d at.by)
 
 -- before the first node none has stepped
 pub stepped_none : (xs : List Sets) → SteppedTo 0 xs xs
@@ -67,11 +55,7 @@ stepped_none xs = record {
 
 -- sets stay tidy after a node's step
 pub tidy_on : (i : ℕ) (mid new : List Sets) → AllTidy mid → StepsAt i mid new → AllTidy new
-tidy_on i mid new h at j s e = by_place (cases_eq j i)
-  where
-    by_place : (j ≡ i) ⊎ (j ≢ i) → AreSetsTidy s
-    by_place (inl q) = subst (λ x. AreSetsTidy x) (same_Some at.is s (sym at.at_new ∙ subst (λ k. slice_get new k ≡ Some s) q e)) at.stepped.tidy
-    by_place (inr n) = h j s (sym (at.others j n) ∙ e)
+tidy_on i mid new h at = changed_each (λ j s. AreSetsTidy s) at at.by.tidy h
 
 -- one place more is shown
 pub shown_none : (live xs : List Sets) → ShownTo 0 live xs xs
@@ -99,16 +83,12 @@ shown_on i mid live old xs new same h at = record {
         let o : slice_get live i ≡ Some s = subst (λ k. slice_get live k ≡ Some s) q is in
         let c = same_Some at.was x (sym at.at_old ∙ h.others i (omega arith) ∙ a) in
         let d = same_Some at.is r (sym at.at_new ∙ b) in
-        let p = same_Some at.own s (sym at.at_live ∙ o) in
-        subst (λ z. HasShown x r z) p (subst (λ z. HasShown z r at.own) c (subst (λ z. HasShown at.was z at.own) d at.shown))
+        let p = same_Some at.by.own s (sym at.by.at_live ∙ o) in
+        subst (λ z. HasShown x r z) p (subst (λ z. HasShown z r at.by.own) c (subst (λ z. HasShown at.was z at.by.own) d at.by.shown))
 
 -- what nodes show stays tidy with one node more
 pub shown_tidy_on : (i : ℕ) (live mid new : List Sets) → AllTidy mid → ShowsAt i live mid new → AllTidy new
-shown_tidy_on i live mid new h at j s e = by_place (cases_eq j i)
-  where
-    by_place : (j ≡ i) ⊎ (j ≢ i) → AreSetsTidy s
-    by_place (inl q) = subst (λ x. AreSetsTidy x) (same_Some at.is s (sym at.at_new ∙ subst (λ k. slice_get new k ≡ Some s) q e)) at.shown.tidy
-    by_place (inr n) = h j s (sym (at.others j n) ∙ e)
+shown_tidy_on i live mid new h at = changed_each (λ j s. AreSetsTidy s) at at.by.shown.tidy h
 
 -- what has stepped goes on from what was, and shows so
 module _ {nodes : List Node} (b : Binding) {e : Entry} (before : Option Row) (r : Row) {old : Option Trace} {tr : Trace}
@@ -116,12 +96,12 @@ module _ {nodes : List Node} (b : Binding) {e : Entry} (before : Option Row) (r 
     (happens : Happens e old tr) (have : AreLive nodes (start tr) first first_shown) (go : AllGo nodes b e old tr before r)
     (were : AllWere old nodes first first_shown) where
   -- what was empty before any row had no list
-  had_first : (p : ℕ) (s : Sets) → slice_get first_shown p ≡ Some s → MatchOption old (lists_at first_shown p ≡ nothing) (λ o. Unit {0})
+  had_first : (p : ℕ) (s : Sets) → slice_get first_shown p ≡ Some s → WasList old s.yes.spans.items × WasList old s.no.spans.items
   had_first p s at = by_old old were
     where
-      by_old : (o : Option Trace) → AllWere o nodes first first_shown → MatchOption o (lists_at first_shown p ≡ nothing) (λ o. Unit {0})
-      by_old None w = let m = w.1 p s at in lists_are first_shown p s at ∙ both_none s.yes.spans.items s.no.spans.items m.yes m.no
-      by_old (Some o) w = tt
+      by_old : (o : Option Trace) → AllWere o nodes first first_shown → WasList o s.yes.spans.items × WasList o s.no.spans.items
+      by_old None w = let m = w.1 p s at in (m.yes, m.no)
+      by_old (Some o) w = (tt, tt)
 
   -- what a child that has stepped had
   child_had : {mid mid_shown : List Sets} (i : ℕ) → SteppedTo i first mid → ShownTo i mid first_shown mid_shown
@@ -137,49 +117,41 @@ module _ {nodes : List Node} (b : Binding) {e : Entry} (before : Option Row) (r 
     where
       by_step : (w o : Sets) → slice_get first_shown p ≡ Some w → IsLive (start tr) first_shown n o w → (m : Sets)
           → HasShown w x m → Had old tr (lists_at first_shown p) x
-      by_step w o e k m step = record {
-        lists = subst (λ (z : Lists). HadLists z x) (sym (lists_are first_shown p w e)) (record { yes = step.gains_yes; no = step.gains_no });
-        first = had_first p w e;
-        yes_within = λ u y. subst (λ z. Lies z u) (sym step.yes) (elim (step.takes_yes.only u y) [
-          | inl z ↦ subst (λ c. Lies c u) (sym k.shown_yes) (k.yes_within u z)
-          | inr z ↦ z.0
-        ]);
-        no_within = λ u y. subst (λ z. Lies z u) (sym step.no) (elim (step.takes_no.only u y) [
-          | inl z ↦ k.no_within u z
-          | inr z ↦ z.0
-        ]);
-        yes_from = λ u y. k.shown_starts u (subst (λ c. Lies c u) (step.yes ∙ k.shown_yes) y);
-        no_from = λ u y. k.shown_starts u (subst (λ c. Lies c u) step.no y);
-      }
+      by_step w o e k m step = subst (λ l. Had old tr l x) (sym (lists_are first_shown p w e)) (record {
+        yes = record {
+          gains = step.gains_yes;
+          first = (had_first p w e).0;
+          within = λ u y. subst (λ z. Lies z u) (sym step.yes) (elim (step.takes_yes.only u y) [
+            | inl z ↦ subst (λ c. Lies c u) (sym k.shown_yes) (k.yes_within u z)
+            | inr z ↦ z.0
+          ]);
+          from = λ u y. k.shown_starts u (subst (λ c. Lies c u) (step.yes ∙ k.shown_yes) y);
+        };
+        no = record {
+          gains = step.gains_no;
+          first = (had_first p w e).1;
+          within = λ u y. subst (λ z. Lies z u) (sym step.no) (elim (step.takes_no.only u y) [
+            | inl z ↦ k.no_within u z
+            | inr z ↦ z.0
+          ]);
+          from = λ u y. k.shown_starts u (subst (λ c. Lies c u) step.no y);
+        };
+      })
 
   -- until and since have their sets between
   has_parts : {mid mid_shown : List Sets} (i : ℕ) → SteppedTo i first mid → ShownTo i mid first_shown mid_shown → (n : Node) (s x : Sets)
       → slice_get nodes i ≡ Some n → slice_get first i ≡ Some s
       → slice_get first_shown i ≡ Some x → HasParts n s (take i mid_shown)
-  has_parts {mid} {mid_shown} i g h n s x at is ix = by_left (left_of n) (have.has i n s x at is ix).left
-    where
-      fail_bounds : (l l' : Sets) → l'.no.bounds ≡ l.no.bounds → HasFailBounds s l → HasFailBounds s l'
-      fail_bounds l l' q f = by_parts s.parts f
-        where
-          by_parts : (o : Option Parts) → MatchOption o (Unit {0}) (λ x. (x.failing.fail.bounds ≡ l.no.bounds) × (x.failing.stop.bounds ≡ l.no.bounds))
-              → MatchOption o (Unit {0}) (λ x. (x.failing.fail.bounds ≡ l'.no.bounds) × (x.failing.stop.bounds ≡ l'.no.bounds))
-          by_parts None f = f
-          by_parts (Some x) f = (f.0 ∙ sym q, f.1 ∙ sym q)
-
-      by_left : (o : Option ℕ) → MatchOption o (Unit {0}) (λ p. IsSome s.parts × ((l : Sets) → slice_get first_shown p ≡ Some l → HasFailBounds s l))
-          → MatchOption o (Unit {0}) (λ p. IsSome s.parts × ((l : Sets) → slice_get (take i mid_shown) p ≡ Some l → HasFailBounds s l))
-      by_left None x = tt
-      by_left (Some p) x = (
-        x.0,
-        λ l z.
-            let k = taken_within mid_shown i p l z in
-            let f = sym (taken_at mid_shown i p k) ∙ z in
-            let q = slice_get_within mid_shown p l f in
-            let w = slice_get_there first_shown p (let c = h.count in omega (arith, q, c)) in
-            let m = slice_get_there mid p (let c = h.count in let d = have.count in let y = have.shown_count in let v = g.count in
-            omega (arith, q, c, d, y, v)) in
-            fail_bounds w.0 l (h.shown p m.0 w.0 l k m.1 w.1 f).no (x.1 w.0 w.1),
-      )
+  has_parts {mid} {mid_shown} i g h n s x at is ix = parts_as n s s first_shown (take i mid_shown) (parts_kept s.parts s.parts refl)
+      (λ p l e z.
+      let k = taken_within mid_shown i p l z in
+      let f = sym (taken_at mid_shown i p k) ∙ z in
+      let q = slice_get_within mid_shown p l f in
+      let w = slice_get_there first_shown p (let c = h.count in omega (arith, q, c)) in
+      let m = slice_get_there mid p (let c = h.count in let d = have.count in let y = have.shown_count in let v = g.count in
+      omega (arith, q, c, d, y, v)) in
+      (w.0, w.1, (h.shown p m.0 w.0 l k m.1 w.1 f).no))
+      (have.has i n s x at is ix).left
 
   leaf_goes : (i : ℕ) (n : Node) (s x : Sets) → slice_get nodes i ≡ Some n → slice_get first i ≡ Some s
       → slice_get first_shown i ≡ Some x → LeafGoes b i e old tr before r s n
@@ -218,15 +190,12 @@ module _ {nodes : List Node} (b : Binding) {e : Entry} (before : Option Row) (r 
       lists_taken : (p : ℕ) → p < i → lists_at (take i mid_shown) p ≡ lists_at new_shown p
       lists_taken p f = lists_by (take i mid_shown) mid_shown p (taken_at mid_shown i p f) ∙ lists_stay i (omega arith) p f
 
-      node_at : (p : ℕ) → p < length nodes → (m : Node) × (slice_get nodes p ≡ Some m)
-      node_at p f = nodes_at nodes p f
-
       had : HadAll old tr (lists_at first_shown) (take i mid_shown)
       had p q z =
           let k = taken_within mid_shown i p q z in
           let f = sym (taken_at mid_shown i p k) ∙ z in
           let w = slice_get_within mid_shown p q f in
-          let x = node_at p (let c = g.count in let d = have.shown_count in omega (arith, w, c, d)) in
+          let x = slice_get_there nodes p (let c = g.count in let d = have.shown_count in omega (arith, w, c, d)) in
           child_had i h g p x.0 q k x.1 f
 
       shown_here : (x : Sets) × (slice_get first_shown i ≡ Some x)

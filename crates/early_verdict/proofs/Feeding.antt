@@ -11,6 +11,7 @@ use Rattle.early_verdict.specs.Living.{NetStands}
 use Rattle.early_verdict.specs.Deciding.{Kept, IsAnswer, SetsAre, Stands, last_of}
 use Rattle.early_verdict.specs.declared.sets.Sets.{Sets}
 use Rattle.early_verdict.specs.declared.early.Decided.{Decided}
+use Rattle.rational.proofs.Lists.{some_of}
 use Rattle.early_verdict.proofs.DecideLemmas.{none_first}
 use Rattle.early_verdict.proofs.StandingOn.{IsTaken, bound_any, decided_now, fed_answer, fed_stands, passed_answer, passed_stands}
 
@@ -45,11 +46,6 @@ pub none_if : {A : Type 0} (o : Option A) → is_some o ≡ false → o ≡ None
 none_if None e = refl
 none_if (Some x) e = absurd (let f : true ≡ false = e in cc)
 
--- an option that comes out as some has an item
-pub some_if : {A : Type 0} (o : Option A) → is_some o ≡ true → (x : A) × (o ≡ Some x)
-some_if None e = absurd (let f : false ≡ true = e in cc)
-some_if (Some x) e = (x, refl)
-
 -- where what stands for the rows goes on to stand for them
 pub sets_as : (nodes : List Node) (header : Header) (begin : ℕ) (live shown left left_shown : List Sets) (rows : List Row) (x : Row)
     → ((tr : Trace) → NetStands nodes tr live shown → NetStands nodes tr left left_shown) → SetsAre nodes header begin live shown (rows ++ x ∷ [])
@@ -81,7 +77,7 @@ pub passed_by : (x : Kept) (rows : List Row) (r kept : Row) → Stands x rows fa
     → IfSome x.last (λ q. q.time < r.time) → kept ≡ r
     → Stands (record x { last = Some kept }) (rows ++ r ∷ []) false × IsAnswer (root x.nodes) x.header rows r None
 passed_by x rows r kept st some width later same =
-    let d = some_if x.decided some in (
+    let d = some_of x.decided some in (
       subst (λ k. Stands (record x { last = Some k }) (rows ++ r ∷ []) false) (sym same) (passed_stands x rows st d.0 d.1 r width later),
       passed_answer x rows st d.0 d.1 r,
     )

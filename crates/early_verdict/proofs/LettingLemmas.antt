@@ -7,6 +7,7 @@ use Rattle.std.proofs.lemmas.Bool.{cases_eq}
 use Rattle.rational.specs.Time.{Rational, later, ◌≤ʳ◌, ◌<ʳ◌}
 use Rattle.rational.proofs.Order.{le_of_lt, le_trans, lt_of_lt_of_le, not_lt_of_le}
 use Rattle.rational.proofs.TimeLemmas.{later_le, precedes_le, precedes_of_lt, later_lt}
+use Rattle.stl_syntax.specs.Cells.{IsChild}
 use Rattle.stl_syntax.specs.Early.{OpenAhead, OpenBehind}
 use Rattle.stl_syntax.specs.declared.node.Node.{Node}
 use Rattle.stl_syntax.specs.declared.node.Node.TheVariants.{Not, And, Or, Implies, Until, Eventually, Always, Once, Historically}
@@ -16,19 +17,20 @@ use Rattle.growing_sets.specs.Spans.{AreTidy, IsAmong, IsOn, Lies}
 use Rattle.growing_sets.specs.Steps.{HoldsFrom}
 use Rattle.early_verdict.specs.Fitting.{Lists, lists_at, lists_of, no_of, yes_of}
 use Rattle.early_verdict.specs.Standing.{AllTidy}
-use Rattle.early_verdict.specs.Living.{HasShown, IsNarrowed, IsShown, ShowsAt}
-use Rattle.early_verdict.specs.Letting.{AreApart, AreAskedBy, AreInside, AreLess, IsAskedFirst}
-use Rattle.early_verdict.specs.Letting.{IsAskedFrom, IsEndlessCut, IsEndlessCutAt, IsFirstLeft, IsFirstShown, IsLess}
-use Rattle.early_verdict.specs.Letting.{IsRunCut, IsRunCutAt, HasShed, HasShedAt, IsUntil, ShowsFrom}
+use Rattle.early_verdict.specs.Changing.{ChangesAt}
+use Rattle.early_verdict.specs.Living.{IsNarrowed, IsShown, LooksAt, LooksBack}
+use Rattle.early_verdict.specs.Letting.{AreApart, AreAskedBy, AreInside, AreLess, IsAskedFirst, IsAskedFrom}
+use Rattle.early_verdict.specs.Letting.{IsFirstLeft, IsFirstShown, IsLess, IsRun, IsUntil, ShowsFrom}
 use Rattle.frac128.specs.declared.cut.Cut.{Cut}
 use Rattle.growing_sets.specs.declared.stretch.Stretch.{Stretch}
 use Rattle.growing_sets.specs.declared.grown.Grown.{Grown}
 use Rattle.early_verdict.specs.declared.sets.Sets.{Sets}
+use Rattle.early_verdict.specs.declared.sets.Parts.{Parts}
 use Rattle.early_verdict.proofs.AllSets.{is_shown, lists_are, shown_is, shown_within}
 use Rattle.rational.proofs.PlaceLemmas.{at_most_of_not_before, between, not_both, sides, after_at_most, le_through, upto_earlier}
 use Rattle.rational.proofs.Lists.{slice_get_there}
 use Rattle.early_verdict.proofs.Places.{lists_by}
-use Rattle.early_verdict.proofs.Splitting.{IsSplit, count_there, new_there, old_there, others_there}
+use Rattle.early_verdict.proofs.Splitting.{IsSplit, changed_each, changes_at}
 use Rattle.growing_sets.proofs.StretchLemmas.{rises}
 use Rattle.growing_sets.proofs.RunLemmas.{earlier_after, on_one}
 use Rattle.early_verdict.proofs.SetsTell.{parts_tidy}
@@ -53,7 +55,7 @@ told_early own shown told from Yes h (inr e) t k l b =
     absurd (not_both (place shown.from) t (upto_lt (place shown.from) t (subst (λ c. t <ʳ (place c).at) e b)) k.0)
 
 -- a stretch that goes as far as each time of another ends no earlier
-ends_most : (s b : Stretch) → ((t : Rational) → Lies s t → Upto (place b.to) t) → AtMost (place s.to) (place b.to)
+pub ends_most : (s b : Stretch) → ((t : Rational) → Lies s t → Upto (place b.to) t) → AtMost (place s.to) (place b.to)
 ends_most s b f t u = elim (sides (place s.from) t) [
   | inl d ↦
       let m = between (place s.from) (place s.to) (rises s) in
@@ -106,19 +108,18 @@ less_then a b c f g = record {
 pub none_less : (xs : List Sets) → AreLess xs xs
 none_less xs = record { count = refl; each = λ p x e. (x, e, same_less x) }
 
+-- where the sets at one place become less, all do
+changed_less : {p : ℕ} {old new : List Sets} {R : Sets → Sets → Type 0} (c : ChangesAt p old new R) → IsLess c.was c.is → AreLess old new
+changed_less {old = old} c less = record {
+  count = c.count;
+  each = changed_each (λ q x. (w : Sets) × (slice_get old q ≡ Some w) × IsLess w x) c (c.was, c.at_old, less) (λ q x e. (x, e, same_less x));
+}
+
 -- where one node is asked from a time on
 module _ {p : ℕ} {from : Rational} {old new : List Sets} (h : IsAskedFrom p from old new) where
   -- one node's fewer times are fewer of all
   pub one_less : AreLess old new
-  one_less = record { count = h.count; each = each }
-    where
-      each : (q : ℕ) (x : Sets) → slice_get new q ≡ Some x → (w : Sets) × (slice_get old q ≡ Some w) × IsLess w x
-      each q x e = elim (cases_eq q p) [
-        | inl d ↦
-            let a = same_Some h.is x (sym h.at_new ∙ subst (λ k. slice_get new k ≡ Some x) d e) in
-            (h.was, subst (λ k. slice_get old k ≡ Some h.was) (sym d) h.at_old, subst (λ z. IsLess h.was z) a (less_of h.bounds h.was h.is h.narrowed h.less))
-        | inr d ↦ (x, sym (h.others q d) ∙ e, same_less x)
-      ]
+  one_less = changed_less h (less_of h.by.bounds h.was h.is h.by.narrowed h.by.less)
 
   -- it shows the times from there on
   pub still_shown : (q : ℕ) (u : Rational) → (q ≡ p → from ≤ʳ u) → IsShown old q u → IsShown new q u
@@ -126,8 +127,8 @@ module _ {p : ℕ} {from : Rational} {old new : List Sets} (h : IsAskedFrom p fr
     | inl d ↦
         let o = subst (λ k. IsShown old k u) d s in
         let l = shown_is old p h.was u h.at_old o in
-        subst (λ k. IsShown new k u) (sym d) (elim (h.left u l) [
-          | inl b ↦ is_shown new p h.is u h.at_new (subst (λ z. Lies z u) (sym h.narrowed.no_bounds) b)
+        subst (λ k. IsShown new k u) (sym d) (elim (h.by.left u l) [
+          | inl b ↦ is_shown new p h.is u h.at_new (subst (λ z. Lies z u) (sym h.by.narrowed.no_bounds) b)
           | inr b ↦ absurd (not_lt_of_le (f d) b)
         ])
     | inr d ↦
@@ -141,7 +142,7 @@ module _ {p : ℕ} {from : Rational} {old new : List Sets} (h : IsAskedFrom p fr
         let a = same_Some h.was w (sym h.at_old ∙ subst (λ k. slice_get old k ≡ Some w) d e) in
         let b = same_Some h.is x (sym h.at_new ∙ subst (λ k. slice_get new k ≡ Some x) d f) in
         subst (λ (z : Sets). Lies z.no.bounds t) b
-        (subst (λ z. Lies z t) (sym h.narrowed.no_bounds) (elim (h.left t (subst (λ (z : Sets). Lies z.no.bounds t) (sym a) l)) [
+        (subst (λ z. Lies z t) (sym h.by.narrowed.no_bounds) (elim (h.by.left t (subst (λ (z : Sets). Lies z.no.bounds t) (sym a) l)) [
           | inl m ↦ m
           | inr m ↦ absurd (not_lt_of_le g m)
         ]))
@@ -153,8 +154,8 @@ module _ {p : ℕ} {from : Rational} {old new : List Sets} (h : IsAskedFrom p fr
     | inl d ↦
         let a = same_Some h.was w (sym h.at_old ∙ subst (λ k. slice_get old k ≡ Some w) d e) in
         let b = same_Some h.is x (sym h.at_new ∙ subst (λ k. slice_get new k ≡ Some x) d f) in
-        subst (λ (z : Sets). Upto (place z.no.bounds.to) t) b (subst (λ (z : Stretch). Upto (place z.to) t) (sym h.narrowed.no_bounds)
-        (h.ends t (subst (λ (z : Sets). Upto (place z.no.bounds.to) t) (sym a) u)))
+        subst (λ (z : Sets). Upto (place z.no.bounds.to) t) b (subst (λ (z : Stretch). Upto (place z.to) t) (sym h.by.narrowed.no_bounds)
+        (h.by.ends t (subst (λ (z : Sets). Upto (place z.no.bounds.to) t) (sym a) u)))
     | inr d ↦ subst (λ (z : Sets). Upto (place z.no.bounds.to) t) (same_Some w x (sym e ∙ sym (h.others q d) ∙ f)) u
   ]
 
@@ -163,8 +164,8 @@ module _ {p : ℕ} {from : Rational} {old new : List Sets} (h : IsAskedFrom p fr
   shown_after w x e f t l g u k =
       let a = same_Some h.was w (sym h.at_old ∙ e) in
       let b = same_Some h.is x (sym h.at_new ∙ f) in
-      h.after t (subst (λ (z : Sets). Lies z.no.bounds t) (sym a) l) g u
-      (subst (λ z. Lies z u) h.narrowed.no_bounds (subst (λ (z : Sets). Lies z.no.bounds u) (sym b) k))
+      h.by.after t (subst (λ (z : Sets). Lies z.no.bounds t) (sym a) l) g u
+      (subst (λ z. Lies z u) h.by.narrowed.no_bounds (subst (λ (z : Sets). Lies z.no.bounds u) (sym b) k))
 
   -- what is left is tidy
   pub tidy_asked : AllTidy old → AllTidy new
@@ -210,15 +211,25 @@ before_side c t e = by_side c.after e
 pub none_asked : (n : Node) (from : Rational) (xs : List Sets) → ¬ (IsUntil n) → AreAskedBy n from xs xs
 none_asked n from xs u = record { less = none_less xs; others = λ p c. refl; run = λ r. refl; looks = λ s own parts k f l. l; cut = λ e. absurd (u e) }
 
+-- what the node looks at from one time on it still looks at
+abbrev StillLooks : Node → Rational → List Sets → List Sets → Type 0
+StillLooks n from old new = (start : Rational) (own : Stretch) (parts : Option Parts) → ((p : ℕ) (u : Rational) → IsShown old p u → start ≤ʳ u)
+    → ((t : Rational) → Lies own t → from ≤ʳ t) → LooksAt n start old own parts → LooksAt n start new own parts
+
+-- a node with one child, which alone changes
+asked_one : {p : ℕ} {from : Rational} {old new : List Sets} {R : Sets → Sets → Type 0} (n : Node) → IsChild n p → ¬ (IsRun n) → ¬ (IsUntil n)
+    → ChangesAt p old new R → AreLess old new → StillLooks n from old new → AreAskedBy n from old new
+asked_one n child no_run no_until c less looks = record {
+  less = less;
+  others = λ q d. c.others q (λ e. d (subst (λ k. IsChild n k) (sym e) child));
+  run = λ r. absurd (no_run r);
+  looks = looks;
+  cut = λ u. absurd (no_until u);
+}
+
 -- a negation asks its operand for its own times
 pub asked_not : {p : ℕ} {from : Rational} {old new : List Sets} → IsAskedFrom p from old new → AreAskedBy (Not p) from old new
-asked_not {p} h = record {
-  less = one_less h;
-  others = λ q c. h.others q (λ e. c (sym e));
-  run = λ r. absurd r;
-  cut = λ e. absurd e;
-  looks = λ s own parts k f l t o. still_shown h p t (λ d. f t o) (l t o);
-}
+asked_not {p} h = asked_one (Not p) refl (λ r. r) (λ u. u) h (one_less h) (λ s own parts k f l t o. still_shown h p t (λ d. f t o) (l t o))
 
 module _ {p q : ℕ} {from : Rational} {old mid new : List Sets} (h : IsAskedFrom p from old mid) (g : IsAskedFrom q from mid new) where
   -- fewer times of two nodes are fewer of all
@@ -233,35 +244,30 @@ module _ {p q : ℕ} {from : Rational} {old mid new : List Sets} (h : IsAskedFro
   pub both_shown : (r : ℕ) (t : Rational) → from ≤ʳ t → IsShown old r t → IsShown new r t
   both_shown r t f l = still_shown g r t (λ d. f) (still_shown h r t (λ d. f) l)
 
+  -- a node that looks at its own times of both
+  asked_two : (n : Node) → ((r : ℕ) → (p ≡ r) ⊎ (q ≡ r) → IsChild n r) → ¬ (IsRun n) → ¬ (IsUntil n) → StillLooks n from old new → AreAskedBy n from old new
+  asked_two n child no_run no_until looks = record {
+    less = two_less;
+    others = λ r d. two_others r (λ c. d (child r c));
+    run = λ r. absurd (no_run r);
+    looks = looks;
+    cut = λ u. absurd (no_until u);
+  }
+
   -- an `and` asks both sides
   pub asked_and : AreAskedBy (And p q) from old new
-  asked_and = record {
-    less = two_less;
-    others = two_others;
-    run = λ r. absurd r;
-    cut = λ e. absurd e;
-    looks = λ s own parts e f l t o. let k = l t o in (both_shown p t (f t o) k.0, both_shown q t (f t o) k.1);
-  }
+  asked_and = asked_two (And p q) (λ r c. c) (λ r. r) (λ u. u)
+      (λ s own parts e f l t o. let k = l t o in (both_shown p t (f t o) k.0, both_shown q t (f t o) k.1))
 
   -- the operands of an `or` are asked for what the node is asked for
   pub asked_or : AreAskedBy (Or p q) from old new
-  asked_or = record {
-    less = two_less;
-    others = two_others;
-    run = λ r. absurd r;
-    cut = λ e. absurd e;
-    looks = λ s own parts e f l t o. let k = l t o in (both_shown p t (f t o) k.0, both_shown q t (f t o) k.1);
-  }
+  asked_or = asked_two (Or p q) (λ r c. c) (λ r. r) (λ u. u)
+      (λ s own parts e f l t o. let k = l t o in (both_shown p t (f t o) k.0, both_shown q t (f t o) k.1))
 
   -- the operands of an implication are asked for what the node is asked for
   pub asked_implies : AreAskedBy (Implies p q) from old new
-  asked_implies = record {
-    less = two_less;
-    others = two_others;
-    run = λ r. absurd r;
-    cut = λ e. absurd e;
-    looks = λ s own parts e f l t o. let k = l t o in (both_shown p t (f t o) k.0, both_shown q t (f t o) k.1);
-  }
+  asked_implies = asked_two (Implies p q) (λ r c. c) (λ r. r) (λ u. u)
+      (λ s own parts e f l t o. let k = l t o in (both_shown p t (f t o) k.0, both_shown q t (f t o) k.1))
 
   -- both show the times from there on
   pub two_shows : (r : ℕ) (w x : Sets) → (p ≡ r) ⊎ (q ≡ r) → slice_get old r ≡ Some w → slice_get new r ≡ Some x → ShowsFrom from w x
@@ -303,23 +309,13 @@ module _ {p : ℕ} (from : Rational) {first : Rational} {old new : List Sets} (h
 
     -- an `eventually` asks for the times from its window's begin on
     pub asked_eventually : AreAskedBy (Eventually p a b a_in b_in) from old new
-    asked_eventually = record {
-      less = one_less h;
-      others = λ q c. h.others q (λ e. c (sym e));
-      run = λ r. absurd r;
-      cut = λ e. absurd e;
-      looks = λ s own parts k f l t u o w. still_shown h p u (λ d. seen_ahead s t u (f t o) w) (l t u o w);
-    }
+    asked_eventually = asked_one (Eventually p a b a_in b_in) refl (λ r. r) (λ u. u) h (one_less h)
+        (λ s own parts k f l t u o w. still_shown h p u (λ d. seen_ahead s t u (f t o) w) (l t u o w))
 
     -- the operand of an `always` is asked for what its windows look at
     pub asked_always : AreAskedBy (Always p a b a_in b_in) from old new
-    asked_always = record {
-      less = one_less h;
-      others = λ q c. h.others q (λ e. c (sym e));
-      run = λ r. absurd r;
-      cut = λ e. absurd e;
-      looks = λ s own parts k f l t u o w. still_shown h p u (λ d. seen_ahead s t u (f t o) w) (l t u o w);
-    }
+    asked_always = asked_one (Always p a b a_in b_in) refl (λ r. r) (λ u. u) h (one_less h)
+        (λ s own parts k f l t u o w. still_shown h p u (λ d. seen_ahead s t u (f t o) w) (l t u o w))
 
   module _ (a b : ℕ) (a_in b_in : Bool) (begins : later first b ≤ʳ from) where
     shorter : (x u : Rational) → later x b ≤ʳ later u b → x ≤ʳ u
@@ -328,50 +324,28 @@ module _ {p : ℕ} (from : Rational) {first : Rational} {old new : List Sets} (h
     seen_behind : (start t u : Rational) → from ≤ʳ t → OpenBehind start a (Some b) a_in b_in t u → first ≤ʳ u
     seen_behind start t u f o = shorter first u (le_trans begins (le_trans f (precedes_le b_in t (later u b) o.begins)))
 
+    -- looking back it goes on to see what it saw, where its list has still what it shows
+    still_back : (side : Lists → List Stretch) → ((u : Rational) → IsShown new p u → IsOn (side (lists_at old p)) u → IsOn (side (lists_at new p)) u)
+        → (start : Rational) (own : Stretch) → ((t : Rational) → Lies own t → from ≤ʳ t)
+        → LooksBack side start a (Some b) a_in b_in p old own → LooksBack side start a (Some b) a_in b_in p new own
+    still_back side on s own f l t u o w = elim (l t u o w) [
+      | inl m ↦ inl (still_shown h p u (λ d. seen_behind s t u (f t o) w) m)
+      | inr (v, d, m, z) ↦ let n = still_shown h p v (λ e. seen_behind s t v (f t o) d) m in inr (v, d, n, on v n z)
+    ]
+
     -- a `once` asks for the times that its window looks back to
     pub asked_once : AreAskedBy (Once p a (Some b) a_in b_in) from old new
-    asked_once = record {
-      less = one_less h;
-      others = λ q c. h.others q (λ e. c (sym e));
-      run = λ r. absurd r;
-      cut = λ e. absurd e;
-      looks = λ s own parts k f l t u o w. elim (l t u o w) [
-        | inl m ↦ inl (still_shown h p u (λ d. seen_behind s t u (f t o) w) m)
-        | inr (v, d, m, z) ↦
-            let n = still_shown h p v (λ e. seen_behind s t v (f t o) d) m in
-            inr (v, d, n, (still_on old new (one_less h) p v n).0 z)
-      ];
-    }
+    asked_once = asked_one (Once p a (Some b) a_in b_in) refl (λ r. r) (λ u. u) h (one_less h)
+        (λ s own parts k f l. still_back yes_of (λ u n. (still_on old new (one_less h) p u n).0) s own f l)
 
     -- the operand of a `historically` is asked for what its windows look at
     pub asked_historically : AreAskedBy (Historically p a (Some b) a_in b_in) from old new
-    asked_historically = record {
-      less = one_less h;
-      others = λ q c. h.others q (λ e. c (sym e));
-      run = λ r. absurd r;
-      cut = λ e. absurd e;
-      looks = λ s own parts k f l t u o w. elim (l t u o w) [
-        | inl m ↦ inl (still_shown h p u (λ d. seen_behind s t u (f t o) w) m)
-        | inr (v, d, m, z) ↦
-            let n = still_shown h p v (λ e. seen_behind s t v (f t o) d) m in
-            inr (v, d, n, (still_on old new (one_less h) p v n).1 z)
-      ];
-    }
+    asked_historically = asked_one (Historically p a (Some b) a_in b_in) refl (λ r. r) (λ u. u) h (one_less h)
+        (λ s own parts k f l. still_back no_of (λ u n. (still_on old new (one_less h) p u n).1) s own f l)
 
 -- where a node shows its first times of a truth alone
 module _ (p low : ℕ) (at : Rational) (old new : List Sets) (apart : AreApart old) (inside : AreInside old) (tidy : AllTidy old) where
   module _ (holds : Bool) (h : IsAskedFirst p holds low at old new) where
-    first_less : IsLess h.was h.is → AreLess old new
-    first_less less = record { count = h.count; each = each }
-      where
-        each : (q : ℕ) (x : Sets) → slice_get new q ≡ Some x → (w : Sets) × (slice_get old q ≡ Some w) × IsLess w x
-        each q x e = elim (cases_eq q p) [
-          | inl d ↦
-              let a = same_Some h.is x (sym h.at_new ∙ subst (λ k. slice_get new k ≡ Some x) d e) in
-              (h.was, subst (λ k. slice_get old k ≡ Some h.was) (sym d) h.at_old, subst (λ z. IsLess h.was z) a less)
-          | inr d ↦ (x, sym (h.others q d) ∙ e, same_less x)
-        ]
-
     -- some time that is left lies so far before
     early_time : (limit : Place) → later limit.at low ≤ʳ at → limit.after ≡ false → (s : Stretch) → Before (place s.from) limit
         → (w : Rational) × Lies s w × (later w low <ʳ at)
@@ -397,20 +371,19 @@ module _ (p low : ℕ) (at : Rational) (old new : List Sets) (apart : AreApart o
       subst (λ (z : Lists). IsOn (side z) w) (sym (lists_are new p h.is h.at_new)) (subst (λ xs. IsOn xs w) (sym left) (inl l)),
     )
 
-    -- where it is as it was
-    as_was : h.is ≡ h.was → (q : ℕ) (u : Rational) → (IsShown old q u → IsShown new q u)
-        × (IsOn (lists_at old q).yes u → IsOn (lists_at new q).yes u) × (IsOn (lists_at old q).no u → IsOn (lists_at new q).no u)
-    as_was e q u = (
-      λ o. let x = slice_get_there old q (shown_within old q u o) in is_shown new q x.0 u (same ∙ x.1) (shown_is old q x.0 u x.1 o),
-      λ o. subst (λ (l : Lists). IsOn l.yes u) (lists_by old new q (sym same)) o,
-      λ o. subst (λ (l : Lists). IsOn l.no u) (lists_by old new q (sym same)) o,
-    )
+    -- where it is as it was it looks back as it did
+    as_was : h.is ≡ h.was → (side : Lists → List Stretch) (start : Rational) (own : Stretch) (a_in b_in : Bool)
+        → LooksBack side start low None a_in b_in p old own → LooksBack side start low None a_in b_in p new own
+    as_was e side s own i j l t u o w = elim (l t u o w) [
+      | inl m ↦ inl (shown u m)
+      | inr (v, d, m, z) ↦ inr (v, d, shown v m, subst (λ (l : Lists). IsOn (side l) v) (lists_by old new p (sym same)) z)
+    ]
       where
-        same : slice_get new q ≡ slice_get old q
-        same = elim (cases_eq q p) [
-          | inl d ↦ subst (λ k. slice_get new k ≡ slice_get old k) (sym d) (h.at_new ∙ ap Some e ∙ sym h.at_old)
-          | inr d ↦ h.others q d
-        ]
+        same : slice_get new p ≡ slice_get old p
+        same = h.at_new ∙ ap Some e ∙ sym h.at_old
+
+        shown : (u : Rational) → IsShown old p u → IsShown new p u
+        shown u o = let x = slice_get_there old p (shown_within old p u o) in is_shown new p x.0 u (same ∙ x.1) (shown_is old p x.0 u x.1 o)
 
   -- the set has the times of the stretch, and no others
   only_part : (x : Grown) (s : Stretch) (t : Rational) → x.spans.items ≡ s ∷ [] → IsOn x.spans.items t → Lies s t
@@ -458,59 +431,33 @@ module _ (p low : ℕ) (at : Rational) (old new : List Sets) (apart : AreApart o
 
   -- `once` without a bound asks its operand for the stretch around the first time at which it was true
   pub asked_once_first : (a_in b_in : Bool) → IsAskedFirst p true low at old new → AreAskedBy (Once p low None a_in b_in) at old new
-  asked_once_first a_in b_in h = by_shows h.shows
+  asked_once_first i j h = by_shows h.by.shows
     where
-      by_shows : IsFirstShown low at h.was.yes h.was.no h.is.yes h.is.no → AreAskedBy (Once p low None a_in b_in) at old new
+      by_shows : IsFirstShown low at h.was.yes h.was.no h.is.yes h.is.no → AreAskedBy (Once p low None i j) at old new
       by_shows (inl (e, f)) =
-          let same = same_both h.was h.is h.parts e f in
-          record {
-            less = first_less true h (subst (λ z. IsLess h.was z) (sym same) (same_less h.was));
-            others = λ q c. h.others q (λ e. c (sym e));
-            run = λ r. absurd r;
-            cut = λ e. absurd e;
-            looks = λ s own parts k f l t u o w. elim (l t u o w) [
-              | inl m ↦ inl ((as_was true h same p u).0 m)
-              | inr (v, d, m, z) ↦ inr (v, d, (as_was true h same p v).0 m, (as_was true h same p v).1 z)
-            ];
-          }
+          let same = same_both h.was h.is h.by.parts e f in
+          asked_one (Once p low None i j) refl (λ r. r) (λ u. u) h (changed_less h (subst (λ z. IsLess h.was z) (sym same) (same_less h.was)))
+          (λ s own parts k f l. as_was true h same yes_of s own i j l)
       by_shows (inr (limit, k, e, f)) =
-          record {
-            less = first_less true h (first_yes h.was h.is h.at_old h.parts limit f);
-            others = λ q c. h.others q (λ e. c (sym e));
-            run = λ r. absurd r;
-            cut = λ e. absurd e;
-            looks = λ s own parts begun g l t u o w.
-                inr (seen_first true h yes_of f.part f.among f.left f.other_bounds (inside p h.was h.at_old).yes
-                (early_time true h limit k e f.part f.begins) a_in b_in s begun t (g t o));
-          }
+          asked_one (Once p low None i j) refl (λ r. r) (λ u. u) h (changed_less h (first_yes h.was h.is h.at_old h.by.parts limit f))
+          (λ s own parts begun g l t u o w.
+          inr (seen_first true h yes_of f.part f.among f.left f.other_bounds (inside p h.was h.at_old).yes
+          (early_time true h limit k e f.part f.begins) i j s begun t (g t o)))
 
   -- `historically` without a bound asks its operand for the stretch around the first time at which it was false
   pub asked_historically_first : (a_in b_in : Bool) → IsAskedFirst p false low at old new → AreAskedBy (Historically p low None a_in b_in) at old new
-  asked_historically_first a_in b_in h = by_shows h.shows
+  asked_historically_first i j h = by_shows h.by.shows
     where
-      by_shows : IsFirstShown low at h.was.no h.was.yes h.is.no h.is.yes → AreAskedBy (Historically p low None a_in b_in) at old new
+      by_shows : IsFirstShown low at h.was.no h.was.yes h.is.no h.is.yes → AreAskedBy (Historically p low None i j) at old new
       by_shows (inl (e, f)) =
-          let same = same_both h.was h.is h.parts f e in
-          record {
-            less = first_less false h (subst (λ z. IsLess h.was z) (sym same) (same_less h.was));
-            others = λ q c. h.others q (λ e. c (sym e));
-            run = λ r. absurd r;
-            cut = λ e. absurd e;
-            looks = λ s own parts k f l t u o w. elim (l t u o w) [
-              | inl m ↦ inl ((as_was false h same p u).0 m)
-              | inr (v, d, m, z) ↦ inr (v, d, (as_was false h same p v).0 m, (as_was false h same p v).2 z)
-            ];
-          }
+          let same = same_both h.was h.is h.by.parts f e in
+          asked_one (Historically p low None i j) refl (λ r. r) (λ u. u) h (changed_less h (subst (λ z. IsLess h.was z) (sym same) (same_less h.was)))
+          (λ s own parts k f l. as_was false h same no_of s own i j l)
       by_shows (inr (limit, k, e, f)) =
-          record {
-            less = first_less false h (first_no h.was h.is h.at_old h.parts limit f);
-            others = λ q c. h.others q (λ e. c (sym e));
-            run = λ r. absurd r;
-            cut = λ e. absurd e;
-            looks = λ s own parts begun g l t u o w.
-                inr (seen_first false h no_of f.part f.among f.left f.bounds (inside p h.was h.at_old).no
-                (early_time false h limit k e f.part f.begins) a_in b_in s begun t (g t o));
-          }
+          asked_one (Historically p low None i j) refl (λ r. r) (λ u. u) h (changed_less h (first_no h.was h.is h.at_old h.by.parts limit f))
+          (λ s own parts begun g l t u o w.
+          inr (seen_first false h no_of f.part f.among f.left f.bounds (inside p h.was h.at_old).no
+          (early_time false h limit k e f.part f.begins) i j s begun t (g t o)))
 
   -- a bound that may be wanting
   pub asked_once_by : (b : Option ℕ) (a_in b_in : Bool)
@@ -526,120 +473,23 @@ module _ (p low : ℕ) (at : Rational) (old new : List Sets) (apart : AreApart o
   asked_historically_by None i j h = asked_historically_first i j h
   asked_historically_by (Some b) i j (first, e, h) = asked_historically at h low b i j e
 
--- what is put back at a place of a list that was split there: narrower sets
-pub asked_at : {sets front back : List Sets} {i : ℕ} (d own : Sets) (from : Rational) (b : Stretch) → IsSplit sets i front back
-    → IsNarrowed b (slice_index_or back 0 d) own → ((t : Rational) → Lies b t → Lies (slice_index_or back 0 d).no.bounds t)
-    → ((t : Rational) → Lies (slice_index_or back 0 d).no.bounds t → Lies b t ⊎ (t <ʳ from))
-    → ((t : Rational) → Lies (slice_index_or back 0 d).no.bounds t → from ≤ʳ t → (u : Rational) → Lies b u → from ≤ʳ u)
-    → ((t : Rational) → Lies (slice_index_or back 0 d).no.bounds t → Upto (place b.to) t) → IsAskedFrom i from sets (front ++ slice_set back 0 own)
-asked_at {back = back} d own from b p n less left after ends = record {
-  was = slice_index_or back 0 d;
-  is = own;
-  bounds = b;
-  at_old = old_there p d;
-  at_new = new_there p own;
-  others = others_there p own;
-  count = count_there p own;
-  narrowed = n;
-  less = less;
-  left = left;
-  after = after;
-  ends = ends_most (slice_index_or back 0 d).no.bounds b ends;
-}
-
--- what is shed at a place is shed in the list
-pub shed_in_list : {shown sets front back : List Sets} {i : ℕ} {x : Sets} (d own : Sets) → IsSplit sets i front back
-    → slice_get shown i ≡ Some x → HasShed x (slice_index_or back 0 d) own → HasShedAt i shown sets (front ++ slice_set back 0 own)
-shed_in_list {back = back} {x = x} d own p is s = record {
-  was = slice_index_or back 0 d;
-  is = own;
-  x = x;
-  at_shown = is;
-  at_old = old_there p d;
-  at_new = new_there p own;
-  others = others_there p own;
-  count = count_there p own;
-  shed = s;
-}
-
--- what is shown at a place is shown in the list
-pub shows_at : {live sets front back : List Sets} {i : ℕ} {s : Sets} (d own : Sets) → IsSplit sets i front back → slice_get live i ≡ Some s
-    → HasShown (slice_index_or back 0 d) own s → ShowsAt i live sets (front ++ slice_set back 0 own)
-shows_at {back = back} {s = s} d own p is k = record {
-  own = s;
-  was = slice_index_or back 0 d;
-  is = own;
-  at_live = is;
-  at_old = old_there p d;
-  at_new = new_there p own;
-  others = others_there p own;
-  count = count_there p own;
-  shown = k;
-}
-
--- a run that is cut at a place is cut in the list
-pub run_cut_at : {sets front back : List Sets} {i : ℕ} (d own : Sets) (first from : Rational) (wide : Stretch) → IsSplit sets i front back
-    → IsRunCut first from wide (slice_index_or back 0 d) own → IsRunCutAt i first from wide sets (front ++ slice_set back 0 own)
-run_cut_at {back = back} d own first from wide p k = record {
-  was = slice_index_or back 0 d;
-  is = own;
-  at_old = old_there p d;
-  at_new = new_there p own;
-  others = others_there p own;
-  count = count_there p own;
-  cut = k;
-}
-
--- an operand of whose times of a truth the first one alone is shown is asked as its node needs it
-first_at : {sets front back : List Sets} {i : ℕ} (d own : Sets) (holds : Bool) (low : ℕ) (at : Rational) → IsSplit sets i front back
-    → own.parts ≡ (slice_index_or back 0 d).parts
-    → MatchBool holds (IsFirstShown low at (slice_index_or back 0 d).yes (slice_index_or back 0 d).no own.yes own.no)
-    (IsFirstShown low at (slice_index_or back 0 d).no (slice_index_or back 0 d).yes own.no own.yes)
-    → IsAskedFirst i holds low at sets (front ++ slice_set back 0 own)
-first_at {back = back} d own holds low at p k s = record {
-  was = slice_index_or back 0 d;
-  is = own;
-  at_old = old_there p d;
-  at_new = new_there p own;
-  others = others_there p own;
-  count = count_there p own;
-  parts = k;
-  shows = s;
-}
-
--- one whose true times show the first alone
+-- an operand of whose true times the first alone are shown is asked as its node needs it
 pub first_yes_at : {sets front back : List Sets} {i : ℕ} {holds : Bool} (d own : Sets) (low : ℕ) (at : Rational) → holds ≡ true → IsSplit sets i front back
     → own.parts ≡ (slice_index_or back 0 d).parts
     → IsFirstShown low at (slice_index_or back 0 d).yes (slice_index_or back 0 d).no own.yes own.no
     → IsAskedFirst i holds low at sets (front ++ slice_set back 0 own)
 first_yes_at {sets} {front} {back} {i} d own low at is p k s =
-    subst (λ b. IsAskedFirst i b low at sets (front ++ slice_set back 0 own)) (sym is) (first_at d own true low at p k s)
+    subst (λ b. IsAskedFirst i b low at sets (front ++ slice_set back 0 own)) (sym is) (changes_at d own p (record { parts = k; shows = s }))
 
--- one whose false times show the first alone
+-- and one of whose false times
 pub first_no_at : {sets front back : List Sets} {i : ℕ} {holds : Bool} (d own : Sets) (low : ℕ) (at : Rational) → holds ≡ false → IsSplit sets i front back
     → own.parts ≡ (slice_index_or back 0 d).parts
     → IsFirstShown low at (slice_index_or back 0 d).no (slice_index_or back 0 d).yes own.no own.yes
     → IsAskedFirst i holds low at sets (front ++ slice_set back 0 own)
 first_no_at {sets} {front} {back} {i} d own low at is p k s =
-    subst (λ b. IsAskedFirst i b low at sets (front ++ slice_set back 0 own)) (sym is) (first_at d own false low at p k s)
-
--- what is made anew at a place is made anew in the list
-pub endless_cut_at : {sets front back : List Sets} {i : ℕ} (d own : Sets) (a : ℕ) (xs : List Stretch) → IsSplit sets i front back
-    → IsEndlessCut a xs (slice_index_or back 0 d) own → IsEndlessCutAt i a xs sets (front ++ slice_set back 0 own)
-endless_cut_at {back = back} d own a xs p k = record {
-  was = slice_index_or back 0 d;
-  is = own;
-  at_old = old_there p d;
-  at_new = new_there p own;
-  others = others_there p own;
-  count = count_there p own;
-  cut = k;
-}
+    subst (λ b. IsAskedFirst i b low at sets (front ++ slice_set back 0 own)) (sym is) (changes_at d own p (record { parts = k; shows = s }))
 
 -- of a list whose first is that one, the first alone
 pub take_one : (xs : List Stretch) (s : Stretch) → slice_get xs 0 ≡ Some s → take 1 xs ≡ s ∷ []
 take_one [] s e = absurd (let f : None ≡ Some s = e in cc)
-take_one (x ∷ xs) s e = ap (λ y. y ∷ []) (same x s e)
-  where
-    same : (a b : Stretch) → Some a ≡ Some b → a ≡ b
-    same a b e = cc
+take_one (x ∷ xs) s e = ap (λ y. y ∷ []) (same_Some x s e)

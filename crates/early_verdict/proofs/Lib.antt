@@ -4,6 +4,7 @@ pub mod SinceSets
 pub mod DecisiveSets
 pub mod Settling
 pub mod NeverBoth
+pub mod NodeReads
 pub mod SettledSets
 pub mod EndedSets
 pub mod AllSets

@@ -10,7 +10,7 @@ use Rattle.stl_syntax.specs.Formula.{HasChildrenBelow}
 use Rattle.stl_syntax.specs.declared.node.Node.{Node}
 use Rattle.stl_syntax.specs.declared.node.Node.TheVariants.{Const, Atom as Leaf, Not, And, Or, Implies, Until, Eventually, Always, Since, Once, Historically}
 use Rattle.growing_sets.specs.Spans.{Lies}
-use Rattle.early_verdict.specs.Fitting.{HasFailBounds}
+use Rattle.early_verdict.specs.Fitting.{FailWithin, HasFailBounds}
 use Rattle.early_verdict.specs.Making.{AreMade, AreShownOf}
 use Rattle.early_verdict.specs.Standing.{ArePartsAsked, AllEmpty, AllTidy, AsksBelow, HasParts, HasSets, left_of, top_at}
 use Rattle.early_verdict.specs.Living.{AreLive, IsLive, IsShown, LooksAt, ReachesAhead, ReachesBack}
@@ -18,7 +18,6 @@ use Rattle.early_verdict.specs.declared.sets.Sets.{Sets}
 use Rattle.early_verdict.specs.declared.sets.Parts.{Parts}
 use Rattle.early_verdict.proofs.AllSets.{is_shown}
 use Rattle.early_verdict.proofs.MadeLemmas.{sets_tidy}
-use Rattle.early_verdict.proofs.EntryByNodes.{nodes_at}
 use Rattle.early_verdict.proofs.SinceSets.{none_later}
 use Rattle.early_verdict.proofs.SetsTell.{none_of}
 
@@ -36,7 +35,7 @@ module _ (nodes : List Node) (from : Rational) (live shown : List Sets) (made : 
     (placed : (i : ℕ) (n : Node) → slice_get nodes i ≡ Some n → HasChildrenBelow i n) where
   shows : (p : ℕ) (u : Rational) → p < length nodes → from ≤ʳ u → u ≤ʳ later from (top_at made.tops p) → IsShown shown p u
   shows p u h f l =
-      let n = nodes_at nodes p h in
+      let n = slice_get_there nodes p h in
       let s = slice_get_there live p (let c = made.have.count in omega (arith, h, c)) in
       let x = slice_get_there shown p (let c = made.have.count in let d = are.count in omega (arith, h, c, d)) in
       let k = are.has p s.0 x.0 s.1 x.1 in
@@ -131,14 +130,6 @@ module _ (nodes : List Node) (from : Rational) (live shown : List Sets) (made : 
         is_some None f = absurd (f refl)
         is_some (Some x) f = refl
 
-        fail_bounds : (l x : Sets) → x.no.bounds ≡ l.no.bounds → HasFailBounds s l → HasFailBounds s x
-        fail_bounds l x q f = by_parts s.parts f
-          where
-            by_parts : (o : Option Parts) → MatchOption o (Unit {0}) (λ y. (y.failing.fail.bounds ≡ l.no.bounds) × (y.failing.stop.bounds ≡ l.no.bounds))
-                → MatchOption o (Unit {0}) (λ y. (y.failing.fail.bounds ≡ x.no.bounds) × (y.failing.stop.bounds ≡ x.no.bounds))
-            by_parts None f = f
-            by_parts (Some y) f = (f.0 ∙ sym q, f.1 ∙ sym q)
-
         by_left : (o : Option ℕ)
             → MatchOption o (s.parts ≡ None)
             (λ p. (top_at made.tops p ≡ h.wide) × ((l : Sets) → slice_get live p ≡ Some l → HasFailBounds s l) × (s.parts ≡ None → ⊥))
@@ -149,7 +140,7 @@ module _ (nodes : List Node) (from : Rational) (live shown : List Sets) (made : 
           λ x f.
               let a = slice_get_within shown p x f in
               let l = slice_get_there live p (let c = are.count in omega (arith, a, c)) in
-              fail_bounds l.0 x (are.has p l.0 x l.1 f).1 (w.1 l.0 l.1),
+              subst (λ z. MatchOption s.parts (Unit {0}) (FailWithin z)) (sym (are.has p l.0 x l.1 f).1) (w.1 l.0 l.1),
         )
 
     live_here : (x : Sets) → slice_get shown i ≡ Some x → IsLive from shown n s x

@@ -6,7 +6,7 @@ use Rattle.stl_syntax.specs.declared.node.Node.{Node}
 use Rattle.stl_syntax.specs.declared.node.Node.TheVariants.{Const, Atom as Leaf, Not, And, Or, Implies, Until, Eventually, Always, Since, Once, Historically}
 use Rattle.stl_syntax.specs.Cells.{IsChild}
 use Rattle.growing_sets.specs.Spans.{IsOn, Lies}
-use Rattle.early_verdict.specs.Fitting.{HasFailBounds, KeepsBounds, lists_at}
+use Rattle.early_verdict.specs.Fitting.{FailWithin, HasFailBounds, KeepsBounds, lists_at}
 use Rattle.early_verdict.specs.Standing.{HasParts, left_of}
 use Rattle.early_verdict.specs.Living.{IsShown, LooksAt, ReachesAhead, ReachesBack}
 use Rattle.growing_sets.specs.declared.stretch.Stretch.{Stretch}
@@ -108,10 +108,8 @@ fail_bounds : (s s' l l' : Sets) → ArePartsKept s.parts s'.parts → l'.no.bou
 fail_bounds s s' l l' e q h = by_parts s.parts s'.parts e h
   where
     by_parts : (o n : Option Parts) → ArePartsKept o n
-        → MatchOption o (Unit {0}) (λ x. (x.failing.fail.bounds ≡ l.no.bounds) × (x.failing.stop.bounds ≡ l.no.bounds))
-        → MatchOption n (Unit {0}) (λ x. (x.failing.fail.bounds ≡ l'.no.bounds) × (x.failing.stop.bounds ≡ l'.no.bounds))
-    by_parts None n e h =
-        subst (λ o. MatchOption o (Unit {0}) (λ x. (x.failing.fail.bounds ≡ l'.no.bounds) × (x.failing.stop.bounds ≡ l'.no.bounds))) (sym e) tt
+        → MatchOption o (Unit {0}) (FailWithin l.no.bounds) → MatchOption n (Unit {0}) (FailWithin l'.no.bounds)
+    by_parts None n e h = subst (λ o. MatchOption o (Unit {0}) (FailWithin l'.no.bounds)) (sym e) tt
     by_parts (Some x) None e h = absurd e
     by_parts (Some x) (Some y) e h = (e.failing.fail ∙ h.0 ∙ sym q, e.failing.stop ∙ h.1 ∙ sym q)
 

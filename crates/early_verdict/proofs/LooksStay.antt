@@ -1,7 +1,7 @@
 -- An entry leaves what all nodes look at as it was.
 use Rattle.std.proofs.Common.{◌≡◌, inl, inr, sym, subst, ◌∙◌, ℕ, ◌<◌, Some, List, length, arith}
 use Rattle.std.specs.Prelude.{slice_get}
-use Rattle.std.proofs.lemmas.Option.{slice_get_within}
+use Rattle.std.proofs.lemmas.Option.{same_Some, slice_get_within}
 use Rattle.rational.specs.Time.{Rational}
 use Rattle.rational.proofs.Lists.{slice_get_there}
 use Rattle.stl_syntax.specs.declared.node.Node.{Node}
@@ -12,7 +12,6 @@ use Rattle.early_verdict.specs.Living.{AreLive, HasShown, IsLive, IsShown, Shown
 use Rattle.early_verdict.specs.declared.sets.Sets.{Sets}
 use Rattle.early_verdict.proofs.AllSets.{AreSound, is_shown, lists_are, no_there, shown_is, shown_within, yes_there}
 use Rattle.early_verdict.proofs.LivingLemmas.{looks_as, parts_as}
-use Rattle.early_verdict.proofs.EntryByNodes.{nodes_at}
 
 module _ {nodes : List Node} {from : Rational} {old new old_shown new_shown : List Sets} (h : SteppedTo (length nodes) old new)
     (g : ShownTo (length nodes) new old_shown new_shown) (have : AreLive nodes from old old_shown) where
@@ -37,9 +36,6 @@ module _ {nodes : List Node} {from : Rational} {old new old_shown new_shown : Li
       let w = slice_get_there old_shown i (omega (arith, l, c)) in
       let s = slice_get_there new i (omega (arith, l, c, d, e, f)) in
       (s.0, s.1, w.0, w.1, g.shown i s.0 w.0 x (omega (arith, l, c, d)) s.1 w.1 is)
-
-  same_one : (a b : Sets) → Some a ≡ Some b → a ≡ b
-  same_one a b e = cc
 
   -- what was shown is shown still
   pub shown_still : (p : ℕ) (u : Rational) → IsShown old_shown p u → IsShown new_shown p u
@@ -120,7 +116,7 @@ module _ {nodes : List Node} {from : Rational} {old new old_shown new_shown : Li
           k = have.has i n r w at e f
 
           shows : HasShown w x s
-          shows = subst (λ z. HasShown w x z) (same_one s' s (sym e' ∙ is)) sh
+          shows = subst (λ z. HasShown w x z) (same_Some s' s (sym e' ∙ is)) sh
 
   -- all nodes look at what they did
   pub live_on : AreLive nodes from new new_shown
@@ -134,11 +130,11 @@ module _ {nodes : List Node} {from : Rational} {old new old_shown new_shown : Li
   sound_of Yes No f k = record {
     yes = λ i s x is ix u o. let r = was_at i s is in let m = showed_at i x ix in elim (m.4.takes_yes.only u o) [
       | inl z ↦ inl (f i m.2 u m.3 z)
-      | inr z ↦ inr (r.2.gains_yes.own u (subst (λ q. IsOn q.yes.fresh.items u) (same_one m.0 s (sym m.1 ∙ is)) z.1))
+      | inr z ↦ inr (r.2.gains_yes.own u (subst (λ q. IsOn q.yes.fresh.items u) (same_Some m.0 s (sym m.1 ∙ is)) z.1))
     ];
     no = λ i s x is ix u o. let r = was_at i s is in let m = showed_at i x ix in elim (m.4.takes_no.only u o) [
       | inl z ↦ inl (k i m.2 u m.3 z)
-      | inr z ↦ inr (r.2.gains_no.own u (subst (λ q. IsOn q.no.fresh.items u) (same_one m.0 s (sym m.1 ∙ is)) z.1))
+      | inr z ↦ inr (r.2.gains_no.own u (subst (λ q. IsOn q.no.fresh.items u) (same_Some m.0 s (sym m.1 ∙ is)) z.1))
     ];
   }
 
@@ -150,6 +146,6 @@ module _ {nodes : List Node} {from : Rational} {old new old_shown new_shown : Li
       let c = have.count in
       let d = have.shown_count in
       let l : i < length nodes = omega (arith, a, d) in
-      let n = nodes_at nodes i l in
+      let n = slice_get_there nodes i l in
       let s = slice_get_there old i (omega (arith, a, c, d)) in
       (l, n.0, s.0, have.has i n.0 s.0 w n.1 s.1 f)

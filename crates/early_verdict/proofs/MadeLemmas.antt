@@ -14,7 +14,7 @@ use Rattle.stl_syntax.specs.declared.node.Node.TheVariants.{Until, Since}
 use Rattle.rational.specs.Places.{Same}
 use Rattle.frac128.specs.Cuts.{place}
 use Rattle.growing_sets.specs.Spans.{AreTidy}
-use Rattle.early_verdict.specs.Fitting.{AreEmpty, ArePartsEmpty, AreSetsTidy, ArePartsTidy, HasFailBounds, IsEmpty, IsTidy}
+use Rattle.early_verdict.specs.Fitting.{AreEmpty, ArePartsEmpty, AreSetsTidy, ArePartsTidy, FailWithin, HasFailBounds, IsEmpty, IsTidy}
 use Rattle.early_verdict.specs.Standing.{ArePartsAsked, HasSets, IsFrom, left_of, top_at}
 use Rattle.early_verdict.specs.Tops.{AreTops}
 use Rattle.early_verdict.specs.Making.{AreMade, HasPartBounds, HasPartsFor, IsMade}
@@ -126,8 +126,7 @@ module _ (nodes : List Node) (from : Rational) (tops : List ℕ) (sets : List Se
                   λ l' e'.
                       let same = same_Some l l' (sym g ∙ e') in
                       subst (HasFailBounds s) same
-                      (subst (λ o. MatchOption o (Unit {0}) (λ x. (x.failing.fail.bounds ≡ l.no.bounds) × (x.failing.stop.bounds ≡ l.no.bounds)))
-                      (sym r) (h.fail, h.stop)),
+                      (subst (λ o. MatchOption o (Unit {0}) (FailWithin l.no.bounds)) (sym r) (h.fail, h.stop)),
                   λ none. absurd (let c : None ≡ Some x = sym none ∙ r in cc),
                 );
           }

@@ -4,9 +4,8 @@ use Rattle.std.proofs.Common.{Bool, true, false, Option, Some, None, List, [], �
 use Rattle.std.specs.Prelude.{MatchBool, MatchOption, slice_get}
 use Rattle.std.proofs.lemmas.Option.{same_Some, slice_get_within}
 use Rattle.std.proofs.lemmas.Bool.{cases_eq}
-use Rattle.rational.specs.Time.{Rational, later, ◌≤ʳ◌, ◌<ʳ◌}
+use Rattle.rational.specs.Time.{Rational, ◌≤ʳ◌, ◌<ʳ◌}
 use Rattle.rational.proofs.Order.{le_of_lt}
-use Rattle.rational.proofs.TimeLemmas.{precedes_le}
 use Rattle.stl_syntax.specs.Trace.{Trace, start}
 use Rattle.stl_syntax.specs.Formula.{subformula}
 use Rattle.stl_syntax.specs.WellFormed.{AreWellFormed}
@@ -17,12 +16,9 @@ use Rattle.stl_syntax.specs.Cells.{IsChild}
 use Rattle.rational.specs.Places.{Place, After}
 use Rattle.rational.proofs.Lists.{slice_get_there}
 use Rattle.growing_sets.specs.Spans.{IsOn, Lies}
-use Rattle.early_verdict.specs.Readings.{SomeAhead, OnlyAhead, SomeBehind, OnlyBehind}
-use Rattle.early_verdict.specs.Fitting.{Lists, lists_at, no_of, nothing, yes_of, Fits, SayBoth, SayOfParts, NegationFits}
-use Rattle.early_verdict.specs.Fitting.{ConjunctionFits, DisjunctionFits, ImplicationFits, UntilFits, SinceFits}
-use Rattle.early_verdict.specs.Fitting.{EventuallyFits, AlwaysFits, OnceFits, HistoricallyFits, AreSetsTidy}
+use Rattle.early_verdict.specs.Fitting.{Lists, lists_at, nothing, Fits, SayBoth, SayOfParts, AreSetsTidy}
 use Rattle.early_verdict.specs.Standing.{AllFit, AllTidy, HasParts, left_of}
-use Rattle.early_verdict.specs.Living.{IsLive, IsNarrowed, IsShown, Known, LooksAt, LooksBack, NetStands}
+use Rattle.early_verdict.specs.Living.{IsLive, IsNarrowed, IsShown, Known, LooksAt, NetStands}
 use Rattle.early_verdict.specs.Letting.{AreApart, AreAskedBy, AreInside, AreLess, IsLess, IsRun, HasShedAt, IsUntil}
 use Rattle.growing_sets.specs.declared.stretch.Stretch.{Stretch}
 use Rattle.growing_sets.specs.declared.grown.Grown.{Grown}
@@ -31,12 +27,12 @@ use Rattle.early_verdict.specs.declared.sets.Parts.{Parts}
 use Rattle.early_verdict.proofs.AllSets.{is_shown, lists_are, shown_is, shown_within, yes_there}
 use Rattle.early_verdict.proofs.NeverBoth.{never_both}
 use Rattle.early_verdict.proofs.Childhood.{child_or_not, left_child, one_parent}
-use Rattle.early_verdict.proofs.FitLemmas.{fits_within, two}
+use Rattle.early_verdict.proofs.FitLemmas.{fits_as, fits_within}
 use Rattle.early_verdict.proofs.LivingLemmas.{looks_as, parts_as}
-use Rattle.early_verdict.proofs.EntryByNodes.{nodes_at}
 use Rattle.early_verdict.proofs.Places.{lists_by}
-use Rattle.early_verdict.proofs.SinceSets.{none_later}
-use Rattle.early_verdict.proofs.SetsTell.{parts_kept, tells_alike}
+use Rattle.early_verdict.proofs.NodeReads.{FalseBy, ListedNo, ListedYes, TrueBy, read_listed, read_on}
+use Rattle.early_verdict.proofs.SetsTell.{both_alike, parts_kept}
+use Rattle.early_verdict.proofs.Splitting.{changed_each}
 
 -- sets that let go of times say the same of the others
 module _ (own bounds : Stretch) (s s' : Sets) (y : s.yes.bounds ≡ own) (n : s.no.bounds ≡ own) (k : IsNarrowed bounds s s')
@@ -66,118 +62,40 @@ module _ (own bounds : Stretch) (s s' : Sets) (y : s.yes.bounds ≡ own) (n : s.
   fits_less (Since p q a b) tr at h = run_still _ _ h
   fits_less _ tr at h = less_both _ _ h
 
--- a node's sets fit by whatever its children show that it looks at
-fits_as : (n : Node) (tr : Trace) (at at' : ℕ → Lists) (s : Sets) → ((p : ℕ) → IsChild n p → at p ≡ at' p) → Fits n false tr at s → Fits n false tr at' s
-fits_as (Const b) tr at at' s e h = h
-fits_as (Leaf a) tr at at' s e h = h
-fits_as (Not p) tr at at' s e h = subst (λ x. NegationFits x s) (e p refl) h
-fits_as (And p q) tr at at' s e h = two (λ x y. ConjunctionFits x y s) (at p) (at' p) (at q) (at' q) (e p (inl refl)) (e q (inr refl)) h
-fits_as (Or p q) tr at at' s e h = two (λ x y. DisjunctionFits x y s) (at p) (at' p) (at q) (at' q) (e p (inl refl)) (e q (inr refl)) h
-fits_as (Implies p q) tr at at' s e h = two (λ x y. ImplicationFits x y s) (at p) (at' p) (at q) (at' q) (e p (inl refl)) (e q (inr refl)) h
-fits_as (Until p q a b) tr at at' s e h = two (λ x y. UntilFits false tr a b x y s) (at p) (at' p) (at q) (at' q) (e p (inl refl)) (e q (inr refl)) h
-fits_as (Eventually p a b j k) tr at at' s e h = subst (λ x. EventuallyFits false tr a b j k x s) (e p refl) h
-fits_as (Always p a b j k) tr at at' s e h = subst (λ x. AlwaysFits false tr a b j k x s) (e p refl) h
-fits_as (Since p q a b) tr at at' s e h = two (λ x y. SinceFits tr a b x y s) (at p) (at' p) (at q) (at' q) (e p (inl refl)) (e q (inr refl)) h
-fits_as (Once p a b j k) tr at at' s e h = subst (λ x. OnceFits tr a b j k x s) (e p refl) h
-fits_as (Historically p a b j k) tr at at' s e h = subst (λ x. HistoricallyFits tr a b j k x s) (e p refl) h
-
 module _ (tr : Trace) (own : Stretch) (s : Sets) (y : s.yes.bounds ≡ own) (n : s.no.bounds ≡ own) (old new : List Sets)
     (agree : (p : ℕ) → Known (IsShown new p) (lists_at new p) (IsOn (lists_at old p).yes) (IsOn (lists_at old p).no))
     (apart : (p : ℕ) (u : Rational) → IsOn (lists_at old p).yes u → ¬ (IsOn (lists_at old p).no u)) where
-  -- looking back, where what decides it may stand for the others
-  back_some : {X : Rational → Type 0} (side : Lists → List Stretch) (p a : ℕ) (b : Option ℕ) (i j : Bool)
-      → LooksBack side (start tr) a b i j p new own → ((u : Rational) → IsShown new p u → X u → IsOn (side (lists_at new p)) u)
-      → (t : Rational) → Lies own t → SomeBehind tr a b i j X t
-      → SomeBehind tr a b i j (IsOn (side (lists_at new p))) t
-  back_some side p a b i j far f t l (u, w, c, x) = elim (far t u l w) [
-    | inl k ↦ (u, w, c, f u k x)
-    | inr (v, d, k, z) ↦ (v, d, (d.after, inr (none_later v t a (precedes_le i (later v a) t d.ends))), z)
-  ]
-
-  back_only : {X ys : Rational → Type 0} (side : Lists → List Stretch) (p a : ℕ) (b : Option ℕ) (i j : Bool)
-      → LooksBack side (start tr) a b i j p new own → ((u : Rational) → IsShown new p u → X u → ys u)
-      → ((u : Rational) → IsOn (side (lists_at new p)) u → X u → ⊥) → (t : Rational) → Lies own t
-      → OnlyBehind tr a b i j X t → OnlyBehind tr a b i j ys t
-  back_only side p a b i j far f g t l y = λ u w. elim (far t u l w) [ inl k ↦ f u k (y u w) | inr (v, d, k, z) ↦ absurd (g v z (y v d)) ]
-
-  alike : (P P' N N' : Rational → Type 0) → ((t : Rational) → Lies own t → P t → P' t) → ((t : Rational) → P' t → P t)
-      → ((t : Rational) → Lies own t → N t → N' t) → ((t : Rational) → N' t → N t) → SayBoth s P N → SayBoth s P' N'
-  alike P P' N N' out into not_out not_into h = record {
-    yes = tells_alike s.yes.bounds s.yes.spans.items P P' (λ t l. out t (subst (λ x. Lies x t) y l)) (λ t l. into t) h.yes;
-    no = tells_alike s.no.bounds s.no.spans.items N N' (λ t l. not_out t (subst (λ x. Lies x t) n l)) (λ t l. not_into t) h.no;
-  }
+  told_on : (m : Node) → LooksAt m (start tr) new own s.parts
+      → SayBoth s (TrueBy m tr (ListedYes old) (ListedNo old)) (FalseBy m tr (ListedYes old) (ListedNo old))
+      → SayBoth s (TrueBy m tr (ListedYes new) (ListedNo new)) (FalseBy m tr (ListedYes new) (ListedNo new))
+  told_on m l h = both_alike s y n (read_listed tr new (ListedYes old) (ListedNo old) apart own s.parts m (λ p c. agree p) l)
+      (λ t o. read_on (ListedYes new) (ListedNo new) (ListedYes old) (ListedNo old) tr m (λ p c u. ((agree p).yes_out u, (agree p).no_out u)) t) h
 
   -- a node that is no run and no until fits by what it looks at
   pub fits_local : (m : Node) → ¬ (IsRun m) → ¬ (IsUntil m) → LooksAt m (start tr) new own s.parts
       → Fits m false tr (lists_at old) s → Fits m false tr (lists_at new) s
-  fits_local (Const b) r n l h = h
-  fits_local (Leaf a) r n l h = h
-  fits_local (Not p) r n l h =
-      let k = agree p in
-      alike (IsOn (lists_at old p).no) (IsOn (lists_at new p).no) (IsOn (lists_at old p).yes) (IsOn (lists_at new p).yes)
-      (λ t o x. k.no_in t (l t o) x) k.no_out (λ t o x. k.yes_in t (l t o) x) k.yes_out h
-  fits_local (And p q) r n l h =
-      let k = agree p in
-      let m = agree q in
-      alike (λ t. IsOn (lists_at old p).yes t × IsOn (lists_at old q).yes t) (λ t. IsOn (lists_at new p).yes t × IsOn (lists_at new q).yes t)
-      (λ t. IsOn (lists_at old p).no t ⊎ IsOn (lists_at old q).no t) (λ t. IsOn (lists_at new p).no t ⊎ IsOn (lists_at new q).no t)
-      (λ t o x. (k.yes_in t (l t o).0 x.0, m.yes_in t (l t o).1 x.1)) (λ t x. (k.yes_out t x.0, m.yes_out t x.1))
-      (λ t o x. elim x [ inl z ↦ inl (k.no_in t (l t o).0 z) | inr z ↦ inr (m.no_in t (l t o).1 z) ])
-      (λ t x. elim x [ inl z ↦ inl (k.no_out t z) | inr z ↦ inr (m.no_out t z) ]) h
-  fits_local (Or p q) r n l h =
-      let k = agree p in
-      let m = agree q in
-      alike (λ t. IsOn (lists_at old p).yes t ⊎ IsOn (lists_at old q).yes t) (λ t. IsOn (lists_at new p).yes t ⊎ IsOn (lists_at new q).yes t)
-      (λ t. IsOn (lists_at old p).no t × IsOn (lists_at old q).no t) (λ t. IsOn (lists_at new p).no t × IsOn (lists_at new q).no t)
-      (λ t o x. elim x [ inl z ↦ inl (k.yes_in t (l t o).0 z) | inr z ↦ inr (m.yes_in t (l t o).1 z) ])
-      (λ t x. elim x [ inl z ↦ inl (k.yes_out t z) | inr z ↦ inr (m.yes_out t z) ])
-      (λ t o x. (k.no_in t (l t o).0 x.0, m.no_in t (l t o).1 x.1)) (λ t x. (k.no_out t x.0, m.no_out t x.1)) h
-  fits_local (Implies p q) r n l h =
-      let k = agree p in
-      let m = agree q in
-      alike (λ t. IsOn (lists_at old p).no t ⊎ IsOn (lists_at old q).yes t) (λ t. IsOn (lists_at new p).no t ⊎ IsOn (lists_at new q).yes t)
-      (λ t. IsOn (lists_at old p).yes t × IsOn (lists_at old q).no t) (λ t. IsOn (lists_at new p).yes t × IsOn (lists_at new q).no t)
-      (λ t o x. elim x [ inl z ↦ inl (k.no_in t (l t o).0 z) | inr z ↦ inr (m.yes_in t (l t o).1 z) ])
-      (λ t x. elim x [ inl z ↦ inl (k.no_out t z) | inr z ↦ inr (m.yes_out t z) ])
-      (λ t o x. (k.yes_in t (l t o).0 x.0, m.no_in t (l t o).1 x.1)) (λ t x. (k.yes_out t x.0, m.no_out t x.1)) h
-  fits_local (Until p q a b) r n l h = absurd (n tt)
-  fits_local (Eventually p a b i j) r n l h =
-      let k = agree p in
-      alike (SomeAhead tr a b i j (IsOn (lists_at old p).yes)) (SomeAhead tr a b i j (IsOn (lists_at new p).yes))
-      (OnlyAhead false tr a b i j (IsOn (lists_at old p).no)) (OnlyAhead false tr a b i j (IsOn (lists_at new p).no))
-      (λ t o (u, w, c, x). (u, w, c, k.yes_in u (l t u o w) x)) (λ t (u, w, c, x). (u, w, c, k.yes_out u x))
-      (λ t o g u w c. k.no_in u (l t u o w) (g u w c)) (λ t g u w c. k.no_out u (g u w c)) h
-  fits_local (Always p a b i j) r n l h =
-      let k = agree p in
-      alike (OnlyAhead false tr a b i j (IsOn (lists_at old p).yes)) (OnlyAhead false tr a b i j (IsOn (lists_at new p).yes))
-      (SomeAhead tr a b i j (IsOn (lists_at old p).no)) (SomeAhead tr a b i j (IsOn (lists_at new p).no))
-      (λ t o g u w c. k.yes_in u (l t u o w) (g u w c)) (λ t g u w c. k.yes_out u (g u w c))
-      (λ t o (u, w, c, x). (u, w, c, k.no_in u (l t u o w) x)) (λ t (u, w, c, x). (u, w, c, k.no_out u x)) h
-  fits_local (Since p q a b) r n l h = absurd (r tt)
-  fits_local (Once p a b i j) r n l h =
-      let k = agree p in
-      alike (SomeBehind tr a b i j (IsOn (lists_at old p).yes)) (SomeBehind tr a b i j (IsOn (lists_at new p).yes))
-      (OnlyBehind tr a b i j (IsOn (lists_at old p).no)) (OnlyBehind tr a b i j (IsOn (lists_at new p).no))
-      (back_some yes_of p a b i j l k.yes_in) (λ t (u, w, c, x). (u, w, c, k.yes_out u x))
-      (back_only yes_of p a b i j l k.no_in (λ u z y. apart p u (k.yes_out u z) y))
-      (λ t g u w. k.no_out u (g u w)) h
-  fits_local (Historically p a b i j) r n l h =
-      let k = agree p in
-      alike (OnlyBehind tr a b i j (IsOn (lists_at old p).yes)) (OnlyBehind tr a b i j (IsOn (lists_at new p).yes))
-      (SomeBehind tr a b i j (IsOn (lists_at old p).no)) (SomeBehind tr a b i j (IsOn (lists_at new p).no))
-      (back_only no_of p a b i j l k.yes_in (λ u z y. apart p u y (k.no_out u z)))
-      (λ t g u w. k.yes_out u (g u w))
-      (back_some no_of p a b i j l k.no_in) (λ t (u, w, c, x). (u, w, c, k.no_out u x)) h
+  fits_local (Until p q a b) r u l h = absurd (u tt)
+  fits_local (Since p q a b) r u l h = absurd (r tt)
+  fits_local (Const b) r u l h = h
+  fits_local (Leaf a) r u l h = h
+  fits_local (Not p) r u l h = told_on (Not p) l h
+  fits_local (And p q) r u l h = told_on (And p q) l h
+  fits_local (Or p q) r u l h = told_on (Or p q) l h
+  fits_local (Implies p q) r u l h = told_on (Implies p q) l h
+  fits_local (Eventually p a b i j) r u l h = told_on (Eventually p a b i j) l h
+  fits_local (Always p a b i j) r u l h = told_on (Always p a b i j) l h
+  fits_local (Once p a b i j) r u l h = told_on (Once p a b i j) l h
+  fits_local (Historically p a b i j) r u l h = told_on (Historically p a b i j) l h
 
 -- one node goes on from fewer times
 module _ {nodes : List Node} {tr : Trace} {live new shown : List Sets} {i : ℕ} (at : HasShedAt i shown live new) (st : NetStands nodes tr live shown) where
-  live_here : (n : Node) → slice_get nodes i ≡ Some n → IsLive (start tr) shown n at.is at.x
+  live_here : (n : Node) → slice_get nodes i ≡ Some n → IsLive (start tr) shown n at.is at.by.x
   live_here n here = record {
-    own = at.shed.bounds;
+    own = at.by.shed.bounds;
     yes = k.yes_bounds;
     no = k.no_bounds;
     starts = λ t l. was.starts t (less t l);
-    looks = looks_as (start tr) was.own at.shed.bounds less n shown shown at.was.parts at.is.parts (λ p e u h. h)
+    looks = looks_as (start tr) was.own at.by.shed.bounds less n shown shown at.was.parts at.is.parts (λ p e u h. h)
         (λ p e u h. h) (λ p e u. (λ h. h, λ h. h)) (parts_kept at.was.parts at.is.parts k.parts) was.looks;
     left = parts_as n at.was at.is shown shown (parts_kept at.was.parts at.is.parts k.parts) (λ p l' e z. (l', z, refl)) was.left;
     shown_yes = was.shown_yes;
@@ -187,7 +105,7 @@ module _ {nodes : List Node} {tr : Trace} {live new shown : List Sets} {i : ℕ}
     shows_yes = λ t o l. was.shows_yes t (k.yes_out t o).0 l;
     shows_no = λ t o l. was.shows_no t (k.no_out t o).0 l;
     early = λ t l. elim (was.early t l) [
-      | inl o ↦ elim (at.shed.told t l (subst (λ z. Lies z t) (sym was.no) o)) [
+      | inl o ↦ elim (at.by.shed.told t l (subst (λ z. Lies z t) (sym was.no) o)) [
         | inl b ↦ inl b
         | inr (inl z) ↦ inr (inl (was.shows_yes t z l))
         | inr (inr z) ↦ inr (inr (was.shows_no t z l))
@@ -196,54 +114,37 @@ module _ {nodes : List Node} {tr : Trace} {live new shown : List Sets} {i : ℕ}
     ];
   }
     where
-      k : IsNarrowed at.shed.bounds at.was at.is
-      k = at.shed.narrowed
+      k : IsNarrowed at.by.shed.bounds at.was at.is
+      k = at.by.shed.narrowed
 
-      was : IsLive (start tr) shown n at.was at.x
-      was = st.have.has i n at.was at.x here at.at_old at.at_shown
+      was : IsLive (start tr) shown n at.was at.by.x
+      was = st.have.has i n at.was at.by.x here at.at_old at.by.at_shown
 
-      less : (t : Rational) → Lies at.shed.bounds t → Lies was.own t
-      less t l = subst (λ z. Lies z t) was.no (at.shed.less t l)
+      less : (t : Rational) → Lies at.by.shed.bounds t → Lies was.own t
+      less t l = subst (λ z. Lies z t) was.no (at.by.shed.less t l)
 
   live_there : (j : ℕ) (n : Node) (s x : Sets) → slice_get nodes j ≡ Some n → slice_get new j ≡ Some s
       → slice_get shown j ≡ Some x → IsLive (start tr) shown n s x
-  live_there j n s x here is ix = by_place (cases_eq j i)
-    where
-      by_place : (j ≡ i) ⊎ (j ≢ i) → IsLive (start tr) shown n s x
-      by_place (inl q) =
-          let a = same_Some at.is s (sym at.at_new ∙ subst (λ k. slice_get new k ≡ Some s) q is) in
-          let b = same_Some at.x x (sym at.at_shown ∙ subst (λ k. slice_get shown k ≡ Some x) q ix) in
-          subst (λ z. IsLive (start tr) shown n z x) a (subst (λ z. IsLive (start tr) shown n at.is z) b
-          (live_here n (subst (λ k. slice_get nodes k ≡ Some n) q here)))
-      by_place (inr d) = st.have.has j n s x here (sym (at.others j d) ∙ is) ix
-
-  tidy_there : AllTidy new
-  tidy_there j s is = by_place (cases_eq j i)
-    where
-      by_place : (j ≡ i) ⊎ (j ≢ i) → AreSetsTidy s
-      by_place (inl q) = subst AreSetsTidy (same_Some at.is s (sym at.at_new ∙ subst (λ k. slice_get new k ≡ Some s) q is)) at.shed.narrowed.tidy
-      by_place (inr d) = st.tidy j s (sym (at.others j d) ∙ is)
+  live_there j n s x here is ix =
+      changed_each (λ j s. (n : Node) (x : Sets) → slice_get nodes j ≡ Some n → slice_get shown j ≡ Some x → IsLive (start tr) shown n s x) at
+      (λ n x e f. subst (λ z. IsLive (start tr) shown n at.is z) (same_Some at.by.x x (sym at.by.at_shown ∙ f)) (live_here n e))
+      (λ j s e n x f g. st.have.has j n s x f e g) j s is n x here ix
 
   fit_there : AllFit nodes false tr new shown
-  fit_there j n s here is = by_place (cases_eq j i)
+  fit_there j n s here is = changed_each (λ j s. (n : Node) → slice_get nodes j ≡ Some n → Fits n false tr (lists_at shown) s) at fit_here
+      (λ j s e n f. st.fit j n s f e) j s is n here
     where
-      fit_here : slice_get nodes i ≡ Some n → Fits n false tr (lists_at shown) at.is
-      fit_here e =
-          let was = st.have.has i n at.was at.x e at.at_old at.at_shown in
-          fits_less was.own at.shed.bounds at.was at.is was.yes was.no at.shed.narrowed
-          (λ t l. subst (λ z. Lies z t) was.no (at.shed.less t l)) n tr (lists_at shown) (st.fit i n at.was e at.at_old)
-
-      by_place : (j ≡ i) ⊎ (j ≢ i) → Fits n false tr (lists_at shown) s
-      by_place (inl q) =
-          subst (λ z. Fits n false tr (lists_at shown) z) (same_Some at.is s (sym at.at_new ∙ subst (λ k. slice_get new k ≡ Some s) q is))
-          (fit_here (subst (λ k. slice_get nodes k ≡ Some n) q here))
-      by_place (inr d) = st.fit j n s here (sym (at.others j d) ∙ is)
+      fit_here : (n : Node) → slice_get nodes i ≡ Some n → Fits n false tr (lists_at shown) at.is
+      fit_here n e =
+          let was = st.have.has i n at.was at.by.x e at.at_old at.by.at_shown in
+          fits_less was.own at.by.shed.bounds at.was at.is was.yes was.no at.by.shed.narrowed
+          (λ t l. subst (λ z. Lies z t) was.no (at.by.shed.less t l)) n tr (lists_at shown) (st.fit i n at.was e at.at_old)
 
   -- all stands where a node goes on from fewer times
   pub shed_stands : NetStands nodes tr new shown
   shed_stands = record {
     have = record { count = at.count ∙ st.have.count; shown_count = st.have.shown_count; has = live_there };
-    tidy = tidy_there;
+    tidy = changed_each (λ j s. AreSetsTidy s) at at.by.shed.narrowed.tidy st.tidy;
     shown_tidy = st.shown_tidy;
     fit = fit_there;
     known = st.known;
@@ -284,7 +185,7 @@ module _ {nodes : List Node} {tr : Trace} {live shown : List Sets} (st : NetStan
       let l = shown_within shown p u h in
       let c = st.have.count in
       let d = st.have.shown_count in
-      let n = nodes_at nodes p (omega (arith, l, d)) in
+      let n = slice_get_there nodes p (omega (arith, l, d)) in
       let s = slice_get_there live p (omega (arith, l, c, d)) in
       let x = slice_get_there shown p l in
       (st.have.has p n.0 s.0 x.0 n.1 s.1 x.1).shown_starts u (shown_is shown p x.0 u x.1 h)
@@ -396,7 +297,7 @@ module _ {nodes : List Node} (formed : AreWellFormed nodes) {tr : Trace} {live :
       fit_one : Fits m false tr (lists_at new) v
       fit_one = elim (cases_eq j i) [
         | inl q ↦ subst (λ z. Fits m false tr (lists_at new) z) (same_v q) (subst (λ z. Fits z false tr (lists_at new) r) (same_m q) fits)
-        | inr d ↦ fits_as m tr (lists_at old) (lists_at new) v (λ p c. lists_by old new p (sym (not_its j p m d here c)))
+        | inr d ↦ fits_as m false tr (lists_at old) (lists_at new) v (λ p c. lists_by old new p (sym (not_its j p m d here c)))
             (st.fit j m v here (sym (same j d) ∙ iv))
       ]
 
@@ -472,7 +373,7 @@ module _ {nodes : List Node} {tr : Trace} {live shown : List Sets} (st : NetStan
       let l = slice_get_within live p s is in
       let c = st.have.count in
       let d = st.have.shown_count in
-      let n = nodes_at nodes p (omega (arith, l, c)) in
+      let n = slice_get_there nodes p (omega (arith, l, c)) in
       let x = slice_get_there shown p (omega (arith, l, c, d)) in
       let k = st.have.has p n.0 s x.0 n.1 is x.1 in
       let w = fits_within n.0 false tr (lists_at shown) s (st.fit p n.0 s n.1 is) in
@@ -484,7 +385,7 @@ module _ {nodes : List Node} {tr : Trace} {live shown : List Sets} (st : NetStan
       let l = slice_get_within shown p x ix in
       let c = st.have.count in
       let d = st.have.shown_count in
-      let n = nodes_at nodes p (omega (arith, l, d)) in
+      let n = slice_get_there nodes p (omega (arith, l, d)) in
       let s = slice_get_there live p (omega (arith, l, c, d)) in
       let k = st.have.has p n.0 s.0 x n.1 s.1 ix in
       record { yes = k.yes_within; no = k.no_within }

@@ -1,6 +1,8 @@
 -- Sets at the places of a list: one that is put in the place of another.
-use Rattle.std.proofs.Common.{◌≡◌, ◌≢◌, refl, sym, ap, ◌∙◌, ℕ, zero, suc, ◌<◌, Option, Some, None, List, [], ◌∷◌, ◌++◌, length, take, drop, get_or, arith}
+use Rattle.std.proofs.Common.{◌≡◌, ◌≢◌, refl, sym, ap, subst, ◌∙◌, ℕ, zero, suc, ◌<◌}
+use Rattle.std.proofs.Common.{Option, Some, None, List, [], ◌∷◌, ◌++◌, length, take, drop, get_or, arith}
 use Rattle.std.specs.Prelude.{slice_get, slice_set}
+use Rattle.std.proofs.lemmas.List.{take-append-le, take_all}
 use Rattle.early_verdict.specs.Fitting.{Lists, lists_at, lists_of, nothing}
 use Rattle.early_verdict.specs.declared.sets.Sets.{Sets}
 
@@ -71,3 +73,8 @@ in_place (x ∷ xs) (suc p) = in_place xs p
 -- the same sets have the same lists
 pub lists_by : (xs ys : List Sets) (p : ℕ) → slice_get xs p ≡ slice_get ys p → lists_at xs p ≡ lists_at ys p
 lists_by xs ys p e = in_place xs p ∙ ap lists_in e ∙ sym (in_place ys p)
+
+-- what is written back of as many items is these
+pub written : {X : Type 0} (new items : List X) (len : ℕ) → length new ≡ len → new ≡ take len (new ++ drop (length new) items)
+written new items len e = subst (λ k. new ≡ take k (new ++ drop (length new) items)) e
+    (sym (take-append-le (length new) new (drop (length new) items) (omega arith) ∙ take_all (length new) new (omega arith)))

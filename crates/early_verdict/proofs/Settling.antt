@@ -90,19 +90,16 @@ says_since {tr} {a} {b} {p} {q} x h f tidy tidy_q t own_yes own_no apart_p apart
     }
 
 -- what the operands of since show, and how far its sets between reach
-pub reaches_along : {own : Stretch} {b : Option ℕ} {l : ℕ} {shown : List Sets} {p q : Lists} {x : Parts} (tr : Trace) (a r : ℕ)
-    → lists_at shown l ≡ p → lists_at shown r ≡ q
-    → ReachesBack (start tr) b l shown own x → (t : Rational) → Lies own t → LooksAlong (start tr) l r a b shown t → Reaches tr a b p q x t
-reaches_along tr a r e f k t i (inl s) = inl (λ u o. let m = (s u o).0 in (k.both t u i o m, k.fail t u i o m))
-reaches_along {b = b} tr a r e f k t i (inr (w, o, s, d)) = inr (
+pub reaches_along : {own : Stretch} {b : Option ℕ} {l : ℕ} {shown : List Sets} {x : Parts} (tr : Trace) (a r : ℕ)
+    → ReachesBack (start tr) b l shown own x → (t : Rational) → Lies own t → LooksAlong (start tr) l r a b shown t
+    → Reaches tr a b (lists_at shown l) (lists_at shown r) x t
+reaches_along tr a r k t i (inl s) = inl (λ u o. let m = (s u o).0 in (k.both t u i o m, k.fail t u i o m))
+reaches_along {b = b} tr a r k t i (inr (w, o, s, d)) = inr (
   w,
   o,
   λ v m n.
       let j = along (start tr) a b t w v o m n in
       let g = (s v (record { above = m; below = n })).0 in
       (k.both t v i j g, k.fail t v i j g),
-  elim d [
-    | inl y ↦ inl (subst (λ (z : Lists). IsOn z.yes w) e y.0, subst (λ (z : Lists). IsOn z.yes w) f y.1)
-    | inr y ↦ inr (subst (λ (z : Lists). IsOn z.no w) e y)
-  ],
+  d,
 )

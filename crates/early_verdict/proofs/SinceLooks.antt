@@ -2,7 +2,6 @@
 use Rattle.std.proofs.Common.{◌≡◌, ◌⊎◌, inl, inr, sym, subst, ◌∙◌, ℕ, ◌≤◌, Bool, Option, Some, None, List}
 use Rattle.std.specs.Prelude.{MatchOption, slice_get}
 use Rattle.std.proofs.lemmas.Option.{same_Some}
-use Rattle.std.proofs.lemmas.Bool.{cases_eq}
 use Rattle.rational.specs.Time.{Rational, Within, later, ◌≤ʳ◌, ◌<ʳ◌}
 use Rattle.rational.proofs.Order.{le_of_lt, le_refl, le_trans, lt_of_le_of_lt}
 use Rattle.rational.proofs.TimeLemmas.{later_more, later_le_back, later_zero}
@@ -29,6 +28,7 @@ use Rattle.early_verdict.proofs.LettingLemmas.{both_shown, still_on, two_less}
 use Rattle.early_verdict.proofs.SinceSets.{none_later}
 use Rattle.early_verdict.proofs.SinceStands.{AreBackCut, HoldAndFail, since_stands}
 use Rattle.early_verdict.proofs.Narrowing.{shown_begun}
+use Rattle.early_verdict.proofs.Splitting.{changed_each}
 
 -- sets that are cut are tidy
 tidy_parts : (d from : Rational) (wide : Stretch) (o o' : Option Parts) → ArePartsCut d from wide o o' → MatchOption o (Unit {0}) ArePartsTidy
@@ -94,9 +94,9 @@ module _ {nodes : List Node} (formed : AreWellFormed nodes) {tr : Trace} {live l
   pub bounded_stands : NetStands nodes tr left new
   bounded_stands = since_stands formed left i at
       (le_trans (later_more d a b order) back) back
-      cut.at_old cut.at_new cut.others cut.count cut.cut.yes cut.cut.no
-      (tidy_parts d from wide cut.was.parts cut.is.parts cut.cut.parts (st.tidy i cut.was cut.at_old).parts)
-      (bounded_parts d from wide a b (lists_at new q).yes cut.was.parts cut.is.parts cut.cut.parts) at_left is_wide begins h g st looks
+      cut.at_old cut.at_new cut.others cut.count cut.by.yes cut.by.no
+      (tidy_parts d from wide cut.was.parts cut.is.parts cut.by.parts (st.tidy i cut.was cut.at_old).parts)
+      (bounded_parts d from wide a b (lists_at new q).yes cut.was.parts cut.is.parts cut.by.parts) at_left is_wide begins h g st looks
 
 -- without a bound the sets that see to the start are made anew
 module _ (d from : Rational) (wide : Stretch) (a : ℕ) (ys : List Stretch) where
@@ -209,43 +209,40 @@ module _ {nodes : List Node} (formed : AreWellFormed nodes) {tr : Trace} {live h
   }
 
   half_cut : ArePartsCut d from wide cut.was.parts anew.was.parts
-  half_cut = subst (λ (s : Sets). ArePartsCut d from wide cut.was.parts s.parts) same_half cut.cut.parts
+  half_cut = subst (λ (s : Sets). ArePartsCut d from wide cut.was.parts s.parts) same_half cut.by.parts
 
   -- and where one without a bound begins anew
   pub endless_stands : NetStands nodes tr left new
   endless_stands = since_stands formed left i at back start_before
       cut.at_old anew.at_new (λ j n. anew.others j n ∙ cut.others j n) (anew.count ∙ cut.count)
-      (anew.cut.yes ∙ subst (λ (s : Sets). s.yes ≡ cut.was.yes) same_half cut.cut.yes)
-      (anew.cut.no ∙ subst (λ (s : Sets). s.no ≡ cut.was.no) same_half cut.cut.no)
-      (tidy_anew anew.was.parts anew.is.parts anew.cut.parts
+      (anew.by.yes ∙ subst (λ (s : Sets). s.yes ≡ cut.was.yes) same_half cut.by.yes)
+      (anew.by.no ∙ subst (λ (s : Sets). s.no ≡ cut.was.no) same_half cut.by.no)
+      (tidy_anew anew.was.parts anew.is.parts anew.by.parts
       (tidy_parts d from wide cut.was.parts anew.was.parts half_cut (st.tidy i cut.was cut.at_old).parts))
-      (endless_parts d from wide a (lists_at new q).yes cut.was.parts anew.was.parts anew.is.parts half_cut anew.cut.parts)
+      (endless_parts d from wide a (lists_at new q).yes cut.was.parts anew.was.parts anew.is.parts half_cut anew.by.parts)
       at_left is_wide begins h g st looks_anew
 
 -- where the sets between of one node are cut, all are tidy still, and of those that see to the start the times lie within the bounds
 module _ {live half : List Sets} {i : ℕ} {d from : Rational} {wide : Stretch} (cut : IsRunCutAt i d from wide live half) where
   -- all sets are tidy still
   pub half_tidy : AllTidy live → AllTidy half
-  half_tidy t j s e = elim (cases_eq j i) [
-    | inl h ↦ subst AreSetsTidy (same_Some cut.is s (sym cut.at_new ∙ subst (λ k. slice_get half k ≡ Some s) h e)) here
-    | inr n ↦ t j s (sym (cut.others j n) ∙ e)
-  ]
+  half_tidy t = changed_each (λ j s. AreSetsTidy s) cut here t
     where
       was : AreSetsTidy cut.was
       was = t i cut.was cut.at_old
 
       here : AreSetsTidy cut.is
       here = record {
-        yes = subst (λ (y : Grown). IsTidy y) (sym cut.cut.yes) was.yes;
-        no = subst (λ (y : Grown). IsTidy y) (sym cut.cut.no) was.no;
-        parts = tidy_parts d from wide cut.was.parts cut.is.parts cut.cut.parts was.parts;
+        yes = subst (λ (y : Grown). IsTidy y) (sym cut.by.yes) was.yes;
+        no = subst (λ (y : Grown). IsTidy y) (sym cut.by.no) was.no;
+        parts = tidy_parts d from wide cut.was.parts cut.is.parts cut.by.parts was.parts;
       }
 
   -- the times of the one that sees to the start lie within its bounds
   pub half_inside : (s : Sets) → slice_get half i ≡ Some s → MatchOption s.parts (Unit {0}) (λ x. IsGrownInside x.holding.some)
   half_inside s e =
       subst (λ (z : Sets). MatchOption z.parts (Unit {0}) (λ x. IsGrownInside x.holding.some)) (same_Some cut.is s (sym cut.at_new ∙ e))
-      (by_parts cut.was.parts cut.is.parts cut.cut.parts)
+      (by_parts cut.was.parts cut.is.parts cut.by.parts)
     where
       by_parts : (o o' : Option Parts) → ArePartsCut d from wide o o' → MatchOption o' (Unit {0}) (λ x. IsGrownInside x.holding.some)
       by_parts None o' c = subst (λ z. MatchOption z (Unit {0}) (λ x. IsGrownInside x.holding.some)) (sym c) tt

@@ -2,56 +2,53 @@
 use Rattle.std.proofs.Common.{◌≡◌, ◌≢◌, ◌⊎◌, inl, inr, refl, sym, subst, ◌∙◌, ℕ, ◌<◌, ◌≤◌, true, false, Option, Some, None, List, length, arith}
 use Rattle.std.specs.Prelude.{IfSome, MatchOption, IsSome, slice_get, slice_index_or}
 use Rattle.std.proofs.lemmas.Option.{same_Some, slice_get_within}
-use Rattle.rational.specs.Time.{Rational, Within, later, ◌≤ʳ◌, ◌<ʳ◌}
-use Rattle.rational.proofs.Order.{le_of_lt, le_or_lt, le_refl, le_trans}
+use Rattle.rational.specs.Time.{Rational, later, ◌≤ʳ◌, ◌<ʳ◌}
+use Rattle.rational.proofs.Order.{le_refl, le_trans}
 use Rattle.rational.proofs.TimeLemmas.{later_from, later_zero}
 use Rattle.stl_syntax.specs.Trace.{Trace, start}
 use Rattle.stl_syntax.specs.Early.{OpenBehind}
 use Rattle.stl_syntax.specs.WellFormed.{AreWellFormed, HasBounds}
 use Rattle.stl_syntax.specs.declared.node.Node.{Node}
 use Rattle.stl_syntax.specs.declared.node.Node.TheVariants.{Const, Since}
-use Rattle.stl_syntax.proofs.PostOrderLemmas.{placed, slice_get_at, child_below}
+use Rattle.stl_syntax.proofs.PostOrderLemmas.{slice_get_at}
 use Rattle.stl_syntax.specs.Cells.{IsChild}
 use Rattle.rational.specs.Places.{Upto}
 use Rattle.frac128.specs.Cuts.{place}
 use Rattle.growing_sets.specs.Spans.{IsOn, Lies}
 use Rattle.early_verdict.specs.Readings.{SinceHolds, SinceFails}
-use Rattle.early_verdict.specs.Fitting.{Lists, lists_at, lists_of, ArePartsTidy, AreSetsTidy, HasFailBounds}
+use Rattle.early_verdict.specs.Fitting.{Lists, lists_at, ArePartsTidy, AreSetsTidy, FailWithin, HasFailBounds}
 use Rattle.early_verdict.specs.Fitting.{IsTidy, Says, SayOfParts, SinceFits, SinceHolding, SinceFailing}
 use Rattle.early_verdict.specs.Standing.{AllTidy}
-use Rattle.early_verdict.specs.Living.{IsLive, IsShown, LooksAlong, NetStands, ReachesBack}
+use Rattle.early_verdict.specs.Living.{IsLive, IsShown, Known, LooksAlong, NetStands, ReachesBack}
 use Rattle.growing_sets.specs.Showing.{IsCutAt}
-use Rattle.early_verdict.specs.Letting.{AreLess, ArePartsInside, IsAskedFrom, IsFailingInside, IsHoldingInside, IsInside, IsLess, ShowsFrom}
+use Rattle.early_verdict.specs.Letting.{AreLess, ArePartsInside, IsAskedFrom, IsFailingInside, IsHoldingInside, IsLess, ShowsFrom}
 use Rattle.growing_sets.specs.declared.stretch.Stretch.{Stretch}
 use Rattle.growing_sets.specs.declared.grown.Grown.{Grown}
 use Rattle.early_verdict.specs.declared.sets.Sets.{Sets}
 use Rattle.early_verdict.specs.declared.sets.Parts.{Parts}
 use Rattle.early_verdict.proofs.AllSets.{is_shown, lists_are, lists_tidy, shown_is, shown_within, yes_there, no_there}
-use Rattle.early_verdict.proofs.LettingLemmas.{less_shown, still_on, two_less, two_others, two_shows}
-use Rattle.early_verdict.proofs.Narrowing.{lists_apart, live_by, one_stands, shown_begun, shown_inside}
+use Rattle.early_verdict.proofs.LettingLemmas.{less_shown, two_less, two_others, two_shows}
+use Rattle.early_verdict.proofs.Narrowing.{agree, lists_apart, live_by, one_stands, shown_begun, shown_inside}
+use Rattle.early_verdict.proofs.NodeReads.{ListedNo, ListedYes, read_on, since_fails, since_holds}
 use Rattle.rational.proofs.PlaceLemmas.{between}
 use Rattle.rational.proofs.Lists.{slice_get_there}
 use Rattle.early_verdict.proofs.Settling.{SaysSince, reaches_along, says_since}
 use Rattle.early_verdict.proofs.SinceCuts.{IsBackCut, SeesAnew, SeesNone, failing_back, holding_back}
-use Rattle.early_verdict.proofs.SinceSets.{along, none_later}
+use Rattle.early_verdict.proofs.SetsTell.{both_alike}
+use Rattle.early_verdict.proofs.SinceSets.{none_later}
 use Rattle.growing_sets.proofs.StretchLemmas.{rises}
 use Rattle.early_verdict.proofs.UntilCuts.{Agree}
+use Rattle.early_verdict.proofs.UntilStands.{agree_from}
 
 -- the bounds of a since are in order
 pub ordered : (nodes : List Node) → AreWellFormed nodes → (i : ℕ) → i < length nodes → (p q a b : ℕ) → slice_get nodes i ≡ Some (Since p q a (Some b)) → a ≤ b
 ordered nodes formed i l p q a b at =
-    subst HasBounds (same_node (slice_index_or nodes i (Const false)) (Since p q a (Some b)) (sym (slice_get_at nodes i (Const false) l) ∙ at))
+    subst HasBounds (same_Some (slice_index_or nodes i (Const false)) (Since p q a (Some b)) (sym (slice_get_at nodes i (Const false) l) ∙ at))
     (formed.bounds i (Const false) l)
-  where
-    same_node : (m n : Node) → Some m ≡ Some n → m ≡ n
-    same_node m n e = cc
 
--- what the sets between were, and what their bounds are
+-- what the sets between were
 abbrev pub HoldAndFail : Trace → ℕ → Option ℕ → Lists → Lists → Sets → Parts → Type 0
 HoldAndFail tr a b p q s x = SinceHolding tr a b p q x.holding × SinceFailing tr a b p q x.failing × SayOfParts s x
-
-abbrev FailWithin : Stretch → Parts → Type 0
-FailWithin s x = (x.failing.fail.bounds ≡ s) × (x.failing.stop.bounds ≡ s)
 
 -- all of them are cut, or there are none
 abbrev pub AreBackCut : Rational → Rational → Stretch → ℕ → Option ℕ → List Stretch → Option Parts → Option Parts → Type 0
@@ -117,30 +114,11 @@ module _ {nodes : List Node} (formed : AreWellFormed nodes) {tr : Trace} {live :
   shows_from : (n : ℕ) (w x : Sets) → IsChild (Since p q a b) n → slice_get old n ≡ Some w → slice_get new n ≡ Some x → ShowsFrom d w x
   shows_from n w x c e f = two_shows h g n w x c e f
 
-  -- an operand shows from there on what it showed
-  agree_from : (n : ℕ) → IsChild (Since p q a b) n → Agree d (lists_at old n) (lists_at new n)
-  agree_from n c =
-      let below = child_below i n (Since p q a b) (placed nodes i (Since p q a b) formed.post_order at) c in
-      let x = slice_get_there new n (let e = small in let m = st.have.shown_count in let f = less.count in omega (arith, below, e, m, f)) in
-      let w = less.each n x.0 x.1 in
-      by_sets w.0 x.0 w.1 x.1 w.2 (shows_from n w.0 x.0 c w.1 x.1) (shown_inside st n w.0 w.1)
-    where
-      by_sets : (w x : Sets) → slice_get old n ≡ Some w → slice_get new n ≡ Some x → IsLess w x → ShowsFrom d w x → IsInside w
-          → Agree d (lists_at old n) (lists_at new n)
-      by_sets w x e f fewer shows inside =
-          subst (λ (l : Lists). Agree d l (lists_at new n)) (sym (lists_are old n w e))
-          (subst (λ (l : Lists). Agree d (lists_of w) l) (sym (lists_are new n x f)) (record {
-            yes_in = λ t k o. fewer.yes_in t (shows.left t (inside.yes t o) k) o;
-            yes_out = fewer.yes_out;
-            no_in = λ t k o. fewer.no_in t (shows.left t (inside.no t o) k) o;
-            no_out = fewer.no_out;
-          }))
-
   P : Agree d (lists_at old p) (lists_at new p)
-  P = agree_from p (inl refl)
+  P = agree_from formed at small less shows_from st p (inl refl)
 
   Q : Agree d (lists_at old q) (lists_at new q)
-  Q = agree_from q (inr refl)
+  Q = agree_from formed at small less shows_from st q (inr refl)
 
   -- the left operand's bounds, as they were
   was_left : (l : Sets) × (slice_get old p ≡ Some l) × IsLess l l'
@@ -224,63 +202,28 @@ module _ {nodes : List Node} (formed : AreWellFormed nodes) {tr : Trace} {live :
   new_tidy : AllTidy new
   new_tidy n x e = let w = less.each n x e in w.2.tidy (st.shown_tidy n w.0 w.1)
 
-  apart_new : (n : ℕ) → IsChild (Since p q a b) n → (u : Rational) → IsOn (lists_at new n).yes u → ¬ (IsOn (lists_at new n).no u)
-  apart_new n c u y m = lists_apart st n u ((agree_from n c).yes_out u y) ((agree_from n c).no_out u m)
-
   looks_still : (t : Rational) → Lies was.own t → LooksAlong (start tr) p q a b new t
   looks_still t l = looks_new t (begun t l) (was.looks.0 t l)
 
+  told : (n : ℕ) → Known (IsShown new n) (lists_at new n) (ListedYes old n) (ListedNo old n)
+  told n = agree formed left i at is ir same count less (two_others h g) st n
+
+  apart_new : (n : ℕ) (u : Rational) → ListedYes new n u → ¬ (ListedNo new n u)
+  apart_new n u y m = lists_apart st n u ((told n).yes_out u y) ((told n).no_out u m)
+
   -- of the lists before and now since is told the same at its own times
-  still_holds : (t : Rational) → LooksAlong (start tr) p q a b new t → SinceHolds tr a b (IsOn (lists_at old p).yes) (IsOn (lists_at old q).yes) t
-      → SinceHolds tr a b (IsOn (lists_at new p).yes) (IsOn (lists_at new q).yes) t
-  still_holds t (inl k) (u, o, c, y, z) =
-      let in_p = λ (v : Rational) (i : Within u t v). (still_on old new less p v (k v (along (start tr) a b t u v o i.above i.below)).0).0 (z v i) in
-      (u, o, c, (still_on old new less q u (k u (along (start tr) a b t u u o (le_refl u) (none_later u t a o.ends))).1).0 y, in_p)
-  still_holds t (inr (w, m, k, e)) (u, o, c, y, z) = elim (le_or_lt w u) [
-    | inl l ↦ (
-      u,
-      o,
-      c,
-      (still_on old new less q u (k u (record { above = l; below = none_later u t a o.ends })).1).0 y,
-      λ v i. (still_on old new less p v (k v (record { above = le_trans l i.above; below = i.below })).0).0 (z v i),
-    )
-    | inr l ↦
-        let wt = none_later w t a m.ends in
-        let all = λ (v : Rational) (i : Within w t v).
-        (still_on old new less p v (k v i).0).0 (z v (record { above = le_trans (le_of_lt l) i.above; below = i.below })) in
-        elim e [
-          | inl g ↦ (w, m, (m.after, inr wt), g.1, all)
-          | inr n ↦ absurd (apart_new p (inl refl) w (all w (record { above = le_refl w; below = wt })) n)
-        ]
-  ]
+  still : (t : Rational) → LooksAlong (start tr) p q a b new t
+      → (SinceHolds tr a b (ListedYes old p) (ListedYes old q) t → SinceHolds tr a b (ListedYes new p) (ListedYes new q) t)
+      × (SinceFails tr a b (ListedNo old p) (ListedNo old q) t → SinceFails tr a b (ListedNo new p) (ListedNo new q) t)
+  still t k = (
+    since_holds tr new (ListedYes old) (ListedNo old) (lists_apart st) p q a b (told p) (told q) t k,
+    since_fails tr new (ListedYes old) (ListedNo old) (lists_apart st) p q a b (told p) (told q) t k,
+  )
 
-  held_before : (t : Rational) → SinceHolds tr a b (IsOn (lists_at new p).yes) (IsOn (lists_at new q).yes) t
-      → SinceHolds tr a b (IsOn (lists_at old p).yes) (IsOn (lists_at old q).yes) t
-  held_before t (u, o, c, y, z) = (u, o, c, Q.yes_out u y, λ v i. P.yes_out v (z v i))
-
-  still_fails_so : (t : Rational) → LooksAlong (start tr) p q a b new t → SinceFails tr a b (IsOn (lists_at old p).no) (IsOn (lists_at old q).no) t
-      → SinceFails tr a b (IsOn (lists_at new p).no) (IsOn (lists_at new q).no) t
-  still_fails_so t (inl k) f u o = elim (f u o) [
-    | inl y ↦ inl ((still_on old new less q u (k u (along (start tr) a b t u u o (le_refl u) (none_later u t a o.ends))).1).1 y)
-    | inr (v, i, y) ↦ inr (v, i, (still_on old new less p v (k v (along (start tr) a b t u v o i.above i.below)).0).1 y)
-  ]
-  still_fails_so t (inr (w, m, k, e)) f u o = elim (le_or_lt w u) [
-    | inl l ↦ elim (f u o) [
-      | inl y ↦ inl ((still_on old new less q u (k u (record { above = l; below = none_later u t a o.ends })).1).1 y)
-      | inr (v, i, y) ↦ inr (v, i, (still_on old new less p v (k v (record { above = le_trans l i.above; below = i.below })).0).1 y)
-    ]
-    | inr l ↦ elim e [
-      | inr n ↦ inr (w, record { above = le_of_lt l; below = none_later w t a m.ends }, n)
-      | inl g ↦ elim (f w m) [
-        | inl y ↦ absurd (lists_apart st q w (Q.yes_out w g.1) y)
-        | inr (v, i, y) ↦ inr (v, record { above = le_trans (le_of_lt l) i.above; below = i.below }, (still_on old new less p v (k v i).0).1 y)
-      ]
-    ]
-  ]
-
-  failed_before : (t : Rational) → SinceFails tr a b (IsOn (lists_at new p).no) (IsOn (lists_at new q).no) t
-      → SinceFails tr a b (IsOn (lists_at old p).no) (IsOn (lists_at old q).no) t
-  failed_before t f u o = elim (f u o) [ inl y ↦ inl (Q.no_out u y) | inr (v, i, y) ↦ inr (v, i, P.no_out v y) ]
+  before_so : (t : Rational) → (SinceHolds tr a b (ListedYes new p) (ListedYes new q) t → SinceHolds tr a b (ListedYes old p) (ListedYes old q) t)
+      × (SinceFails tr a b (ListedNo new p) (ListedNo new q) t → SinceFails tr a b (ListedNo old p) (ListedNo old q) t)
+  before_so = read_on (ListedYes new) (ListedNo new) (ListedYes old) (ListedNo old) tr (Since p q a b)
+      (λ n c u. ((told n).yes_out u, (told n).no_out u))
 
   module _ (x z : Parts) (k : IsBackCut d from wide a b (lists_at new q).yes x z) (m : ReachesBack (start tr) b p old was.own x)
       (e : FailWithin (was_left.0).no.bounds x) where
@@ -317,29 +260,11 @@ module _ {nodes : List Node} (formed : AreWellFormed nodes) {tr : Trace} {live :
       holding,
       failing,
       record {
-        yes = subst (λ (y : Grown). Says y (λ t. IsOn z.holding.some.spans.items t × IsOn z.holding.each.spans.items t)) (sym same_yes) (record {
-          has = λ t l o. let i = in_yes t l in say.yes.has t l ((before t i).held (held_before t ((after t i).holds o)));
-          only = λ t o.
-              let c = say.yes.only t o in
-              let i = in_yes t c.0 in
-              (c.0, (after t i).held (still_holds t (looks_still t i) ((before t i).holds c.1)));
-        });
-        no = subst (λ (y : Grown). Says y (λ t. IsOn z.failing.never.spans.items t ⊎ IsOn z.failing.broken.spans.items t)) (sym same_no) (record {
-          has = λ t l o. let i = in_no t l in say.no.has t l ((before t i).failed (failed_before t ((after t i).fails o)));
-          only = λ t o.
-              let c = say.no.only t o in
-              let i = in_no t c.0 in
-              (c.0, (after t i).failed (still_fails_so t (looks_still t i) ((before t i).fails c.1)));
-        });
+        yes = subst (λ (y : Grown). Says y (λ t. IsOn z.holding.some.spans.items t × IsOn z.holding.each.spans.items t)) (sym same_yes) own_says.yes;
+        no = subst (λ (y : Grown). Says y (λ t. IsOn z.failing.never.spans.items t ⊎ IsOn z.failing.broken.spans.items t)) (sym same_no) own_says.no;
       },
     )
       where
-        in_yes : (t : Rational) → Lies s.yes.bounds t → Lies was.own t
-        in_yes t l = subst (λ y. Lies y t) was.yes l
-
-        in_no : (t : Rational) → Lies s.no.bounds t → Lies was.own t
-        in_no t l = subst (λ y. Lies y t) was.no l
-
         here : (Lies x.holding.both.bounds now.0 × Lies x.holding.run.bounds now.0)
         here = m.both now.0 now.0 now.1 (itself now.0 now.1) now_shown.0
 
@@ -358,14 +283,20 @@ module _ {nodes : List Node} (formed : AreWellFormed nodes) {tr : Trace} {live :
         before t l =
             says_since x n f tidy_x (lists_tidy old st.shown_tidy q).1 t (m.some t l) (m.never t l)
             (λ w i. lists_apart st p w) (λ w i. lists_apart st q w)
-            (reaches_along tr a q refl refl m t l (was.looks.0 t l))
+            (reaches_along tr a q m t l (was.looks.0 t l))
 
         after : (t : Rational) → Lies was.own t → SaysSince tr a b (lists_at new p) (lists_at new q) z t
         after t l =
             says_since z holding failing tidy_z (lists_tidy new new_tidy q).1 t
             (reach_cut.some t l) (reach_cut.never t l)
-            (λ w i. apart_new p (inl refl) w) (λ w i. apart_new q (inr refl) w)
-            (reaches_along tr a q refl refl reach_cut t l (looks_still t l))
+            (λ w i. apart_new p w) (λ w i. apart_new q w)
+            (reaches_along tr a q reach_cut t l (looks_still t l))
+
+        own_says : SayOfParts s z
+        own_says = both_alike s was.yes was.no
+            (λ t i. let w = still t (looks_still t i) in
+            (λ o. (after t i).held (w.0 ((before t i).holds o)), λ o. (after t i).failed (w.1 ((before t i).fails o))))
+            (λ t i. (λ o. (before t i).held ((before_so t).0 ((after t i).holds o)), λ o. (before t i).failed ((before_so t).1 ((after t i).fails o)))) say
 
   -- of both or of none
   by_parts : (R : Parts → Type 0) (S : Parts → Type 0) → ((x y : Parts) → IsBackCut d from wide a b (lists_at new q).yes x y

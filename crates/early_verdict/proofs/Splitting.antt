@@ -1,9 +1,11 @@
 -- A list of sets that is split at a place, and what is put there.
-use Rattle.std.proofs.Common.{◌≡◌, ◌≢◌, refl, sym, ap, subst, ◌∙◌, ℕ, zero, suc, ◌<◌, Some, List}
+use Rattle.std.proofs.Common.{◌≡◌, ◌≢◌, inl, inr, refl, sym, ap, subst, ◌∙◌, ℕ, zero, suc, ◌<◌, Some, List}
 use Rattle.std.proofs.Common.{[], ◌∷◌, ◌++◌, length, take, drop, Result, Ok, Err, OnOk, arith}
 use Rattle.std.specs.Prelude.{slice_get, slice_set, slice_index_or}
-use Rattle.early_verdict.specs.Fitting.{HasStepped}
-use Rattle.early_verdict.specs.Standing.{AllTidy, StepsAt}
+use Rattle.std.proofs.lemmas.Bool.{cases_eq}
+use Rattle.std.proofs.lemmas.Option.{same_Some}
+use Rattle.early_verdict.specs.Changing.{ChangesAt}
+use Rattle.early_verdict.specs.Standing.{AllTidy}
 use Rattle.early_verdict.specs.declared.sets.Sets.{Sets}
 use Rattle.early_verdict.proofs.Places.{put, put_here, put_there, put_count, put_joined, taken_at, taken_within}
 
@@ -58,18 +60,27 @@ module _ {sets front back : List Sets} {i : ℕ} (p : IsSplit sets i front back)
   pub count_there : (own : Sets) → length (front ++ slice_set back 0 own) ≡ length sets
   count_there own = subst (λ xs. length xs ≡ length sets) (sym (joined own)) (put_count sets i own)
 
--- one place stepped
-abbrev pub steps_at : {sets front back : List Sets} {i : ℕ} (d own : Sets) → IsSplit sets i front back
-    → HasStepped (slice_index_or back 0 d) own → StepsAt i sets (front ++ slice_set back 0 own)
-steps_at {back = back} d own p step = record {
+-- what is put there is what changes of the list
+abbrev pub changes_at : {sets front back : List Sets} {i : ℕ} {R : Sets → Sets → Type 0} (d own : Sets) → IsSplit sets i front back
+    → R (slice_index_or back 0 d) own → ChangesAt i sets (front ++ slice_set back 0 own) R
+changes_at {back = back} d own p by = record {
   was = slice_index_or back 0 d;
   is = own;
   at_old = old_there p d;
   at_new = new_there p own;
   others = others_there p own;
   count = count_there p own;
-  stepped = step;
+  by = by;
 }
+
+-- what is so of the sets there and of all that stood before is so of all that stand now
+pub changed_each : {i : ℕ} {old new : List Sets} {R : Sets → Sets → Type 0} (P : ℕ → Sets → Type 0) (c : ChangesAt i old new R) → P i c.is
+    → ((j : ℕ) (s : Sets) → slice_get old j ≡ Some s → P j s) → (j : ℕ) (s : Sets) → slice_get new j ≡ Some s → P j s
+changed_each {i} {old} {new} P c here there j s e = elim (cases_eq j i) [
+  | inl q ↦
+      subst (λ k. P k s) (sym q) (subst (P i) (same_Some c.is s (sym c.at_new ∙ subst (λ k. slice_get new k ≡ Some s) q e)) here)
+  | inr n ↦ there j s (sym (c.others j n) ∙ e)
+]
 
 -- of two facts for one answer, a third
 pub on_two : {T E : Type 0} (r : Result T E) {P Q R : Type 0} → OnOk r P → OnOk r Q → (P → Q → R) → OnOk r R

@@ -1,6 +1,6 @@
 -- How far the nodes of a formula are asked.
 use Rattle.std.proofs.Common.{◌≡◌, ◌⊎◌, inl, inr, refl, sym, subst, ap, ℕ, zero, suc, ◌+◌, ◌<◌, ◌≤◌}
-use Rattle.std.proofs.Common.{List, [], ◌∷◌, ◌++◌, Some, None, length, take, drop, arith, add-one}
+use Rattle.std.proofs.Common.{List, [], ◌∷◌, Some, None, drop, arith, add-one}
 use Rattle.std.proofs.lemmas.List.Sums.{sum_by-cons}
 use Rattle.std.specs.Prelude.{slice_get, sum_by}
 use Rattle.stl_syntax.specs.Limits.{own_reach}
@@ -63,11 +63,3 @@ raised nodes k old new here rises others above j n below e = elim (nat_eq_or_lt 
     nat_eq_or_lt zero (suc b) h = inr (omega arith)
     nat_eq_or_lt (suc a) zero h = absurd (omega arith)
     nat_eq_or_lt (suc a) (suc b) h = elim (nat_eq_or_lt a b (omega arith)) [ inl e ↦ inl (ap suc e) | inr l ↦ inr (omega arith) ]
-
--- what is written back of as many numbers is these
-pub written : (new items : List ℕ) (len : ℕ) → length new ≡ len → new ≡ take len (new ++ drop (length new) items)
-written new items len e = subst (λ k. new ≡ take k (new ++ drop (length new) items)) e (sym (front new (drop (length new) items)))
-  where
-    front : (xs ys : List ℕ) → take (length xs) (xs ++ ys) ≡ xs
-    front [] ys = refl
-    front (x ∷ xs) ys = ap (λ zs. x ∷ zs) (front xs ys)

@@ -1,5 +1,5 @@
 -- What is known while nothing is decided.
-use Rattle.std.proofs.Common.{◌≡◌, refl, sym, ap, subst, ◌∙◌, ℕ, ◌<◌, Bool, true, Option, Some, None, List, [], ◌∷◌, ◌++◌, length, take, drop}
+use Rattle.std.proofs.Common.{◌≡◌, refl, sym, subst, ◌∙◌, ℕ, ◌<◌, Bool, true, Option, Some, None, List, [], ◌∷◌, length}
 use Rattle.std.specs.Prelude.{IfSome}
 use Rattle.stl_syntax.specs.Trace.{Header, Row, AreRows}
 use Rattle.stl_syntax.specs.Formula.{Formula, root}
@@ -12,14 +12,6 @@ use Rattle.early_verdict.specs.declared.sets.Sets.{Sets}
 use Rattle.early_verdict.proofs.GoingOn.{end_final}
 use Rattle.early_verdict.proofs.DecideLemmas.{some_truth, truth_of}
 use Rattle.early_verdict.proofs.StandingOn.{rise_of}
-
--- what is written back of as many sets is these
-pub sets_written : (new items : List Sets) (len : ℕ) → length new ≡ len → new ≡ take len (new ++ drop (length new) items)
-sets_written new items len e = subst (λ k. new ≡ take k (new ++ drop (length new) items)) e (sym (front new (drop (length new) items)))
-  where
-    front : (xs ys : List Sets) → take (length xs) (xs ++ ys) ≡ xs
-    front [] ys = refl
-    front (x ∷ xs) ys = ap (λ zs. x ∷ zs) (front xs ys)
 
 last_width : (width : ℕ) (r : Row) (rows : List Row) → AreRows width (r ∷ rows) → length (last_after r rows).values ≡ width
 last_width width r [] h = h.0

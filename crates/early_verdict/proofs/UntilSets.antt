@@ -91,8 +91,7 @@ module _ (tr : Trace) (a b : ℕ) (order : a ≤ b) (p q : Lists) (x : Holding) 
   -- the set of until, where it is certainly true
   pub until_is_true : Tells bounds yes (λ t. IsOn x.some.spans.items t × IsOn x.each.spans.items t)
       → Tells bounds yes (UntilHolds tr a b (IsOn p.yes) (IsOn q.yes))
-  until_is_true s = tells_alike bounds yes (λ t. IsOn x.some.spans.items t × IsOn x.each.spans.items t) (UntilHolds tr a b (IsOn p.yes) (IsOn q.yes))
-      (λ t i k. back t i ((h.some.only t k.0).1) ((h.each.only t k.1).1)) forth s
+  until_is_true s = tells_alike s (λ t i k. back t i ((h.some.only t k.0).1) ((h.each.only t k.1).1)) forth
 
 module _ (ended : Bool) (tr : Trace) (a b : ℕ) (order : a ≤ b) (p q : Lists) (x : Failing) (h : UntilFailing ended tr a b p q x) (bounds : Stretch)
     (no : List Stretch) (tidy_q : AreTidy q.no) (tidy_fail : AreTidy x.fail.spans.items)
@@ -138,5 +137,4 @@ module _ (ended : Bool) (tr : Trace) (a b : ℕ) (order : a ≤ b) (p q : Lists)
   -- the set of until, where it is certainly false
   pub until_is_false : Tells bounds no (λ t. IsOn x.never.spans.items t ⊎ IsOn x.broken.spans.items t)
       → Tells bounds no (UntilFails ended tr a b (IsOn p.no) (IsOn q.no))
-  until_is_false s = tells_alike bounds no (λ t. IsOn x.never.spans.items t ⊎ IsOn x.broken.spans.items t)
-      (UntilFails ended tr a b (IsOn p.no) (IsOn q.no)) (λ t i k. out t k) into s
+  until_is_false s = tells_alike s (λ t i k. out t k) into

@@ -15,10 +15,10 @@ use Rattle.rational.specs.Places.{Upto}
 use Rattle.frac128.specs.Cuts.{place}
 use Rattle.growing_sets.specs.Spans.{IsOn, Lies}
 use Rattle.growing_sets.specs.Steps.{Tells}
-use Rattle.early_verdict.specs.Fitting.{Lists, lists_at, lists_of, ArePartsTidy, AreSetsTidy, HasFailBounds}
+use Rattle.early_verdict.specs.Fitting.{Lists, lists_at, lists_of, ArePartsTidy, AreSetsTidy, FailWithin, HasFailBounds}
 use Rattle.early_verdict.specs.Fitting.{IsTidy, SayOfParts, UntilFits, UntilHolding, UntilFailing}
 use Rattle.early_verdict.specs.Living.{IsLive, NetStands, ReachesAhead}
-use Rattle.early_verdict.specs.Letting.{AreAskedBy, ArePartsCut, ArePartsInside, IsFailingCut, IsFailingInside}
+use Rattle.early_verdict.specs.Letting.{AreAskedBy, AreLess, ArePartsCut, ArePartsInside, IsFailingCut, IsFailingInside}
 use Rattle.early_verdict.specs.Letting.{IsHoldingCut, IsHoldingInside, IsInside, IsLess, IsRunCutAt, ShowsFrom}
 use Rattle.growing_sets.specs.declared.stretch.Stretch.{Stretch}
 use Rattle.growing_sets.specs.declared.grown.Grown.{Grown}
@@ -56,7 +56,7 @@ module _ {nodes : List Node} {tr : Trace} {live old new : List Sets} (i : ℕ) {
       by_parts : (o : Option Parts)
           → MatchOption o ⊥ (λ x. UntilHolding tr a b (lists_at old p) (lists_at old q) x.holding
           × UntilFailing false tr a b (lists_at old p) (lists_at old q) x.failing × SayOfParts s x)
-          → MatchOption o (Unit {0}) (λ x. (x.failing.fail.bounds ≡ (left_here.0).no.bounds) × (x.failing.stop.bounds ≡ (left_here.0).no.bounds))
+          → MatchOption o (Unit {0}) (FailWithin (left_here.0).no.bounds)
           → MatchOption o (Unit {0}) (λ x. IsHoldingInside x.holding × IsFailingInside wide x.failing)
       by_parts None h e = tt
       by_parts (Some x) (h, f, g) e = (
@@ -74,6 +74,30 @@ module _ {nodes : List Node} {tr : Trace} {live old new : List Sets} (i : ℕ) {
         },
       )
 
+-- a node's children that show from a time on what they showed
+module _ {nodes : List Node} (formed : AreWellFormed nodes) {tr : Trace} {live old new : List Sets} {i : ℕ} {n : Node} (at : slice_get nodes i ≡ Some n)
+    (small : i < length nodes) {from : Rational} (less : AreLess old new)
+    (shows : (r : ℕ) (w x : Sets) → IsChild n r → slice_get old r ≡ Some w → slice_get new r ≡ Some x → ShowsFrom from w x)
+    (st : NetStands nodes tr live old) where
+  -- their lists agree from there on
+  pub agree_from : (r : ℕ) → IsChild n r → Agree from (lists_at old r) (lists_at new r)
+  agree_from r c =
+      let below = child_below i r n (placed nodes i n formed.post_order at) c in
+      let x = slice_get_there new r (let e = small in let d = st.have.shown_count in let f = less.count in omega (arith, below, e, d, f)) in
+      let w = less.each r x.0 x.1 in
+      by_sets w.0 x.0 w.1 x.1 w.2 (shows r w.0 x.0 c w.1 x.1) (shown_inside st r w.0 w.1)
+    where
+      by_sets : (w x : Sets) → slice_get old r ≡ Some w → slice_get new r ≡ Some x → IsLess w x → ShowsFrom from w x → IsInside w
+          → Agree from (lists_at old r) (lists_at new r)
+      by_sets w x e f fewer shows inside =
+          subst (λ (l : Lists). Agree from l (lists_at new r)) (sym (lists_are old r w e))
+          (subst (λ (l : Lists). Agree from (lists_of w) l) (sym (lists_are new r x f)) (record {
+            yes_in = λ t k o. fewer.yes_in t (shows.left t (inside.yes t o) k) o;
+            yes_out = fewer.yes_out;
+            no_in = λ t k o. fewer.no_in t (shows.left t (inside.no t o) k) o;
+            no_out = fewer.no_out;
+          }))
+
 module _ {nodes : List Node} (formed : AreWellFormed nodes) {tr : Trace} {live left old new : List Sets} {i p q a b : ℕ}
     (at : slice_get nodes i ≡ Some (Until p q a b))
     {from : Rational} {wide : Stretch} (cut : IsRunCutAt i from from wide live left) {l' : Sets}
@@ -81,25 +105,6 @@ module _ {nodes : List Node} (formed : AreWellFormed nodes) {tr : Trace} {live l
     (begins : (t : Rational) → Lies cut.was.no.bounds t → from ≤ʳ t) (asked : AreAskedBy (Until p q a b) from old new) (st : NetStands nodes tr live old) where
   small : i < length nodes
   small = let e = slice_get_within live i cut.was cut.at_old in let c = st.have.count in omega (arith, e, c)
-
-  -- an operand shows from there on what it showed
-  agree_from : (r : ℕ) → IsChild (Until p q a b) r → Agree from (lists_at old r) (lists_at new r)
-  agree_from r c =
-      let below = child_below i r (Until p q a b) (placed nodes i (Until p q a b) formed.post_order at) c in
-      let x = slice_get_there new r (let e = small in let d = st.have.shown_count in let f = asked.less.count in omega (arith, below, e, d, f)) in
-      let w = asked.less.each r x.0 x.1 in
-      by_sets w.0 x.0 w.1 x.1 w.2 (asked.cut tt r w.0 x.0 c w.1 x.1) (shown_inside st r w.0 w.1)
-    where
-      by_sets : (w x : Sets) → slice_get old r ≡ Some w → slice_get new r ≡ Some x → IsLess w x → ShowsFrom from w x → IsInside w
-          → Agree from (lists_at old r) (lists_at new r)
-      by_sets w x e f less shows inside =
-          subst (λ (l : Lists). Agree from l (lists_at new r)) (sym (lists_are old r w e))
-          (subst (λ (l : Lists). Agree from (lists_of w) l) (sym (lists_are new r x f)) (record {
-            yes_in = λ t k o. less.yes_in t (shows.left t (inside.yes t o) k) o;
-            yes_out = less.yes_out;
-            no_in = λ t k o. less.no_in t (shows.left t (inside.no t o) k) o;
-            no_out = less.no_out;
-          }))
 
   -- the left operand's bounds, as they were
   was_left : (l : Sets) × (slice_get old p ≡ Some l) × IsLess l l'
@@ -135,7 +140,7 @@ module _ {nodes : List Node} (formed : AreWellFormed nodes) {tr : Trace} {live l
   -- each of these has a time of the until's own
   module _ (x y : Parts) (k : IsHoldingCut from from x.holding y.holding) (m : IsFailingCut from wide x.failing y.failing)
       (r : ReachesAhead (start tr) b was.own x)
-      (e : (x.failing.fail.bounds ≡ (was_left.0).no.bounds) × (x.failing.stop.bounds ≡ (was_left.0).no.bounds)) where
+      (e : FailWithin (was_left.0).no.bounds x) where
     reach_cut : ReachesAhead (start tr) b was.own y
     reach_cut = record {
       some = λ t l. let z = r.some t l in (k.some.left t z.0 (begun t l), k.each.left t z.1 (begun t l));
@@ -158,8 +163,8 @@ module _ {nodes : List Node} (formed : AreWellFormed nodes) {tr : Trace} {live l
         → UntilHolding tr a b (lists_at new p) (lists_at new q) y.holding
         × UntilFailing false tr a b (lists_at new p) (lists_at new q) y.failing × SayOfParts cut.is y
     parts_fit (h, f, s) =
-        let P = agree_from p (inl refl) in
-        let Q = agree_from q (inr refl) in
+        let P = agree_from formed at small asked.less (asked.cut tt) st p (inl refl) in
+        let Q = agree_from formed at small asked.less (asked.cut tt) st q (inr refl) in
         let z = r.some now.0 now.1 in
         let v = r.never now.0 now.1 in
         let c = r.both now.0 now.0 now.1 (le_refl now.0) (later_from now.0 b) in
@@ -182,12 +187,12 @@ module _ {nodes : List Node} (formed : AreWellFormed nodes) {tr : Trace} {live l
               (left_wide x.failing.stop.bounds e.1) at_wide,
           record {
             yes = subst (λ (g : Grown). Tells g.bounds g.spans.items (λ t. IsOn y.holding.some.spans.items t × IsOn y.holding.each.spans.items t))
-                (sym cut.cut.yes) (record {
+                (sym cut.by.yes) (record {
                   has = λ t l o. s.yes.has t l ((k.some.only t o.0).0, (k.each.only t o.1).0);
                   only = λ t o. let n = s.yes.only t o in let g = begun t (subst (λ z. Lies z t) was.yes n.0) in (n.0, (in_some t g n.1.0, in_each t g n.1.1));
                 });
             no = subst (λ (g : Grown). Tells g.bounds g.spans.items (λ t. IsOn y.failing.never.spans.items t ⊎ IsOn y.failing.broken.spans.items t))
-                (sym cut.cut.no) (record {
+                (sym cut.by.no) (record {
                   has = λ t l o. s.no.has t l (elim o [ inl n ↦ inl (m.never.only t n).0 | inr n ↦ inr (m.broken.only t n).0 ]);
                   only = λ t o. let n = s.no.only t o in let g = begun t (subst (λ z. Lies z t) was.no n.0) in (
                     n.0,
@@ -206,9 +211,9 @@ module _ {nodes : List Node} (formed : AreWellFormed nodes) {tr : Trace} {live l
   -- of both or of none
   by_parts : (R : Parts → Type 0) (S : Parts → Type 0)
       → ((x y : Parts) → IsHoldingCut from from x.holding y.holding → IsFailingCut from wide x.failing y.failing
-      → ReachesAhead (start tr) b was.own x → (x.failing.fail.bounds ≡ (was_left.0).no.bounds) × (x.failing.stop.bounds ≡ (was_left.0).no.bounds) → R x → S y)
+      → ReachesAhead (start tr) b was.own x → FailWithin (was_left.0).no.bounds x → R x → S y)
       → (N : Type 0) → (o o' : Option Parts) → ArePartsCut from from wide o o' → MatchOption o (Unit {0}) (ReachesAhead (start tr) b was.own)
-      → MatchOption o (Unit {0}) (λ x. (x.failing.fail.bounds ≡ (was_left.0).no.bounds) × (x.failing.stop.bounds ≡ (was_left.0).no.bounds)) → MatchOption o N R
+      → MatchOption o (Unit {0}) (FailWithin (was_left.0).no.bounds) → MatchOption o N R
       → MatchOption o' N S
   by_parts R S f N None o' c r e h = subst (λ z. MatchOption z N S) (sym c) h
   by_parts R S f N (Some x) None c r e h = absurd c
@@ -216,7 +221,7 @@ module _ {nodes : List Node} (formed : AreWellFormed nodes) {tr : Trace} {live l
 
   reach_parts : MatchOption cut.is.parts (Unit {0}) (ReachesAhead (start tr) b was.own)
   reach_parts = by_parts (λ x. Unit {0}) (ReachesAhead (start tr) b was.own) (λ x y k m r e u. reach_cut x y k m r e)
-      (Unit {0}) cut.was.parts cut.is.parts cut.cut.parts
+      (Unit {0}) cut.was.parts cut.is.parts cut.by.parts
       was.looks.1 fail_bounds (unit_of cut.was.parts)
     where
       unit_of : (o : Option Parts) → MatchOption o (Unit {0}) (λ x. Unit {0})
@@ -224,7 +229,7 @@ module _ {nodes : List Node} (formed : AreWellFormed nodes) {tr : Trace} {live l
       unit_of (Some x) = tt
 
   is_some : IsSome cut.is.parts
-  is_some = by_some cut.was.parts cut.is.parts cut.cut.parts was.left.0
+  is_some = by_some cut.was.parts cut.is.parts cut.by.parts was.left.0
     where
       by_some : (o o' : Option Parts) → ArePartsCut from from wide o o' → IsSome o → IsSome o'
       by_some None o' c s = absurd (let f : false ≡ true = s in cc)
@@ -234,8 +239,8 @@ module _ {nodes : List Node} (formed : AreWellFormed nodes) {tr : Trace} {live l
   still_fails : (l : Sets) → slice_get new p ≡ Some l → HasFailBounds cut.is l
   still_fails l f =
       subst (λ z. HasFailBounds cut.is z) (same_Some l' l (sym at_left ∙ f))
-      (by_parts (λ x. Unit {0}) (λ y. (y.failing.fail.bounds ≡ l'.no.bounds) × (y.failing.stop.bounds ≡ l'.no.bounds))
-      (λ x y k m r e u. (m.fail.bounds_are ∙ is_wide, m.stop.bounds_are ∙ is_wide)) (Unit {0}) cut.was.parts cut.is.parts cut.cut.parts was.looks.1 fail_bounds
+      (by_parts (λ x. Unit {0}) (FailWithin l'.no.bounds)
+      (λ x y k m r e u. (m.fail.bounds_are ∙ is_wide, m.stop.bounds_are ∙ is_wide)) (Unit {0}) cut.was.parts cut.is.parts cut.by.parts was.looks.1 fail_bounds
       (unit_of cut.was.parts))
     where
       unit_of : (o : Option Parts) → MatchOption o (Unit {0}) (λ x. Unit {0})
@@ -245,7 +250,7 @@ module _ {nodes : List Node} (formed : AreWellFormed nodes) {tr : Trace} {live l
   mine : (w x : Sets) → slice_get old i ≡ Some w → slice_get new i ≡ Some x → IsLess w x → IsLive (start tr) new (Until p q a b) cut.is x
   mine w x e f less =
       live_by formed left i at cut.at_old cut.at_new cut.others cut.count asked.less asked.others st (Until p q a b)
-      cut.was cut.is own_shown.0 x cut.cut.yes cut.cut.no (subst (λ z. IsLess z x) (same_Some w own_shown.0 (sym e ∙ own_shown.1)) less) was
+      cut.was cut.is own_shown.0 x cut.by.yes cut.by.no (subst (λ z. IsLess z x) (same_Some w own_shown.0 (sym e ∙ own_shown.1)) less) was
       ((asked.looks (start tr) was.own cut.was.parts (shown_begun st) begun was.looks).0, reach_parts) (is_some, still_fails)
 
   fits : UntilFits false tr a b (lists_at new p) (lists_at new q) cut.is
@@ -254,17 +259,17 @@ module _ {nodes : List Node} (formed : AreWellFormed nodes) {tr : Trace} {live l
       × UntilFailing false tr a b (lists_at old p) (lists_at old q) x.failing × SayOfParts cut.was x)
       (λ y. UntilHolding tr a b (lists_at new p) (lists_at new q) y.holding
       × UntilFailing false tr a b (lists_at new p) (lists_at new q) y.failing × SayOfParts cut.is y)
-      (λ x y k m r e h. parts_fit x y k m r e h) ⊥ cut.was.parts cut.is.parts cut.cut.parts was.looks.1 fail_bounds
+      (λ x y k m r e h. parts_fit x y k m r e h) ⊥ cut.was.parts cut.is.parts cut.by.parts was.looks.1 fail_bounds
       (st.fit i (Until p q a b) cut.was at cut.at_old)
 
   tidy : AreSetsTidy cut.is
   tidy =
       let h = st.tidy i cut.was cut.at_old in
       record {
-        yes = subst (λ (g : Grown). IsTidy g) (sym cut.cut.yes) h.yes;
-        no = subst (λ (g : Grown). IsTidy g) (sym cut.cut.no) h.no;
+        yes = subst (λ (g : Grown). IsTidy g) (sym cut.by.yes) h.yes;
+        no = subst (λ (g : Grown). IsTidy g) (sym cut.by.no) h.no;
         parts = by_parts ArePartsTidy ArePartsTidy (λ x y k m r e u. parts_tidy x y k m r e)
-            (Unit {0}) cut.was.parts cut.is.parts cut.cut.parts was.looks.1 fail_bounds h.parts;
+            (Unit {0}) cut.was.parts cut.is.parts cut.by.parts was.looks.1 fail_bounds h.parts;
       }
 
   -- all stands where an until lets go

@@ -1,5 +1,5 @@
 -- What a row adds to the two sets of an atom.
-use Rattle.std.specs.Prelude.{◌≡◌, ◌<◌, ◌⊎◌, Bool, true, false, Option, Some, None, List, [], ◌++◌, MatchOption}
+use Rattle.std.specs.Prelude.{◌≡◌, ◌<◌, ◌⊎◌, Bool, true, false, Option, Some, None, [], MatchOption}
 use Rattle.rational.specs.Time.{Rational, ◌≤ʳ◌, ◌<ʳ◌}
 use Rattle.stl_syntax.specs.Trace.{Row, Trace, row_time, start, stop}
 use Rattle.stl_syntax.specs.Truth.{holds_at}
@@ -7,37 +7,26 @@ use Rattle.stl_syntax.specs.declared.atom.Atom.{Atom}
 use Rattle.atom_lines.specs.Binding.{HasRow, AreNeighbours}
 use Rattle.rational.specs.Places.{Place, After, Upto, AtMost}
 use Rattle.frac128.specs.Cuts.{place}
-use Rattle.growing_sets.specs.Spans.{Grows, IsOn}
+use Rattle.growing_sets.specs.Spans.{IsOn}
+use Rattle.growing_sets.specs.Growing.{Adds}
 use Rattle.early_verdict.specs.Fitting.{AreSetsTidy}
 use Rattle.early_verdict.specs.declared.atoms.Pending.{Pending}
 use Rattle.early_verdict.specs.declared.sets.Sets.{Sets}
-use Rattle.growing_sets.specs.declared.stretch.Stretch.{Stretch}
+use Rattle.growing_sets.specs.declared.grown.Grown.{Grown}
 
 -- the two sets grew by the times at which the atom has the truth true, and by those at which it has the truth false
 pub record HasAdded (old new : Sets) (Q : Bool → Rational → Type 0) : Type 0 where
   pub tidy : AreSetsTidy new
   pub parts : new.parts ≡ old.parts
-  pub yes_bounds : new.yes.bounds ≡ old.yes.bounds
-  pub no_bounds : new.no.bounds ≡ old.no.bounds
-  pub yes : Grows old.yes.bounds old.yes.spans.items new.yes.spans.items old.yes.fresh.items new.yes.fresh.items (Q true)
-  pub no : Grows old.no.bounds old.no.spans.items new.no.spans.items old.no.fresh.items new.no.fresh.items (Q false)
+  pub yes : Adds old.yes new.yes (Q true)
+  pub no : Adds old.no new.no (Q false)
 
--- a list got more, and what is new of it is noted
-pub record Enlarges (old new told fresh : List Stretch) : Type 0 where
-  pub more : List Stretch
-  pub noted : fresh ≡ told ++ more
-  pub keeps : (t : Rational) → IsOn old t → IsOn new t
-  pub gained : (t : Rational) → IsOn new t → IsOn old t ⊎ IsOn more t
-  pub own : (t : Rational) → IsOn more t → IsOn new t
-
--- both sets grew by some times
+-- both sets grew by whatever times they have now
 pub record HasGrown (old new : Sets) : Type 0 where
   pub tidy : AreSetsTidy new
   pub parts : new.parts ≡ old.parts
-  pub yes_bounds : new.yes.bounds ≡ old.yes.bounds
-  pub no_bounds : new.no.bounds ≡ old.no.bounds
-  pub yes : Enlarges old.yes.spans.items new.yes.spans.items old.yes.fresh.items new.yes.fresh.items
-  pub no : Enlarges old.no.spans.items new.no.spans.items old.no.fresh.items new.no.fresh.items
+  pub yes : Adds old.yes new.yes (IsOn new.yes.spans.items)
+  pub no : Adds old.no new.no (IsOn new.no.spans.items)
 
 -- between two places it has the truth b
 abbrev pub Piece : Bool → Place → Place → Bool → Rational → Type 0
@@ -49,9 +38,9 @@ Turns was holds at old new next = (next.holds ≡ holds)
     × (((was.holds ≡ holds) × (next.from ≡ was.from) × (new ≡ old)) ⊎ ((place next.from ≡ at) × HasAdded old new (Piece was.holds (place was.from) at)))
 
 -- once the times of the pending truth are added too, up to any place from `at` on, the sets have grown by Q and by its times from there on
-abbrev pub AddsOnce : Pending → Place → (Bool → Rational → Type 0) → Sets → Sets → Type 0
-AddsOnce pending at Q old new = (then : Sets) (to : Place) → AtMost at to → HasAdded new then (Piece pending.holds (place pending.from) to)
-    → HasAdded old then (λ v t. Q v t ⊎ Piece pending.holds at to v t)
+pub record AddsOnce (pending : Pending) (at : Place) (Q : Bool → Rational → Type 0) (old new : Sets) : Type 0 where
+  pub once : (then : Sets) (to : Place) → AtMost at to → HasAdded new then (Piece pending.holds (place pending.from) to)
+      → HasAdded old then (λ v t. Q v t ⊎ Piece pending.holds at to v t)
 
 -- it has the truth v at a time between the rows
 abbrev pub BetweenRows : Atom → Trace → Row → Row → Bool → Rational → Type 0
@@ -61,16 +50,18 @@ abbrev pub AfterRow : Atom → Trace → Option Row → Row → Bool → Rationa
 AfterRow a tr None r v t = ⊥
 AfterRow a tr (Some q) r v t = BetweenRows a tr q r v t
 
--- what was new is so no more, and else they are as they were
+-- what was new in a set is so no more, and else it is as it was
+pub record Rests (old new : Grown) : Type 0 where
+  pub bounds : new.bounds ≡ old.bounds
+  pub spans : new.spans.items ≡ old.spans.items
+  pub fresh : new.fresh.items ≡ []
+
+-- so it is with both sets
 pub record HasRested (old new : Sets) : Type 0 where
   pub tidy : AreSetsTidy new
   pub parts : new.parts ≡ old.parts
-  pub yes_bounds : new.yes.bounds ≡ old.yes.bounds
-  pub no_bounds : new.no.bounds ≡ old.no.bounds
-  pub yes : new.yes.spans.items ≡ old.yes.spans.items
-  pub no : new.no.spans.items ≡ old.no.spans.items
-  pub yes_fresh : new.yes.fresh.items ≡ []
-  pub no_fresh : new.no.fresh.items ≡ []
+  pub yes : Rests old.yes new.yes
+  pub no : Rests old.no new.no
 
 abbrev pub before_row : Row → Place
 before_row r = record { at = row_time r; after = false }

@@ -230,11 +230,10 @@ pub record HasStepped (old new : Sets) : Type 0 where
   pub gains_yes : Gains old.yes.spans.items new.yes.spans.items new.yes.fresh.items
   pub gains_no : Gains old.no.spans.items new.no.spans.items new.no.fresh.items
 
--- the lists that these sets had before what is fresh in them
-pub record HadLists (old : Lists) (s : Sets) : Type 0 where
-  pub yes : Gains old.yes s.yes.spans.items s.yes.fresh.items
-  pub no : Gains old.no s.no.spans.items s.no.fresh.items
+-- failures are looked for within the stretch
+abbrev pub FailWithin : Stretch → Parts → Type 0
+FailWithin own x = (x.failing.fail.bounds ≡ own) × (x.failing.stop.bounds ≡ own)
 
--- the failures of an until or a since are looked for as far as those of its left operand
+-- those of an until or a since are as far as those of its left operand
 abbrev pub HasFailBounds : Sets → Sets → Type 0
-HasFailBounds s left = MatchOption s.parts (Unit {0}) (λ x. (x.failing.fail.bounds ≡ left.no.bounds) × (x.failing.stop.bounds ≡ left.no.bounds))
+HasFailBounds s left = MatchOption s.parts (Unit {0}) (FailWithin left.no.bounds)

@@ -1,5 +1,5 @@
 -- What comes to the sets of all nodes: a row, or the end of the input.
-use Rattle.std.specs.Prelude.{◌≡◌, ◌^◌, true, false, Option, Some, None, MatchOption}
+use Rattle.std.specs.Prelude.{◌≡◌, ◌^◌, true, false, Option, Some, None, List, MatchOption}
 use Rattle.rational.specs.Rational.{IsWithin}
 use Rattle.rational.specs.Time.{Rational, ◌≤ʳ◌}
 use Rattle.frac128.specs.Value.{value}
@@ -7,8 +7,12 @@ use Rattle.stl_syntax.specs.Trace.{Trace, start}
 use Rattle.rational.specs.Places.{AtMost, Same}
 use Rattle.frac128.specs.Cuts.{place}
 use Rattle.growing_sets.specs.Spans.{IsOn, Lies}
-use Rattle.early_verdict.specs.Fitting.{Lists, nothing, HadLists, AreEmpty, start_place, sure_place}
+use Rattle.growing_sets.specs.Steps.{Gains}
+use Rattle.early_verdict.specs.Fitting.{Lists, AreEmpty, start_place, sure_place}
+use Rattle.early_verdict.specs.Looking.{WasList}
 use Rattle.early_verdict.specs.declared.entry.Entry.{Entry}
+use Rattle.growing_sets.specs.declared.stretch.Stretch.{Stretch}
+use Rattle.growing_sets.specs.declared.grown.Grown.{Grown}
 use Rattle.early_verdict.specs.declared.sets.Sets.{Sets}
 
 -- no time ceases to be sure, and the times are small
@@ -29,12 +33,14 @@ abbrev pub Was : Option Trace → (Trace → Sets → Type 0) → Sets → Type 
 Was None F s = AreEmpty s
 Was (Some o) F s = F o s
 
--- these are the lists of the sets before what is fresh in them; before any row there was nothing; and none
--- lies before the start
+-- the list of a set was this before what is fresh in it, and had no time before any row; and none of its times lies before the start
+pub record HadList (old : Option Trace) (tr : Trace) (was : List Stretch) (x : Grown) : Type 0 where
+  pub gains : Gains was x.spans.items x.fresh.items
+  pub first : WasList old was
+  pub within : (u : Rational) → IsOn x.spans.items u → Lies x.bounds u
+  pub from : (u : Rational) → Lies x.bounds u → start tr ≤ʳ u
+
+-- so were both lists of a node
 pub record Had (old : Option Trace) (tr : Trace) (l : Lists) (s : Sets) : Type 0 where
-  pub lists : HadLists l s
-  pub first : MatchOption old (l ≡ nothing) (λ o. Unit {0})
-  pub yes_within : (u : Rational) → IsOn s.yes.spans.items u → Lies s.yes.bounds u
-  pub no_within : (u : Rational) → IsOn s.no.spans.items u → Lies s.no.bounds u
-  pub yes_from : (u : Rational) → Lies s.yes.bounds u → start tr ≤ʳ u
-  pub no_from : (u : Rational) → Lies s.no.bounds u → start tr ≤ʳ u
+  pub yes : HadList old tr l.yes s.yes
+  pub no : HadList old tr l.no s.no

@@ -1,5 +1,5 @@
 -- What nodes show and go on from, once they let go of times.
-use Rattle.std.specs.Prelude.{◌≡◌, ◌≢◌, ◌⊎◌, ℕ, Bool, false, IsTrue, IsFalse, MatchBool, Option, Some, None, MatchOption, List, [], ◌∷◌, length, slice_get}
+use Rattle.std.specs.Prelude.{◌≡◌, ◌⊎◌, ℕ, Bool, false, IsTrue, IsFalse, MatchBool, Option, Some, None, MatchOption, List, [], ◌∷◌, length, slice_get}
 use Rattle.rational.specs.Time.{Rational, later, ◌≤ʳ◌, ◌<ʳ◌}
 use Rattle.stl_syntax.specs.declared.node.Node.{Node}
 use Rattle.stl_syntax.specs.declared.node.Node.TheVariants.{Until, Since}
@@ -9,6 +9,7 @@ use Rattle.frac128.specs.Cuts.{place}
 use Rattle.growing_sets.specs.Spans.{IsAmong, IsOn, Lies}
 use Rattle.growing_sets.specs.Steps.{HoldsFrom}
 use Rattle.growing_sets.specs.Showing.{IsCutAt, IsGrownInside}
+use Rattle.early_verdict.specs.Changing.{ChangesAt}
 use Rattle.early_verdict.specs.Fitting.{AreSetsTidy, IsTidy}
 use Rattle.early_verdict.specs.Living.{IsNarrowed, IsShown, LooksAt}
 use Rattle.growing_sets.specs.declared.stretch.Stretch.{Stretch}
@@ -34,32 +35,28 @@ pub record HasShed (shown old new : Sets) : Type 0 where
   pub told : (t : Rational) → Lies shown.no.bounds t → Lies old.no.bounds t
       → Lies bounds t ⊎ IsOn old.yes.spans.items t ⊎ IsOn old.no.spans.items t
 
--- so the node at a place
-pub record HasShedAt (i : ℕ) (shown old new : List Sets) : Type 0 where
-  pub was : Sets
-  pub is : Sets
+-- by what is shown at the place
+pub record ShedBy (shown : List Sets) (i : ℕ) (old new : Sets) : Type 0 where
   pub x : Sets
-  pub at_old : slice_get old i ≡ Some was
-  pub at_new : slice_get new i ≡ Some is
   pub at_shown : slice_get shown i ≡ Some x
-  pub others : (j : ℕ) → j ≢ i → slice_get new j ≡ slice_get old j
-  pub count : length new ≡ length old
-  pub shed : HasShed x was is
+  pub shed : HasShed x old new
 
--- the node at the place shows no times before that one any more
-pub record IsAskedFrom (p : ℕ) (from : Rational) (old new : List Sets) : Type 0 where
-  pub was : Sets
-  pub is : Sets
+-- so the node at a place
+abbrev pub HasShedAt : ℕ → List Sets → List Sets → List Sets → Type 0
+HasShedAt i shown old new = ChangesAt i old new (ShedBy shown i)
+
+-- a node shows no times before that one any more
+pub record AskedFrom (from : Rational) (old new : Sets) : Type 0 where
   pub bounds : Stretch
-  pub at_old : slice_get old p ≡ Some was
-  pub at_new : slice_get new p ≡ Some is
-  pub others : (j : ℕ) → j ≢ p → slice_get new j ≡ slice_get old j
-  pub count : length new ≡ length old
-  pub narrowed : IsNarrowed bounds was is
-  pub less : (t : Rational) → Lies bounds t → Lies was.no.bounds t
-  pub left : (t : Rational) → Lies was.no.bounds t → Lies bounds t ⊎ (t <ʳ from)
-  pub after : (t : Rational) → Lies was.no.bounds t → from ≤ʳ t → (u : Rational) → Lies bounds u → from ≤ʳ u
-  pub ends : AtMost (place was.no.bounds.to) (place bounds.to)
+  pub narrowed : IsNarrowed bounds old new
+  pub less : (t : Rational) → Lies bounds t → Lies old.no.bounds t
+  pub left : (t : Rational) → Lies old.no.bounds t → Lies bounds t ⊎ (t <ʳ from)
+  pub after : (t : Rational) → Lies old.no.bounds t → from ≤ʳ t → (u : Rational) → Lies bounds u → from ≤ʳ u
+  pub ends : AtMost (place old.no.bounds.to) (place bounds.to)
+
+-- so the node at a place
+abbrev pub IsAskedFrom : ℕ → Rational → List Sets → List Sets → Type 0
+IsAskedFrom p from old new = ChangesAt p old new (AskedFrom from)
 
 -- the lists of what nodes show have no time in common
 abbrev pub AreApart : List Sets → Type 0
@@ -82,16 +79,14 @@ IsFirstShown low at old other new new_other =
     ((new ≡ old) × (new_other ≡ other))
     ⊎ ((limit : Place) × (later limit.at low ≤ʳ at) × (limit.after ≡ false) × IsFirstLeft limit old new new_other)
 
+-- so with its true times or with its false ones
+pub record AskedFirst (holds : Bool) (low : ℕ) (at : Rational) (old new : Sets) : Type 0 where
+  pub parts : new.parts ≡ old.parts
+  pub shows : MatchBool holds (IsFirstShown low at old.yes old.no new.yes new.no) (IsFirstShown low at old.no old.yes new.no new.yes)
+
 -- so the node at a place
-pub record IsAskedFirst (p : ℕ) (holds : Bool) (low : ℕ) (at : Rational) (old new : List Sets) : Type 0 where
-  pub was : Sets
-  pub is : Sets
-  pub at_old : slice_get old p ≡ Some was
-  pub at_new : slice_get new p ≡ Some is
-  pub others : (j : ℕ) → j ≢ p → slice_get new j ≡ slice_get old j
-  pub count : length new ≡ length old
-  pub parts : is.parts ≡ was.parts
-  pub shows : MatchBool holds (IsFirstShown low at was.yes was.no is.yes is.no) (IsFirstShown low at was.no was.yes is.no is.yes)
+abbrev pub IsAskedFirst : ℕ → Bool → ℕ → Rational → List Sets → List Sets → Type 0
+IsAskedFirst p holds low at old new = ChangesAt p old new (AskedFirst holds low at)
 
 -- a set lets go of the times outside of narrower bounds
 pub record IsCutTo (bounds : Stretch) (old new : Grown) : Type 0 where
@@ -157,14 +152,8 @@ pub record IsEndlessCut (a : ℕ) (xs : List Stretch) (old new : Sets) : Type 0 
   pub no : new.no ≡ old.no
   pub parts : MatchOption old.parts (new.parts ≡ None) (λ x. MatchOption new.parts ⊥ (IsEndlessPart a xs x))
 
-pub record IsEndlessCutAt (i a : ℕ) (xs : List Stretch) (old new : List Sets) : Type 0 where
-  pub was : Sets
-  pub is : Sets
-  pub at_old : slice_get old i ≡ Some was
-  pub at_new : slice_get new i ≡ Some is
-  pub others : (j : ℕ) → j ≢ i → slice_get new j ≡ slice_get old j
-  pub count : length new ≡ length old
-  pub cut : IsEndlessCut a xs was is
+abbrev pub IsEndlessCutAt : ℕ → ℕ → List Stretch → List Sets → List Sets → Type 0
+IsEndlessCutAt i a xs old new = ChangesAt i old new (IsEndlessCut a xs)
 
 -- a since without a bound begins anew at that time: it lies behind the first that its operands show, and both are true then, or the left one false
 pub record IsDecisive (d : Rational) (own left right : Sets) : Type 0 where
@@ -190,14 +179,8 @@ abbrev pub ArePartsInside : Stretch → Sets → Type 0
 ArePartsInside wide s = MatchOption s.parts (Unit {0}) (λ x. IsHoldingInside x.holding × IsFailingInside wide x.failing)
 
 -- so the node at a place
-pub record IsRunCutAt (i : ℕ) (first from : Rational) (wide : Stretch) (old new : List Sets) : Type 0 where
-  pub was : Sets
-  pub is : Sets
-  pub at_old : slice_get old i ≡ Some was
-  pub at_new : slice_get new i ≡ Some is
-  pub others : (j : ℕ) → j ≢ i → slice_get new j ≡ slice_get old j
-  pub count : length new ≡ length old
-  pub cut : IsRunCut first from wide was is
+abbrev pub IsRunCutAt : ℕ → Rational → Rational → Stretch → List Sets → List Sets → Type 0
+IsRunCutAt i first from wide old new = ChangesAt i old new (IsRunCut first from wide)
 
 -- sets that show fewer times
 pub record IsLess (old new : Sets) : Type 0 where

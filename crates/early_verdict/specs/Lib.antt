@@ -1,5 +1,6 @@
 pub mod Readings
 pub mod Fitting
+pub mod Changing
 pub mod Happening
 pub mod Looking
 pub mod Standing

@@ -1,5 +1,5 @@
 -- The sets of a net: what each node goes on from, and what it shows the node above it; both only from the times on that are still needed.
-use Rattle.std.specs.Prelude.{◌≡◌, ◌⊎◌, ℕ, zero, suc, ◌-◌, ◌<◌, ◌≤◌, ◌≢◌, Bool, true, false, Option, Some, List, [], ◌∷◌, length, MatchOption, slice_get}
+use Rattle.std.specs.Prelude.{◌≡◌, ◌⊎◌, ℕ, zero, suc, ◌-◌, ◌<◌, ◌≤◌, Bool, true, false, Option, Some, List, [], ◌∷◌, length, MatchOption, slice_get}
 use Rattle.rational.specs.Time.{Rational, Within, later, ◌≤ʳ◌}
 use Rattle.stl_syntax.specs.Trace.{Row, Trace, start}
 use Rattle.stl_syntax.specs.Formula.{subformula}
@@ -10,6 +10,7 @@ use Rattle.growing_sets.specs.Spans.{IsOn, Lies}
 use Rattle.growing_sets.specs.Steps.{Gains}
 use Rattle.early_verdict.specs.Fitting.{Lists, lists_at, no_of, yes_of, AreSetsTidy}
 use Rattle.atom_lines.specs.Binding.{Binding}
+use Rattle.early_verdict.specs.Changing.{ChangesAt}
 use Rattle.early_verdict.specs.Happening.{Happens}
 use Rattle.early_verdict.specs.declared.entry.Entry.{Entry}
 use Rattle.early_verdict.specs.Standing.{AllFit, AllGo, AllTidy, AllWere, HasParts, SteppedTo}
@@ -125,17 +126,15 @@ pub record HasShown (old new s : Sets) : Type 0 where
   pub takes_yes : TakesIn old.yes.bounds old.yes.spans.items new.yes.spans.items s.yes.fresh.items
   pub takes_no : TakesIn old.no.bounds old.no.spans.items new.no.spans.items s.no.fresh.items
 
--- so the node at one place, and the others show what they did
-pub record ShowsAt (i : ℕ) (live old new : List Sets) : Type 0 where
+-- by what those at the place gained
+pub record ShowsBy (live : List Sets) (i : ℕ) (old new : Sets) : Type 0 where
   pub own : Sets
-  pub was : Sets
-  pub is : Sets
   pub at_live : slice_get live i ≡ Some own
-  pub at_old : slice_get old i ≡ Some was
-  pub at_new : slice_get new i ≡ Some is
-  pub others : (j : ℕ) → j ≢ i → slice_get new j ≡ slice_get old j
-  pub count : length new ≡ length old
-  pub shown : HasShown was is own
+  pub shown : HasShown old new own
+
+-- so the node at one place, and the others show what they did
+abbrev pub ShowsAt : ℕ → List Sets → List Sets → List Sets → Type 0
+ShowsAt i live old new = ChangesAt i old new (ShowsBy live i)
 
 -- so the nodes before a place
 pub record ShownTo (n : ℕ) (live old new : List Sets) : Type 0 where

@@ -1,5 +1,5 @@
 -- What the sets of all nodes keep from entry to entry.
-use Rattle.std.specs.Prelude.{◌≡◌, ◌↔◌, ◌⊎◌, ℕ, ◌+◌, ◌≤◌, ◌<◌, ◌≢◌, Bool, false, Option, Some, None}
+use Rattle.std.specs.Prelude.{◌≡◌, ◌↔◌, ◌⊎◌, ℕ, ◌+◌, ◌≤◌, ◌<◌, Bool, false, Option, Some, None}
 use Rattle.std.specs.Prelude.{List, length, MatchOption, MatchBool, IsSome, slice_get, slice_index_or}
 use Rattle.rational.specs.Time.{Rational, later, ◌≤ʳ◌}
 use Rattle.stl_syntax.specs.Trace.{Row, Trace, start}
@@ -9,6 +9,7 @@ use Rattle.growing_sets.specs.Spans.{Lies}
 use Rattle.early_verdict.specs.Fitting.{Fits, AreSetsTidy, AreEmpty, HasStepped, HasFailBounds, Lists, lists_at}
 use Rattle.atom_lines.specs.Binding.{Binding, IsFor, IsAtomNode}
 use Rattle.early_verdict.specs.Adding.{IsNextRow}
+use Rattle.early_verdict.specs.Changing.{ChangesAt}
 use Rattle.early_verdict.specs.Happening.{Was, Had, Happens}
 use Rattle.early_verdict.specs.declared.entry.Entry.{Entry}
 use Rattle.stl_syntax.specs.declared.atom.Atom.{Atom}
@@ -136,14 +137,8 @@ GoesBy n e below own new =
     → Was old (λ o. Fits n false o was) own → Fits n e.ended tr (lists_at below) new
 
 -- the sets at one place stepped, and those at the others are as they were
-pub record StepsAt (i : ℕ) (old new : List Sets) : Type 0 where
-  pub was : Sets
-  pub is : Sets
-  pub at_old : slice_get old i ≡ Some was
-  pub at_new : slice_get new i ≡ Some is
-  pub others : (j : ℕ) → j ≢ i → slice_get new j ≡ slice_get old j
-  pub count : length new ≡ length old
-  pub stepped : HasStepped was is
+abbrev pub StepsAt : ℕ → List Sets → List Sets → Type 0
+StepsAt i old new = ChangesAt i old new HasStepped
 
 -- those before a place stepped, and those from it on are as they were
 pub record SteppedTo (n : ℕ) (old new : List Sets) : Type 0 where

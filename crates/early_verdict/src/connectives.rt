@@ -3,7 +3,8 @@ ghost use Rattle.std.specs.Prelude.{◌≡◌, OnOk, Option};
 ghost use Rattle.stl_syntax.specs.Trace.{Trace};
 ghost use Rattle.early_verdict.specs.Fitting.{Lists, lists_of, AreSetsTidy, IsTidy, HasStepped, ConstantFits};
 ghost use Rattle.early_verdict.specs.Fitting.{NegationFits, ConjunctionFits, DisjunctionFits, ImplicationFits};
-ghost use Rattle.growing_sets.specs.Spans.{Grows, Lies};
+ghost use Rattle.growing_sets.specs.Growing.{Adds};
+ghost use Rattle.growing_sets.specs.Spans.{Lies};
 ghost use Rattle.early_verdict.specs.Happening.{Had, Happens, Was};
 
 use crate::entry::Entry;
@@ -14,9 +15,8 @@ use growing_sets::Grown;
 /// Adds all times within the bounds.
 fn fill(own: &mut Grown) -> Result<(), Memory>
     requires { IsTidy own.old }
-    ensures tidy { OnOk result (IsTidy own.new) }
     ensures bounds { own.new.bounds ≡ own.old.bounds }
-    ensures grows { OnOk result (Grows own.old.bounds own.old.spans.items own.new.spans.items own.old.fresh.items own.new.fresh.items (Lies own.old.bounds)) }
+    ensures adds { OnOk result (Adds own.old own.new (Lies own.old.bounds)) }
 {
     let bounds = own.bounds();
     own.add(bounds.from, bounds.to)

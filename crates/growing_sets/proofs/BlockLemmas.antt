@@ -3,9 +3,10 @@ use Rattle.std.proofs.Common.{◌≡◌, refl, sym, ap, subst, ◌∙◌, ℕ, z
 use Rattle.std.proofs.Common.{drop, append_assoc, arith}
 use Rattle.std.specs.Prelude.{slice_get, slice_set, slice_index_or, insert, remove}
 use Rattle.std.specs.Prelude.{◌^◌}
-use Rattle.std.proofs.lemmas.List.{append-nil, length-append, length-set}
+use Rattle.std.proofs.lemmas.List.{append-nil, length-append, length-set, set-append_left, take-append-le}
 use Rattle.std.proofs.lemmas.Option.{same_Some, slice_get_read, slice_get_within}
 use Rattle.rational.specs.Places.{Place}
+use Rattle.rational.proofs.Lists.{slice_get_there, slice_get-append_front}
 use Rattle.growing_sets.specs.Spans.{AreTidy, EndBefore, NoneEndsBefore}
 use Rattle.growing_sets.specs.Listed.{joined, IsSpot, IsCounted}
 use Rattle.growing_sets.specs.declared.stretch.Stretch.{Stretch}
@@ -115,17 +116,7 @@ passed_back (a ∷ b ∷ rest) zero p p' q q' s e d f g =
     ∙ ap (λ xs. a.ring.items ++ (xs ++ joined rest)) (sym d ∙ ap (λ (z : Block). z.ring.items) (sym (same_Some b q e)))
 passed_back (a ∷ rest) (suc k) p p' q q' s e d f g = ap (λ xs. a.ring.items ++ xs) (passed_back rest k p p' q q' s e d f g)
 
--- of two lists in one, what stands in the first stands there
-get_first : (xs ys : List Stretch) (o : ℕ) → o < length xs → slice_get (xs ++ ys) o ≡ slice_get xs o
-get_first [] ys o h = absurd (omega (arith, h))
-get_first (x ∷ xs) ys zero h = refl
-get_first (x ∷ xs) ys (suc o) h = get_first xs ys o (omega arith)
-
-set_first : (xs ys : List Stretch) (o : ℕ) (s : Stretch) → o < length xs → slice_set (xs ++ ys) o s ≡ slice_set xs o s ++ ys
-set_first [] ys o s h = absurd (omega (arith, h))
-set_first (x ∷ xs) ys zero s h = refl
-set_first (x ∷ xs) ys (suc o) s h = ap (λ r. x ∷ r) (set_first xs ys o s (omega arith))
-
+-- of two lists in one, what is put in at a place of the first is put in there
 insert_first : (xs ys : List Stretch) (o : ℕ) (s : Stretch) → o < length xs → insert (xs ++ ys) o s ≡ insert xs o s ++ ys
 insert_first [] ys o s h = absurd (omega (arith, h))
 insert_first (x ∷ xs) ys zero s h = refl
@@ -136,20 +127,15 @@ remove_first [] ys o h = absurd (omega (arith, h))
 remove_first (x ∷ xs) ys zero h = refl
 remove_first (x ∷ xs) ys (suc o) h = ap (λ r. x ∷ r) (remove_first xs ys o (omega arith))
 
-take_first : (xs ys : List Stretch) (o : ℕ) → o < length xs → take o (xs ++ ys) ≡ take o xs
-take_first [] ys o h = absurd (omega (arith, h))
-take_first (x ∷ xs) ys zero h = refl
-take_first (x ∷ xs) ys (suc o) h = ap (λ r. x ∷ r) (take_first xs ys o (omega arith))
-
 -- and of three what stands in the middle one
 get_in : (ls bs cs : List Stretch) (n o : ℕ) → n ≡ length ls + o → o < length bs → slice_get (ls ++ (bs ++ cs)) n ≡ slice_get bs o
-get_in [] bs cs n o e h = let i : n ≡ o = omega (arith, e) in ap (λ k. slice_get (bs ++ cs) k) i ∙ get_first bs cs o h
+get_in [] bs cs n o e h = let i : n ≡ o = omega (arith, e) in ap (λ k. slice_get (bs ++ cs) k) i ∙ slice_get-append_front bs cs o h
 get_in (l ∷ ls) bs cs zero o e h = absurd (omega (arith, e))
 get_in (l ∷ ls) bs cs (suc n) o e h = get_in ls bs cs n o (omega arith) h
 
 set_in : (ls bs cs : List Stretch) (n o : ℕ) (s : Stretch) → n ≡ length ls + o → o < length bs
     → slice_set (ls ++ (bs ++ cs)) n s ≡ ls ++ (slice_set bs o s ++ cs)
-set_in [] bs cs n o s e h = let i : n ≡ o = omega (arith, e) in ap (λ k. slice_set (bs ++ cs) k s) i ∙ set_first bs cs o s h
+set_in [] bs cs n o s e h = let i : n ≡ o = omega (arith, e) in ap (λ k. slice_set (bs ++ cs) k s) i ∙ set-append_left bs cs o s h
 set_in (l ∷ ls) bs cs zero o s e h = absurd (omega (arith, e))
 set_in (l ∷ ls) bs cs (suc n) o s e h = ap (λ r. l ∷ r) (set_in ls bs cs n o s (omega arith) h)
 
@@ -165,7 +151,7 @@ remove_in (l ∷ ls) bs cs zero o e h = absurd (omega (arith, e))
 remove_in (l ∷ ls) bs cs (suc n) o e h = ap (λ r. l ∷ r) (remove_in ls bs cs n o (omega arith) h)
 
 take_in : (ls bs cs : List Stretch) (n o : ℕ) → n ≡ length ls + o → o < length bs → take n (ls ++ (bs ++ cs)) ≡ ls ++ take o bs
-take_in [] bs cs n o e h = let i : n ≡ o = omega (arith, e) in ap (λ k. take k (bs ++ cs)) i ∙ take_first bs cs o h
+take_in [] bs cs n o e h = let i : n ≡ o = omega (arith, e) in ap (λ k. take k (bs ++ cs)) i ∙ take-append-le o bs cs (omega (arith, h))
 take_in (l ∷ ls) bs cs zero o e h = absurd (omega (arith, e))
 take_in (l ∷ ls) bs cs (suc n) o e h = ap (λ r. l ∷ r) (take_in ls bs cs n o (omega arith) h)
 
@@ -280,15 +266,9 @@ none_ends_behind c [] (suc n) h = tt
 none_ends_behind c (x ∷ xs) zero h = absurd (omega (arith, h))
 none_ends_behind c (x ∷ xs) (suc n) h = none_ends_behind c xs n (omega arith)
 
--- what stands at a place of a list
-pub one_at : (xs : List Stretch) (k : ℕ) → k < length xs → (n : Stretch) × (slice_get xs k ≡ Some n)
-one_at [] k h = absurd (omega (arith, h))
-one_at (x ∷ xs) zero h = (x, refl)
-one_at (x ∷ xs) (suc k) h = one_at xs k (omega arith)
-
 -- some stands at a place within a list
 pub some_at : (xs : List Stretch) (k : ℕ) → k < length xs → None ≡ slice_get xs k → ⊥
-some_at xs k h e = let n = one_at xs k h in no_stretch n.0 (e ∙ n.1)
+some_at xs k h e = let n = slice_get_there xs k h in no_stretch n.0 (e ∙ n.1)
 
 -- none stands behind a list
 pub none_at : (xs : List Stretch) (k : ℕ) → length xs ≤ k → None ≡ slice_get xs k
@@ -328,7 +308,7 @@ module _ (c : Place) (ps : List Block) (k : ℕ) (p : Block) (there : slice_get 
     pub rest_in : (n : ℕ) → n ≡ length (joined (take k ps)) + o → o < length p.ring.items → NoneEndsBefore c (drop o p.ring.items)
         → NoneEndsBefore c (drop n (joined ps))
     rest_in n e h rest =
-        let one = one_at p.ring.items o h in
+        let one = slice_get_there p.ring.items o h in
         let at : slice_get (joined ps) n ≡ Some one.0 = ap (λ xs. slice_get xs n) (joined_at ps k p there)
         ∙ get_in (joined (take k ps)) p.ring.items (joined (drop (suc k) ps)) n o e h ∙ one.1 in
         rest_more c (joined ps) n one.0 tidy at (reaches_at c p.ring.items o one.0 rest one.1)

@@ -4,7 +4,7 @@ use Rattle.std.specs.Prelude.{slice_set}
 use Rattle.rational.specs.Time.{Rational}
 use Rattle.rational.specs.Places.{Place, After, Upto, Before}
 use Rattle.frac128.specs.Cuts.{place}
-use Rattle.growing_sets.specs.Spans.{Lies, IsOn, BeginsAfter, AreTidy, EndBefore, Grows}
+use Rattle.growing_sets.specs.Spans.{Lies, IsOn, BeginsAfter, AreTidy, EndBefore, Grows, IsPutIn}
 use Rattle.growing_sets.specs.Ending.{IsLast}
 use Rattle.growing_sets.specs.declared.stretch.Stretch.{Stretch}
 use Rattle.rational.proofs.PlaceLemmas.{sides, not_both, upto_of_before, after_of_before, at_most_of_not_before, before_trans}
@@ -69,49 +69,48 @@ pub tidy_behind : (xs : List Stretch) (s : Stretch) → AreTidy xs → EndBefore
 tidy_behind [] s h e = (tt, tt)
 tidy_behind (x ∷ xs) s h e = (begins_with_last (place x.to) xs s h.0 e.0, tidy_behind xs s h.1 e.1)
 
--- and has grown by it
-pub grows_behind : (part : Stretch) (old new told fresh : List Stretch) → EndBefore (place part.from) old → new ≡ old ++ part ∷ [] → fresh ≡ told ++ part ∷ []
-    → Grows part old new told fresh (Lies part)
-grows_behind part old new told fresh ends is noted = subst (λ xs. Grows part old xs told fresh (Lies part)) (sym is) (record {
-  more = part ∷ [];
-  noted = noted;
-  keeps = λ t h. on_first old (part ∷ []) t h;
-  adds = λ t l p. on_second old (part ∷ []) t (inl l);
-  only = λ t h. elim (on_append old (part ∷ []) t h) [ inl o ↦ inl o | inr k ↦ elim k [ inl l ↦ inr (l, l) | inr n ↦ absurd n ] ];
-  gained = λ t h. on_append old (part ∷ []) t h;
-  news = λ t h. (
-    on_second old (part ∷ []) t h,
-    λ o. elim h [ inl l ↦ not_both (place part.from) t (front_upto (place part.from) old t ends o) l.0 | inr n ↦ n ],
-  );
+-- and it has the one put in
+pub put_behind : {part : Stretch} {old new told fresh : List Stretch} → AreTidy old → EndBefore (place part.from) old → new ≡ old ++ part ∷ []
+    → fresh ≡ told ++ part ∷ [] → IsPutIn part old new told fresh
+put_behind {part} {old} {told = told} {fresh = fresh} tidy ends is noted = subst (λ xs. IsPutIn part old xs told fresh) (sym is) (record {
+  tidy = tidy_behind old part tidy ends;
+  grows = record {
+    more = part ∷ [];
+    noted = noted;
+    keeps = λ t h. on_first old (part ∷ []) t h;
+    adds = λ t l p. on_second old (part ∷ []) t (inl l);
+    only = λ t h. elim (on_append old (part ∷ []) t h) [ inl o ↦ inl o | inr k ↦ elim k [ inl l ↦ inr (l, l) | inr n ↦ absurd n ] ];
+    gained = λ t h. on_append old (part ∷ []) t h;
+    news = λ t h. (
+      on_second old (part ∷ []) t h,
+      λ o. elim h [ inl l ↦ not_both (place part.from) t (front_upto (place part.from) old t ends o) l.0 | inr n ↦ n ],
+    );
+  };
 })
 
--- a list grows by no time of the part, where its last stretch holds all of them
-pub grows_none : (part last : Stretch) (old told : List Stretch) → IsLast last old → ¬ (Before (place part.from) (place last.from))
-    → ¬ (Before (place last.to) (place part.to)) → Grows part old old told told (Lies part)
-grows_none part last old told (front, e) begins ends = record {
-  more = [];
-  noted = no_more told;
-  keeps = λ t h. h;
-  adds = λ t l p. subst (λ xs. IsOn xs t) (sym e) (on_second front (last ∷ []) t (inl (
-    after_at_most (place last.from) (place part.from) t (at_most_of_not_before (place last.from) (place part.from) begins) l.0,
-    at_most_of_not_before (place part.to) (place last.to) ends t l.1,
-  )));
-  only = λ t h. inl h;
-  gained = λ t h. inl h;
-  news = λ t h. absurd h;
+-- a list whose last stretch holds all of a part has it in it
+pub put_within : {part last : Stretch} {old told : List Stretch} → AreTidy old → IsLast last old → ¬ (Before (place part.from) (place last.from))
+    → ¬ (Before (place last.to) (place part.to)) → IsPutIn part old old told told
+put_within {part} {last} {told = told} tidy (front, e) begins ends = record {
+  tidy = tidy;
+  grows = record {
+    more = [];
+    noted = no_more told;
+    keeps = λ t h. h;
+    adds = λ t l p. subst (λ xs. IsOn xs t) (sym e) (on_second front (last ∷ []) t (inl (
+      after_at_most (place last.from) (place part.from) t (at_most_of_not_before (place last.from) (place part.from) begins) l.0,
+      at_most_of_not_before (place part.to) (place last.to) ends t l.1,
+    )));
+    only = λ t h. inl h;
+    gained = λ t h. inl h;
+    news = λ t h. absurd h;
+  };
 }
 
 tidy_front : (xs : List Stretch) (s : Stretch) → AreTidy (xs ++ s ∷ []) → AreTidy xs
 tidy_front [] s h = tt
 tidy_front (x ∷ []) s h = (tt, tt)
 tidy_front (x ∷ y ∷ rest) s h = (h.0, tidy_front (y ∷ rest) s h.1)
-
--- the last stretch of a list is lengthened: the list still rises
-pub tidy_lengthened : (last longer : Stretch) (front old new : List Stretch) → old ≡ front ++ last ∷ [] → new ≡ front ++ longer ∷ [] → longer.from ≡ last.from
-    → AreTidy old → AreTidy new
-tidy_lengthened last longer front old new e f from tidy =
-    let h = subst AreTidy e tidy in
-    subst AreTidy (sym f) (tidy_behind front longer (tidy_front front last h) (subst (λ c. EndBefore (place c) front) (sym from) (front_ends front last h)))
 
 -- a stretch is lengthened up to the end of a part that reaches it: `gap` is what is new of it
 pub record IsLonger (part last gap longer : Stretch) : Type 0 where
@@ -189,13 +188,18 @@ module _ {part last gap longer : Stretch} (front : List Stretch) (tidy : AreTidy
         ]
       ]
 
--- so of a list and what it became
-pub grows_lengthened : {part last longer gap : Stretch} {old new told fresh : List Stretch} (front : List Stretch) → old ≡ front ++ last ∷ []
-    → new ≡ front ++ longer ∷ [] → fresh ≡ told ++ gap ∷ [] → AreTidy old → IsLonger part last gap longer → Grows part old new told fresh (Lies part)
-grows_lengthened {part} {last} {longer} {new = new} {told = told} {fresh = fresh} front e f noted tidy is =
-    subst (λ xs. Grows part xs new told fresh (Lies part)) (sym e)
-    (subst (λ xs. Grows part (front ++ last ∷ []) xs told fresh (Lies part)) (sym f)
-    (grows_longer front (subst AreTidy e tidy) is told fresh noted))
+-- so a list whose last stretch is lengthened has the part in it
+pub lengthened : {part last longer gap : Stretch} {old new told fresh : List Stretch} (front : List Stretch) → old ≡ front ++ last ∷ []
+    → new ≡ front ++ longer ∷ [] → fresh ≡ told ++ gap ∷ [] → AreTidy old → IsLonger part last gap longer → IsPutIn part old new told fresh
+lengthened {part} {last} {longer} {old = old} {new = new} {told = told} {fresh = fresh} front e f noted tidy is =
+    subst (λ xs. IsPutIn part xs new told fresh) (sym e) (subst (λ xs. IsPutIn part (front ++ last ∷ []) xs told fresh) (sym f) (record {
+      tidy = tidy_behind front longer (tidy_front front last rises_still)
+          (subst (λ c. EndBefore (place c) front) (sym is.from) (front_ends front last rises_still));
+      grows = grows_longer front rises_still is told fresh noted;
+    }))
+  where
+    rises_still : AreTidy (front ++ last ∷ [])
+    rises_still = subst AreTidy e tidy
 
 -- what a set grows by within a part of its bounds, it grows by within them
 pub grows_within : {bounds part : Stretch} {old new told fresh : List Stretch} {P : Rational → Type 0} → ((t : Rational) → Lies part t → Lies bounds t × P t)

@@ -2,7 +2,7 @@
 use Rattle.std.proofs.Common.{◌≡◌, ◌⊎◌, inl, inr, sym, subst, ℕ, ◌≤◌, List, [], ◌∷◌, ◌++◌, length, take, drop}
 use Rattle.rational.specs.Time.{Rational}
 use Rattle.frac128.specs.Cuts.{place}
-use Rattle.growing_sets.specs.Spans.{Lies, IsOn, AreTidy, BeginsAfter, EndBefore, Grows}
+use Rattle.growing_sets.specs.Spans.{Lies, IsOn, AreTidy, BeginsAfter, EndBefore, Grows, IsPutIn}
 use Rattle.growing_sets.specs.declared.stretch.Stretch.{Stretch}
 use Rattle.growing_sets.proofs.StretchesJoin.{Absorbs, no_more}
 use Rattle.rational.proofs.PlaceLemmas.{not_both}
@@ -47,24 +47,26 @@ absorbs_none at part old told fresh tidy within front rest noted = record {
   ];
 }
 
--- with the joined stretch in the room that was made for it the set has grown by the part
-pub grows_by : {bounds : Stretch} {at : ℕ} {part joined : Stretch} {old left new told fresh : List Stretch} {P : Rational → Type 0}
-    → ((t : Rational) → Lies part t → Lies bounds t × P t) → ((t : Rational) → Lies bounds t → P t → Lies part t)
-    → Absorbs at part joined old left told fresh → new ≡ with_one left at joined → Grows bounds old new told fresh P
-grows_by {at = at} {joined = joined} {left = left} {new = new} out into a is = record {
-  more = a.more;
-  noted = a.noted;
-  keeps = λ t h. there t (elim (a.left t h) [ inl k ↦ on_with_old left at joined t k | inr k ↦ on_with_new left at joined t k ]);
-  adds = λ t b p. there t (on_with_new left at joined t (a.covers t (into t b p)));
-  only = λ t h. elim (here t h) [
-    | inl k ↦ inl (a.kept t k)
-    | inr k ↦ elim (a.only t k) [ inl o ↦ inl o | inr p ↦ inr (out t p) ]
-  ];
-  gained = λ t h. elim (here t h) [
-    | inl k ↦ inl (a.kept t k)
-    | inr k ↦ elim (a.only t k) [ inl o ↦ inl o | inr p ↦ a.gained t p ]
-  ];
-  news = λ t h. (there t (on_with_new left at joined t (a.covers t (a.news t h).0)), (a.news t h).1);
+-- with the joined stretch in the room that was made for it the list has the part in it
+pub put_in_by : {at : ℕ} {part joined : Stretch} {old left new told fresh : List Stretch} → AreTidy left
+    → Absorbs at part joined old left told fresh → new ≡ with_one left at joined → IsPutIn part old new told fresh
+put_in_by {at = at} {joined = joined} {left = left} {new = new} tidy a is = record {
+  tidy = subst AreTidy (sym is) (tidy_with left at joined tidy a.front a.rest);
+  grows = record {
+    more = a.more;
+    noted = a.noted;
+    keeps = λ t h. there t (elim (a.left t h) [ inl k ↦ on_with_old left at joined t k | inr k ↦ on_with_new left at joined t k ]);
+    adds = λ t b p. there t (on_with_new left at joined t (a.covers t p));
+    only = λ t h. elim (here t h) [
+      | inl k ↦ inl (a.kept t k)
+      | inr k ↦ elim (a.only t k) [ inl o ↦ inl o | inr p ↦ inr (p, p) ]
+    ];
+    gained = λ t h. elim (here t h) [
+      | inl k ↦ inl (a.kept t k)
+      | inr k ↦ elim (a.only t k) [ inl o ↦ inl o | inr p ↦ a.gained t p ]
+    ];
+    news = λ t h. (there t (on_with_new left at joined t (a.covers t (a.news t h).0)), (a.news t h).1);
+  };
 }
   where
     there : (t : Rational) → IsOn (with_one left at joined) t → IsOn new t
@@ -72,9 +74,3 @@ grows_by {at = at} {joined = joined} {left = left} {new = new} out into a is = r
 
     here : (t : Rational) → IsOn new t → IsOn left t ⊎ Lies joined t
     here t h = on_with left at joined t (subst (λ xs. IsOn xs t) is h)
-
--- and rises as it did
-pub tidy_by : {at : ℕ} {part joined : Stretch} {old left new told fresh : List Stretch} → AreTidy left
-    → Absorbs at part joined old left told fresh → new ≡ with_one left at joined → AreTidy new
-tidy_by {at} {joined = joined} {left = left} tidy a is =
-    subst AreTidy (sym is) (tidy_with left at joined tidy a.front a.rest)

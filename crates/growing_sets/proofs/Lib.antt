@@ -10,7 +10,7 @@ pub mod LoopLemmas
 pub mod RunLemmas
 mod SetLaws
 pub mod HoldingLemmas
-mod StepLemmas
+pub mod AddLemmas
 mod SureLemmas
 pub mod ReachLemmas
 pub mod Gaps

@@ -26,47 +26,43 @@ by_some Q [] s t m q = absurd m
 by_some Q (x ∷ xs) s t (inl e) q = inl (subst (λ r. Q r t) e q)
 by_some Q (x ∷ xs) s t (inr m) q = inr (by_some Q xs s t m q)
 
-module _ {bounds : Stretch} {old mid new told some fresh : List Stretch} {x x' fx y y' fy : List Stretch} (gx : Gains x x' fx) (gy : Gains y y' fy) where
+module _ {bounds : Stretch} {old new told fresh : List Stretch} {x x' fx y y' fy : List Stretch} (gx : Gains x x' fx) (gy : Gains y y' fy) where
   -- either of two sets
-  pub either_tells : Tells bounds old (λ t. IsOn x t ⊎ IsOn y t) → Grows bounds old mid told some (BySome Lies fx)
-      → Grows bounds mid new some fresh (BySome Lies fy) → Tells bounds new (λ t. IsOn x' t ⊎ IsOn y' t)
-  either_tells h f g = record {
+  pub either_tells : Tells bounds old (λ t. IsOn x t ⊎ IsOn y t) → Grows bounds old new told fresh (λ t. BySome Lies fx t ⊎ BySome Lies fy t)
+      → Tells bounds new (λ t. IsOn x' t ⊎ IsOn y' t)
+  either_tells h g = record {
     has = λ t b e. elim e [
       | inl a ↦ elim (gx.gained t a) [
-        | inl k ↦ g.keeps t (f.keeps t (h.has t b (inl k)))
-        | inr k ↦ let o = one_of fx t k in g.keeps t (f.adds t b (by_some Lies fx o.0 t o.1 o.2))
+        | inl k ↦ g.keeps t (h.has t b (inl k))
+        | inr k ↦ let o = one_of fx t k in g.adds t b (inl (by_some Lies fx o.0 t o.1 o.2))
       ]
       | inr a ↦ elim (gy.gained t a) [
-        | inl k ↦ g.keeps t (f.keeps t (h.has t b (inr k)))
-        | inr k ↦ let o = one_of fy t k in g.adds t b (by_some Lies fy o.0 t o.1 o.2)
+        | inl k ↦ g.keeps t (h.has t b (inr k))
+        | inr k ↦ let o = one_of fy t k in g.adds t b (inr (by_some Lies fy o.0 t o.1 o.2))
       ]
     ];
     only = λ t n. elim (g.only t n) [
-      | inl m ↦ elim (f.only t m) [
-        | inl o ↦ let k = h.only t o in (k.0, elim k.1 [ inl a ↦ inl (gx.kept t a) | inr a ↦ inr (gy.kept t a) ])
-        | inr k ↦ let s = some_by Lies fx t k.1 in (k.0, inl (gx.own t (on_one fx s.0 t s.1 s.2)))
-      ]
-      | inr k ↦ let s = some_by Lies fy t k.1 in (k.0, inr (gy.own t (on_one fy s.0 t s.1 s.2)))
+      | inl o ↦ let k = h.only t o in (k.0, elim k.1 [ inl a ↦ inl (gx.kept t a) | inr a ↦ inr (gy.kept t a) ])
+      | inr (b, inl k) ↦ let s = some_by Lies fx t k in (b, inl (gx.own t (on_one fx s.0 t s.1 s.2)))
+      | inr (b, inr k) ↦ let s = some_by Lies fy t k in (b, inr (gy.own t (on_one fy s.0 t s.1 s.2)))
     ];
   }
 
   -- both of them
-  pub both_tells : Tells bounds old (λ t. IsOn x t × IsOn y t) → Grows bounds old mid told some (BySome (Common y') fx)
-      → Grows bounds mid new some fresh (BySome (Common x') fy) → Tells bounds new (λ t. IsOn x' t × IsOn y' t)
-  both_tells h f g = record {
+  pub both_tells : Tells bounds old (λ t. IsOn x t × IsOn y t) → Grows bounds old new told fresh (λ t. BySome (Common y') fx t ⊎ BySome (Common x') fy t)
+      → Tells bounds new (λ t. IsOn x' t × IsOn y' t)
+  both_tells h g = record {
     has = λ t b e. elim (gx.gained t e.0) [
       | inl k ↦ elim (gy.gained t e.1) [
-        | inl l ↦ g.keeps t (f.keeps t (h.has t b (k, l)))
-        | inr l ↦ let o = one_of fy t l in g.adds t b (by_some (Common x') fy o.0 t o.1 (o.2, e.0))
+        | inl l ↦ g.keeps t (h.has t b (k, l))
+        | inr l ↦ let o = one_of fy t l in g.adds t b (inr (by_some (Common x') fy o.0 t o.1 (o.2, e.0)))
       ]
-      | inr k ↦ let o = one_of fx t k in g.keeps t (f.adds t b (by_some (Common y') fx o.0 t o.1 (o.2, e.1)))
+      | inr k ↦ let o = one_of fx t k in g.adds t b (inl (by_some (Common y') fx o.0 t o.1 (o.2, e.1)))
     ];
     only = λ t n. elim (g.only t n) [
-      | inl m ↦ elim (f.only t m) [
-        | inl o ↦ let k = h.only t o in (k.0, (gx.kept t k.1.0, gy.kept t k.1.1))
-        | inr k ↦ let s = some_by (Common y') fx t k.1 in (k.0, (gx.own t (on_one fx s.0 t s.1 s.2.0), s.2.1))
-      ]
-      | inr k ↦ let s = some_by (Common x') fy t k.1 in (k.0, (s.2.1, gy.own t (on_one fy s.0 t s.1 s.2.0)))
+      | inl o ↦ let k = h.only t o in (k.0, (gx.kept t k.1.0, gy.kept t k.1.1))
+      | inr (b, inl k) ↦ let s = some_by (Common y') fx t k in (b, (gx.own t (on_one fx s.0 t s.1 s.2.0), s.2.1))
+      | inr (b, inr k) ↦ let s = some_by (Common x') fy t k in (b, (s.2.1, gy.own t (on_one fy s.0 t s.1 s.2.0)))
     ];
   }
 

@@ -1,9 +1,10 @@
 -- The first and the last that a list of stretches has within one.
-use Rattle.std.proofs.Common.{◌≡◌, ◌⊎◌, inl, inr, refl, sym, subst, ℕ, zero, suc, ◌<◌, List, [], ◌∷◌, Some, length, take, drop, arith}
+use Rattle.std.proofs.Common.{◌≡◌, ◌⊎◌, inl, inr, refl, sym, subst, ℕ, zero, suc, ◌<◌, List, [], ◌∷◌, Some, length, take, drop}
 use Rattle.std.specs.Prelude.{slice_get, ◌↔◌}
 use Rattle.std.proofs.lemmas.Option.{same_Some}
 use Rattle.rational.specs.Rational.{Rational, ◌≤ʳ◌}
 use Rattle.rational.proofs.Order.{le_refl}
+use Rattle.rational.proofs.Lists.{slice_get_there}
 use Rattle.rational.specs.Places.{Place, After, Upto, Before}
 use Rattle.frac128.specs.Cuts.{place}
 use Rattle.growing_sets.specs.Spans.{Lies, IsOn, AreTidy, BeginsAfter, EndBefore, NoneEndsBefore}
@@ -13,7 +14,6 @@ use Rattle.growing_sets.proofs.StretchLemmas.{rises}
 use Rattle.rational.proofs.PlaceLemmas.{sides, not_both, between, upto_of_before, after_of_before, at_most_of_not_before}
 use Rattle.rational.proofs.PlaceLemmas.{after_at_most, le_through, upto_earlier, after_later}
 use Rattle.growing_sets.proofs.SpanLemmas.{no_stretch, on_at, on_parts, front_of, front_upto, rest_after, reaches_at, from_one_on}
-use Rattle.growing_sets.proofs.LoopLemmas.{on_less}
 
 -- a time of those from a place on is one of the one there, or of those after it
 drop_case : (xs : List Stretch) (at : ℕ) (t : Rational) → IsOn (drop at xs) t
@@ -30,6 +30,14 @@ after_one_in [] at n t h e o = absurd (no_stretch n e)
 after_one_in (x ∷ xs) zero n t h e o = subst (λ s. After (place s.to) t) (same_Some x n e) (rest_after (place x.to) xs t h.1 h.0 o)
 after_one_in (x ∷ xs) (suc at) n t h e o = after_one_in xs at n t h.1 e o
 
+-- a time on some stretches is on the first, or on the last
+on_less : (xs : List Stretch) (i : ℕ) (s : Stretch) (t : Rational) → slice_get xs i ≡ Some s → IsOn (take (suc i) xs) t → IsOn (take i xs) t ⊎ Lies s t
+on_less [] i s t e h = absurd (no_stretch s e)
+on_less (x ∷ xs) zero s t e (inl h) = inr (subst (λ r. Lies r t) (same_Some x s e) h)
+on_less (x ∷ xs) zero s t e (inr h) = absurd h
+on_less (x ∷ xs) (suc i) s t e (inl h) = inl (inl h)
+on_less (x ∷ xs) (suc i) s t e (inr h) = elim (on_less xs i s t e h) [ inl k ↦ inl (inr k) | inr k ↦ inr k ]
+
 -- one of those that end before a place ends before it
 end_at : (c : Place) (xs : List Stretch) (k : ℕ) (n : Stretch) → EndBefore c (take (suc k) xs) → slice_get xs k ≡ Some n → Before (place n.to) c
 end_at c [] k n f e = absurd (no_stretch n e)
@@ -41,11 +49,6 @@ begins_one : (c : Place) (xs : List Stretch) (at : ℕ) (n : Stretch) → Begins
 begins_one c [] at n b e = absurd (no_stretch n e)
 begins_one c (x ∷ xs) zero n b e = subst (λ s. Before c (place s.from)) (same_Some x n e) b
 begins_one c (x ∷ xs) (suc at) n b e = begins_one c xs at n b e
-
-stretch_at : (xs : List Stretch) (k : ℕ) → k < length xs → (n : Stretch) × (slice_get xs k ≡ Some n)
-stretch_at [] k h = absurd (omega arith)
-stretch_at (x ∷ xs) zero h = (x, refl)
-stretch_at (x ∷ xs) (suc k) h = stretch_at xs k (omega arith)
 
 -- where none from a place on begins before the part ends, nothing there has a time of it
 pub nothing_after : (spans : List Stretch) (part : Stretch) (at : ℕ) → BeginsAfter (place part.to) (drop at spans)
@@ -154,15 +157,15 @@ module _ (spans : List Stretch) (tidy : AreTidy spans) (part : Stretch) where
       → NothingAt at → NothingAt k → (u : Rational) → Lies part u → ¬ (IsOn spans u)
   last_not at k next within front rest none nor u l o = elim (on_parts spans at u o) [
     | inr r ↦ none_from at rest none u l r
-    | inl f ↦ elim (on_less spans k (stretch_at spans k within).0 u (stretch_at spans k within).1 (subst (λ i. IsOn (take i spans) u) next f)) [
-      | inr i ↦ nor (stretch_at spans k within).0 (stretch_at spans k within).1 u i l
+    | inl f ↦ elim (on_less spans k (slice_get_there spans k within).0 u (slice_get_there spans k within).1 (subst (λ i. IsOn (take i spans) u) next f)) [
+      | inr i ↦ nor (slice_get_there spans k within).0 (slice_get_there spans k within).1 u i l
       | inl g ↦ before_it g
     ]
   ]
     where
       before_it : IsOn (take k spans) u → ⊥
       before_it g =
-          let n = stretch_at spans k within in
+          let n = slice_get_there spans k within in
           let m = between (place (n.0).from) (place (n.0).to) (rises n.0) in
           let le = le_through (place (n.0).from) u m.0 (front_upto (place (n.0).from) (take k spans) u (front_of spans k n.0 tidy n.1) g) m.1 in
           let ends = end_at (place part.to) spans k n.0 (subst (λ i. EndBefore (place part.to) (take i spans)) next front) n.1 in

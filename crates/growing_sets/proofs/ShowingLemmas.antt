@@ -5,23 +5,25 @@ use Rattle.std.proofs.lemmas.Option.{same_Some}
 use Rattle.rational.specs.Time.{Rational}
 use Rattle.rational.specs.Places.{Place, After, Upto, Before}
 use Rattle.frac128.specs.Cuts.{place}
-use Rattle.growing_sets.specs.Spans.{IsOn, Lies, AreTidy, Grows}
+use Rattle.growing_sets.specs.Spans.{IsOn, Lies, AreTidy}
+use Rattle.growing_sets.specs.Growing.{Adds}
 use Rattle.growing_sets.specs.Steps.{BySome}
 use Rattle.growing_sets.specs.Showing.{EndsAfter, TakesIn}
 use Rattle.growing_sets.specs.declared.stretch.Stretch.{Stretch}
+use Rattle.growing_sets.specs.declared.grown.Grown.{Grown}
 use Rattle.rational.proofs.PlaceLemmas.{after_of_before, at_most_of_not_before, before_trans, between, sides, le_through}
 use Rattle.rational.proofs.PlaceLemmas.{after_later}
 use Rattle.growing_sets.proofs.RunLemmas.{among_after, one_of, on_one}
 use Rattle.growing_sets.proofs.SetLaws.{by_some, some_by}
 use Rattle.growing_sets.proofs.StretchLemmas.{rises}
 
--- what was fresh in another list was added
-pub takes_of : (bounds : Stretch) (old new told fresh fx : List Stretch) → Grows bounds old new told fresh (BySome Lies fx) → TakesIn bounds old new fx
-takes_of bounds old new told fresh fx g = record {
-  has = λ t b o. let p = one_of fx t o in g.adds t b (by_some Lies fx p.0 t p.1 p.2);
-  only = λ t n. elim (g.only t n) [
+-- what was fresh in another list was taken in
+pub takes_of : {old new : Grown} {fx : List Stretch} → Adds old new (BySome Lies fx) → TakesIn old.bounds old.spans.items new.spans.items fx
+takes_of {fx = fx} a = record {
+  has = λ t b o. let p = one_of fx t o in a.grows.adds t b (by_some Lies fx p.0 t p.1 p.2);
+  only = λ t n. elim (a.grows.only t n) [
     | inl o ↦ inl o
-    | inr k ↦ let s = some_by Lies fx t k.1 in inr (k.0, on_one fx s.0 t s.1 s.2)
+    | inr (b, k) ↦ let s = some_by Lies fx t k in inr (b, on_one fx s.0 t s.1 s.2)
   ];
 }
 

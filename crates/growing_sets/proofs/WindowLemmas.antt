@@ -137,11 +137,6 @@ sees_part w part t room high low = by_low w.low (λ u h. h) room low
         let m = share (place part.from) (place part.to) (low_place k w.low_in t) far (rises part) r high l in
         (m.0, (m.1, m.2), record { begins = f m.0 m.3; ends = m.4 })
 
--- what is said of a good answer follows from what is known of it
-pub on_ok : {T E : Type 0} (r : Result T E) (P Q : Type 0) → (P → Q) → OnOk r P → OnOk r Q
-on_ok (Ok x) P Q f h = f h
-on_ok (Err e) P Q f h = tt
-
 -- what follows from a good answer follows where it came
 pub on_good : {T E : Type 0} (r : Result T E) {P Q : Type 0} → OnOk r P → (P → Q) → OnOk r Q
 on_good (Ok x) h f = f h

@@ -1,4 +1,5 @@
 pub mod Spans
+pub mod Growing
 pub mod Joining
 pub mod Ending
 pub mod Listed

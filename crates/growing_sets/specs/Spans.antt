@@ -48,3 +48,8 @@ pub record Grows (bounds : Stretch) (old new told fresh : List Stretch) (P : Rat
   pub only : (t : Rational) → IsOn new t → IsOn old t ⊎ (Lies bounds t × P t)
   pub gained : (t : Rational) → IsOn new t → IsOn old t ⊎ IsOn more t
   pub news : (t : Rational) → IsOn more t → IsOn new t × ¬ (IsOn old t)
+
+-- a part was put into a list, which rises still: the list grew by the part, and what is new of it was noted
+pub record IsPutIn (part : Stretch) (old new told fresh : List Stretch) : Type 0 where
+  pub tidy : AreTidy new
+  pub grows : Grows part old new told fresh (Lies part)

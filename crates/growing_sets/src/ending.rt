@@ -2,7 +2,7 @@
 ghost use Rattle.std.specs.Prelude.{◌≡◌, ◌++◌, ◌∷◌, [], List, OnOk};
 ghost use Rattle.rational.specs.Places.{Before};
 ghost use Rattle.frac128.specs.Cuts.{place};
-ghost use Rattle.growing_sets.specs.Spans.{AreTidy, EndBefore, Grows, Lies};
+ghost use Rattle.growing_sets.specs.Spans.{AreTidy, EndBefore, IsPutIn};
 ghost use Rattle.growing_sets.specs.Ending.{BelongsAt, IsLast};
 ghost use Rattle.growing_sets.specs.declared.stretch.Stretch.{Stretch as AStretch};
 
@@ -46,8 +46,7 @@ pub(crate) fn put_last(
 ) -> Result<(), Memory>
     requires tidy { AreTidy spans.old.items }
     requires behind { EndBefore (place part.now.from) spans.old.items }
-    ensures tidy { OnOk result (AreTidy spans.new.items) }
-    ensures ok { OnOk result (Grows part.now spans.old.items spans.new.items fresh.old.items fresh.new.items (Lies part.now)) }
+    ensures { OnOk result (IsPutIn part.now spans.old.items spans.new.items fresh.old.items fresh.new.items) }
 {
     let Ok(()) = spans.push_back(*part) else {
         return Err(Memory);
@@ -80,8 +79,7 @@ pub(crate) fn lengthen(
     requires last { IsLast last.now spans.old.items }
     requires begins { ¬ (Before (place part.now.from) (place last.now.from)) }
     requires reaches { ¬ (Before (place last.now.to) (place part.now.from)) }
-    ensures tidy { OnOk result (AreTidy spans.new.items) }
-    ensures ok { OnOk result (Grows part.now spans.old.items spans.new.items fresh.old.items fresh.new.items (Lies part.now)) }
+    ensures { OnOk result (IsPutIn part.now spans.old.items spans.new.items fresh.old.items fresh.new.items) }
 {
     if !last.to.precedes(&part.to) {
         return Ok(());

@@ -20,7 +20,8 @@ impl Grown {
     ghost use Rattle.rational.specs.Time.{Rational};
     ghost use Rattle.rational.specs.Places.{After, Upto};
     ghost use Rattle.frac128.specs.Cuts.{place};
-    ghost use Rattle.growing_sets.specs.Spans.{AreTidy, Grows, IsOn};
+    ghost use Rattle.growing_sets.specs.Spans.{AreTidy, IsOn};
+    ghost use Rattle.growing_sets.specs.Growing.{Adds};
 
     /// No times yet; it takes no memory.
     pub fn new(alloc: Global, bounds: Stretch) -> Grown
@@ -69,10 +70,8 @@ impl Grown {
     /// `Memory` where memory is wanting; the set is of no use then.
     pub fn add(&mut self, from: Cut, to: Cut) -> Result<(), Memory>
         requires { AreTidy self.old.spans.items }
-        ensures tidy { OnOk result (AreTidy self.new.spans.items) }
         ensures bounds { self.new.bounds ≡ self.old.bounds }
-        ensures ok { OnOk result (Grows self.old.bounds self.old.spans.items self.new.spans.items self.old.fresh.items self.new.fresh.items
-            (λ t. After (place from) t × Upto (place to) t)) }
+        ensures ok { OnOk result (Adds self.old self.new (λ t. After (place from) t × Upto (place to) t)) }
     {
         let Some(part) = Stretch::make(from, to, &self.bounds) else {
             return Ok(());

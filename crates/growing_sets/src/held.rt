@@ -1,7 +1,8 @@
 //! What the input of a window gained, added to the set of the times whose windows see it, or lie in it.
 ghost use Rattle.std.specs.Prelude.{◌≡◌, OnOk};
 ghost use Rattle.frac128.specs.Cuts.{place};
-ghost use Rattle.growing_sets.specs.Spans.{AreTidy, Grows};
+ghost use Rattle.growing_sets.specs.Spans.{AreTidy};
+ghost use Rattle.growing_sets.specs.Growing.{Adds};
 ghost use Rattle.growing_sets.specs.Windows.{SeesPart};
 ghost use Rattle.growing_sets.specs.Steps.{BySome, HeldAt};
 
@@ -16,10 +17,8 @@ use frac128::{Cut, Memory};
 /// Adds the times from which some time of one of the parts lies in the window.
 pub(crate) fn add_all_seeing(own: &mut Grown, parts: &[Stretch], w: &Window) -> Result<(), Memory>
     requires { AreTidy own.old.spans.items }
-    ensures tidy { OnOk result (AreTidy own.new.spans.items) }
     ensures bounds { own.new.bounds ≡ own.old.bounds }
-    ensures ok { OnOk result (Grows own.old.bounds own.old.spans.items own.new.spans.items own.old.fresh.items own.new.fresh.items
-        (BySome (SeesPart w.now) parts.now)) }
+    ensures ok { OnOk result (Adds own.old own.new (BySome (SeesPart w.now) parts.now)) }
 {
     for part in parts {
         add_seeing(own, part, w)?;
@@ -37,10 +36,8 @@ fn add_held_by(
 ) -> Result<(), Memory>
     requires own { AreTidy own.old.spans.items }
     requires spans { AreTidy spans.now.items }
-    ensures tidy { OnOk result (AreTidy own.new.spans.items) }
     ensures bounds { own.new.bounds ≡ own.old.bounds }
-    ensures ok { OnOk result (Grows own.old.bounds own.old.spans.items own.new.spans.items own.old.fresh.items own.new.fresh.items
-        (HeldAt w.now (place start.now) spans.now.items part.now)) }
+    ensures ok { OnOk result (Adds own.old own.new (HeldAt w.now (place start.now) spans.now.items part.now)) }
 {
     match holding(spans, &part.from) {
         None => Ok(()),
@@ -58,10 +55,8 @@ pub(crate) fn add_all_held(
 ) -> Result<(), Memory>
     requires own { AreTidy own.old.spans.items }
     requires spans { AreTidy spans.now.items }
-    ensures tidy { OnOk result (AreTidy own.new.spans.items) }
     ensures bounds { own.new.bounds ≡ own.old.bounds }
-    ensures ok { OnOk result (Grows own.old.bounds own.old.spans.items own.new.spans.items own.old.fresh.items own.new.fresh.items
-        (BySome (HeldAt w.now (place start.now) spans.now.items) parts.now)) }
+    ensures ok { OnOk result (Adds own.old own.new (BySome (HeldAt w.now (place start.now) spans.now.items) parts.now)) }
 {
     for part in parts {
         add_held_by(own, part, spans, start, w)?;

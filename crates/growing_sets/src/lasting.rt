@@ -3,7 +3,8 @@ ghost use Rattle.std.specs.Prelude.{◌≡◌, ◌^◌, OnOk};
 ghost use Rattle.rational.specs.Rational.{IsWithin};
 ghost use Rattle.frac128.specs.Value.{value};
 ghost use Rattle.frac128.specs.Cuts.{place};
-ghost use Rattle.growing_sets.specs.Spans.{AreTidy, Grows};
+ghost use Rattle.growing_sets.specs.Spans.{AreTidy};
+ghost use Rattle.growing_sets.specs.Growing.{Adds};
 ghost use Rattle.growing_sets.specs.Lasting.{BeginsFrom, IsRunTo, SeesNone};
 
 use crate::grown::Grown;
@@ -17,10 +18,8 @@ use frac128::{Cut, Memory};
 pub(crate) fn add_unseeing(own: &mut Grown, start: &Cut, w: &Window) -> Result<(), Memory>
     requires own { AreTidy own.old.spans.items }
     requires near { IsWithin (2 ^ 34) (value start.now.time) }
-    ensures tidy { OnOk result (AreTidy own.new.spans.items) }
     ensures bounds { own.new.bounds ≡ own.old.bounds }
-    ensures ok { OnOk result (Grows own.old.bounds own.old.spans.items own.new.spans.items own.old.fresh.items own.new.fresh.items
-        (SeesNone w.now (place start.now))) }
+    ensures ok { OnOk result (Adds own.old own.new (SeesNone w.now (place start.now))) }
 {
     let bounds = own.bounds();
     if w.is_never() {
@@ -38,10 +37,8 @@ pub(crate) fn add_beginning(
 ) -> Result<(), Memory>
     requires own { AreTidy own.old.spans.items }
     requires near { IsWithin (2 ^ 34) (value from.now.time) }
-    ensures tidy { OnOk result (AreTidy own.new.spans.items) }
     ensures bounds { own.new.bounds ≡ own.old.bounds }
-    ensures ok { OnOk result (Grows own.old.bounds own.old.spans.items own.new.spans.items own.old.fresh.items own.new.fresh.items
-        (BeginsFrom w.now (place start.now) (place from.now))) }
+    ensures ok { OnOk result (Adds own.old own.new (BeginsFrom w.now (place start.now) (place from.now))) }
 {
     let bounds = own.bounds();
     if !start.precedes(from) {

@@ -1,6 +1,7 @@
 //! What the inputs of a set gained, added to it at the same times.
-ghost use Rattle.std.specs.Prelude.{◌≡◌, ◌⊎◌, OnOk};
-ghost use Rattle.growing_sets.specs.Spans.{AreTidy, Grows, Lies};
+ghost use Rattle.std.specs.Prelude.{◌≡◌, OnOk};
+ghost use Rattle.growing_sets.specs.Spans.{AreTidy, Lies};
+ghost use Rattle.growing_sets.specs.Growing.{Adds};
 ghost use Rattle.growing_sets.specs.Steps.{BySome, Common};
 
 use crate::grown::Grown;
@@ -12,10 +13,8 @@ use frac128::Memory;
 /// Adds each of the stretches.
 pub(crate) fn add_all(own: &mut Grown, parts: &[Stretch]) -> Result<(), Memory>
     requires { AreTidy own.old.spans.items }
-    ensures tidy { OnOk result (AreTidy own.new.spans.items) }
     ensures bounds { own.new.bounds ≡ own.old.bounds }
-    ensures ok { OnOk result (Grows own.old.bounds own.old.spans.items own.new.spans.items own.old.fresh.items own.new.fresh.items
-        (BySome Lies parts.now)) }
+    ensures ok { OnOk result (Adds own.old own.new (BySome Lies parts.now)) }
 {
     for part in parts {
         own.add(part.from, part.to)?;
@@ -27,10 +26,8 @@ pub(crate) fn add_all(own: &mut Grown, parts: &[Stretch]) -> Result<(), Memory>
 pub(crate) fn add_common(own: &mut Grown, part: &Stretch, spans: &Stretches) -> Result<(), Memory>
     requires own { AreTidy own.old.spans.items }
     requires spans { AreTidy spans.now.items }
-    ensures tidy { OnOk result (AreTidy own.new.spans.items) }
     ensures bounds { own.new.bounds ≡ own.old.bounds }
-    ensures ok { OnOk result (Grows own.old.bounds own.old.spans.items own.new.spans.items own.old.fresh.items own.new.fresh.items
-        (Common spans.now.items part.now)) }
+    ensures ok { OnOk result (Adds own.old own.new (Common spans.now.items part.now)) }
 {
     let mut at = spans.reaching(&part.from);
     while let Some(next) = begins_by(spans, at, &part.to) {
@@ -48,10 +45,8 @@ pub(crate) fn add_all_common(
 ) -> Result<(), Memory>
     requires own { AreTidy own.old.spans.items }
     requires spans { AreTidy spans.now.items }
-    ensures tidy { OnOk result (AreTidy own.new.spans.items) }
     ensures bounds { own.new.bounds ≡ own.old.bounds }
-    ensures ok { OnOk result (Grows own.old.bounds own.old.spans.items own.new.spans.items own.old.fresh.items own.new.fresh.items
-        (BySome (Common spans.now.items) parts.now)) }
+    ensures ok { OnOk result (Adds own.old own.new (BySome (Common spans.now.items) parts.now)) }
 {
     for part in parts {
         add_common(own, part, spans)?;

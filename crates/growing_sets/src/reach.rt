@@ -1,7 +1,8 @@
 //! Runs that reach a time of another set, ahead or behind.
 ghost use Rattle.std.specs.Prelude.{◌≡◌, OnOk};
 ghost use Rattle.frac128.specs.Cuts.{place};
-ghost use Rattle.growing_sets.specs.Spans.{AreTidy, Grows};
+ghost use Rattle.growing_sets.specs.Spans.{AreTidy};
+ghost use Rattle.growing_sets.specs.Growing.{Adds};
 ghost use Rattle.growing_sets.specs.Steps.{BySome};
 ghost use Rattle.growing_sets.specs.Reaching.{IsCarried, ReachedAt, ReachesAt, ReachesBy, ReachesIn};
 
@@ -16,10 +17,8 @@ use frac128::{Cut, Memory};
 fn add_reaching(own: &mut Grown, run: &Stretch, spans: &Stretches, sure: &Cut) -> Result<(), Memory>
     requires own { AreTidy own.old.spans.items }
     requires spans { AreTidy spans.now.items }
-    ensures tidy { OnOk result (AreTidy own.new.spans.items) }
     ensures bounds { own.new.bounds ≡ own.old.bounds }
-    ensures ok { OnOk result (Grows own.old.bounds own.old.spans.items own.new.spans.items own.old.fresh.items own.new.fresh.items
-        (ReachesIn spans.now.items (place sure.now) run.now)) }
+    ensures ok { OnOk result (Adds own.old own.new (ReachesIn spans.now.items (place sure.now) run.now)) }
 {
     let Some(part) = Stretch::make(run.from, *sure, run) else {
         return Ok(());
@@ -41,10 +40,8 @@ fn add_reaching_at(
     requires own { AreTidy own.old.spans.items }
     requires runs { AreTidy runs.now.items }
     requires spans { AreTidy spans.now.items }
-    ensures tidy { OnOk result (AreTidy own.new.spans.items) }
     ensures bounds { own.new.bounds ≡ own.old.bounds }
-    ensures ok { OnOk result (Grows own.old.bounds own.old.spans.items own.new.spans.items own.old.fresh.items own.new.fresh.items
-        (ReachesAt runs.now.items spans.now.items (place sure.now) part.now)) }
+    ensures ok { OnOk result (Adds own.old own.new (ReachesAt runs.now.items spans.now.items (place sure.now) part.now)) }
 {
     match holding(runs, &part.from) {
         None => Ok(()),
@@ -63,10 +60,8 @@ pub(crate) fn add_all_reaching(
     requires own { AreTidy own.old.spans.items }
     requires runs { AreTidy runs.now.items }
     requires spans { AreTidy spans.now.items }
-    ensures tidy { OnOk result (AreTidy own.new.spans.items) }
     ensures bounds { own.new.bounds ≡ own.old.bounds }
-    ensures ok { OnOk result (Grows own.old.bounds own.old.spans.items own.new.spans.items own.old.fresh.items own.new.fresh.items
-        (BySome (ReachesAt runs.now.items spans.now.items (place sure.now)) parts.now)) }
+    ensures ok { OnOk result (Adds own.old own.new (BySome (ReachesAt runs.now.items spans.now.items (place sure.now)) parts.now)) }
 {
     for part in parts {
         add_reaching_at(own, part, runs, spans, sure)?;
@@ -86,9 +81,8 @@ fn add_reaching_by(
     requires own { AreTidy own.old.spans.items }
     requires runs { AreTidy runs.now.items }
     requires spans { AreTidy spans.now.items }
-    ensures tidy { OnOk result (AreTidy own.new.spans.items) }
     ensures bounds { own.new.bounds ≡ own.old.bounds }
-    ensures ok { OnOk result (Grows own.old.bounds own.old.spans.items own.new.spans.items own.old.fresh.items own.new.fresh.items
+    ensures ok { OnOk result (Adds own.old own.new
         (ReachesBy runs.now.items spans.now.items (place before.now) (place sure.now) part.now)) }
 {
     match Stretch::make(*before, *sure, part) {
@@ -108,9 +102,8 @@ pub(crate) fn add_reaching_between(
     requires own { AreTidy own.old.spans.items }
     requires runs { AreTidy runs.now.items }
     requires spans { AreTidy spans.now.items }
-    ensures tidy { OnOk result (AreTidy own.new.spans.items) }
     ensures bounds { own.new.bounds ≡ own.old.bounds }
-    ensures ok { OnOk result (Grows own.old.bounds own.old.spans.items own.new.spans.items own.old.fresh.items own.new.fresh.items
+    ensures ok { OnOk result (Adds own.old own.new
         (BySome (ReachesBy runs.now.items spans.now.items (place before.now) (place sure.now)) spans.now.items)) }
 {
     let mut at = spans.reaching(before);
@@ -131,10 +124,8 @@ fn add_reached_at(
     requires own { AreTidy own.old.spans.items }
     requires runs { AreTidy runs.now.items }
     requires spans { AreTidy spans.now.items }
-    ensures tidy { OnOk result (AreTidy own.new.spans.items) }
     ensures bounds { own.new.bounds ≡ own.old.bounds }
-    ensures ok { OnOk result (Grows own.old.bounds own.old.spans.items own.new.spans.items own.old.fresh.items own.new.fresh.items
-        (ReachedAt runs.now.items spans.now.items part.now)) }
+    ensures ok { OnOk result (Adds own.old own.new (ReachedAt runs.now.items spans.now.items part.now)) }
 {
     let Some(run) = holding(runs, &part.from) else {
         return Ok(());
@@ -155,10 +146,8 @@ pub(crate) fn add_all_reached(
     requires own { AreTidy own.old.spans.items }
     requires runs { AreTidy runs.now.items }
     requires spans { AreTidy spans.now.items }
-    ensures tidy { OnOk result (AreTidy own.new.spans.items) }
     ensures bounds { own.new.bounds ≡ own.old.bounds }
-    ensures ok { OnOk result (Grows own.old.bounds own.old.spans.items own.new.spans.items own.old.fresh.items own.new.fresh.items
-        (BySome (ReachedAt runs.now.items spans.now.items) parts.now)) }
+    ensures ok { OnOk result (Adds own.old own.new (BySome (ReachedAt runs.now.items spans.now.items) parts.now)) }
 {
     for part in parts {
         add_reached_at(own, part, runs, spans)?;
@@ -170,10 +159,8 @@ pub(crate) fn add_all_reached(
 pub(crate) fn add_carried(own: &mut Grown, runs: &Stretches, carried: bool) -> Result<(), Memory>
     requires own { AreTidy own.old.spans.items }
     requires runs { AreTidy runs.now.items }
-    ensures tidy { OnOk result (AreTidy own.new.spans.items) }
     ensures bounds { own.new.bounds ≡ own.old.bounds }
-    ensures ok { OnOk result (Grows own.old.bounds own.old.spans.items own.new.spans.items own.old.fresh.items own.new.fresh.items
-        (IsCarried carried (place own.old.bounds.from) runs.now.items)) }
+    ensures ok { OnOk result (Adds own.old own.new (IsCarried carried (place own.old.bounds.from) runs.now.items)) }
 {
     if !carried {
         return Ok(());

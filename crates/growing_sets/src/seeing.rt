@@ -1,7 +1,8 @@
 //! The times that see a stretch in their window, and those whose window a stretch holds.
 ghost use Rattle.std.specs.Prelude.{◌≡◌, OnOk};
 ghost use Rattle.frac128.specs.Cuts.{place};
-ghost use Rattle.growing_sets.specs.Spans.{AreTidy, Grows};
+ghost use Rattle.growing_sets.specs.Spans.{AreTidy};
+ghost use Rattle.growing_sets.specs.Growing.{Adds};
 ghost use Rattle.growing_sets.specs.Windows.{IsHeld, SeesPart};
 
 use crate::grown::Grown;
@@ -12,10 +13,8 @@ use frac128::{Cut, Memory};
 /// Adds the times from which some time of the part lies in the window.
 pub(crate) fn add_seeing(own: &mut Grown, part: &Stretch, w: &Window) -> Result<(), Memory>
     requires { AreTidy own.old.spans.items }
-    ensures tidy { OnOk result (AreTidy own.new.spans.items) }
     ensures bounds { own.new.bounds ≡ own.old.bounds }
-    ensures ok { OnOk result (Grows own.old.bounds own.old.spans.items own.new.spans.items own.old.fresh.items own.new.fresh.items
-        (SeesPart w.now part.now)) }
+    ensures ok { OnOk result (Adds own.old own.new (SeesPart w.now part.now)) }
 {
     if w.is_never() {
         return Ok(());
@@ -38,10 +37,8 @@ pub(crate) fn add_held(
     w: &Window,
 ) -> Result<(), Memory>
     requires { AreTidy own.old.spans.items }
-    ensures tidy { OnOk result (AreTidy own.new.spans.items) }
     ensures bounds { own.new.bounds ≡ own.old.bounds }
-    ensures ok { OnOk result (Grows own.old.bounds own.old.spans.items own.new.spans.items own.old.fresh.items own.new.fresh.items
-        (IsHeld w.now (place start.now) span.now)) }
+    ensures ok { OnOk result (Adds own.old own.new (IsHeld w.now (place start.now) span.now)) }
 {
     let to = w.past_high(&span.to);
     if !start.precedes(&span.from) {

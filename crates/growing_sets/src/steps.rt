@@ -35,7 +35,7 @@ impl Grown {
         ensures gains { OnOk result (Gains self.old.spans.items self.new.spans.items self.new.fresh.items) }
         ensures tells { OnOk result ((x' y' : List Stretch) → Gains x' x.now.spans.items x.now.fresh.items → Gains y' y.now.spans.items y.now.fresh.items
             → Tells self.old.bounds self.old.spans.items (λ t. IsOn x' t ⊎ IsOn y' t)
-            → Tells self.old.bounds self.new.spans.items (λ t. IsOn x.now.spans.items t ⊎ IsOn y.now.spans.items t)) }
+            → Tells self.new.bounds self.new.spans.items (λ t. IsOn x.now.spans.items t ⊎ IsOn y.now.spans.items t)) }
     {
         self.fresh.clear();
         add_all(self, &x.fresh)?;
@@ -56,7 +56,7 @@ impl Grown {
         ensures gains { OnOk result (Gains self.old.spans.items self.new.spans.items self.new.fresh.items) }
         ensures tells { OnOk result ((x' y' : List Stretch) → Gains x' x.now.spans.items x.now.fresh.items → Gains y' y.now.spans.items y.now.fresh.items
             → Tells self.old.bounds self.old.spans.items (λ t. IsOn x' t × IsOn y' t)
-            → Tells self.old.bounds self.new.spans.items (λ t. IsOn x.now.spans.items t × IsOn y.now.spans.items t)) }
+            → Tells self.new.bounds self.new.spans.items (λ t. IsOn x.now.spans.items t × IsOn y.now.spans.items t)) }
     {
         self.fresh.clear();
         add_all_common(self, &x.fresh, &y.spans)?;
@@ -74,7 +74,7 @@ impl Grown {
         ensures bounds { self.new.bounds ≡ self.old.bounds }
         ensures gains { OnOk result (Gains self.old.spans.items self.new.spans.items self.new.fresh.items) }
         ensures tells { OnOk result ((x' : List Stretch) → Gains x' x.now.spans.items x.now.fresh.items
-            → Tells self.old.bounds self.old.spans.items (SeesOne w.now x') → Tells self.old.bounds self.new.spans.items (SeesOne w.now x.now.spans.items)) }
+            → Tells self.old.bounds self.old.spans.items (SeesOne w.now x') → Tells self.new.bounds self.new.spans.items (SeesOne w.now x.now.spans.items)) }
     {
         self.fresh.clear();
         add_all_seeing(self, &x.fresh, w)
@@ -94,7 +94,7 @@ impl Grown {
         ensures gains { OnOk result (Gains self.old.spans.items self.new.spans.items self.new.fresh.items) }
         ensures tells { OnOk result ((x' : List Stretch) → Gains x' x.now.spans.items x.now.fresh.items
             → Tells self.old.bounds self.old.spans.items (SeesOnly w.now (place start.now) x')
-            → Tells self.old.bounds self.new.spans.items (SeesOnly w.now (place start.now) x.now.spans.items)) }
+            → Tells self.new.bounds self.new.spans.items (SeesOnly w.now (place start.now) x.now.spans.items)) }
     {
         self.fresh.clear();
         add_all_held(self, &x.fresh, &x.spans, start, w)
@@ -111,7 +111,7 @@ impl Grown {
         ensures bounds { self.new.bounds ≡ self.old.bounds }
         ensures gains { OnOk result (Gains self.old.spans.items self.new.spans.items self.new.fresh.items) }
         ensures tells { OnOk result ((x' : List Stretch) → Gains x' x.now.spans.items x.now.fresh.items
-            → Tells self.old.bounds self.old.spans.items (IsOn x') → Tells self.old.bounds self.new.spans.items (IsOn x.now.spans.items)) }
+            → Tells self.old.bounds self.old.spans.items (IsOn x') → Tells self.new.bounds self.new.spans.items (IsOn x.now.spans.items)) }
     {
         self.fresh.clear();
         add_all(self, &x.fresh)
@@ -138,7 +138,7 @@ impl Grown {
         ensures gains { OnOk result (Gains self.old.spans.items self.new.spans.items self.new.fresh.items) }
         ensures tells { OnOk result ((x' : List Stretch) → Gains x' x.now.spans.items x.now.fresh.items
             → Tells self.old.bounds self.old.spans.items (SeesSure w.now (place before.now) x')
-            → Tells self.old.bounds self.new.spans.items (SeesSure w.now (place sure.now) x.now.spans.items)) }
+            → Tells self.new.bounds self.new.spans.items (SeesSure w.now (place sure.now) x.now.spans.items)) }
     {
         self.fresh.clear();
         add_all_sure(self, &x.fresh, before, w)?;
@@ -160,7 +160,7 @@ impl Grown {
         ensures bounds { self.new.bounds ≡ self.old.bounds }
         ensures gains { OnOk result (Gains self.old.spans.items self.new.spans.items self.new.fresh.items) }
         ensures tells { OnOk result (Gains [] x.now.spans.items x.now.fresh.items
-            → Tells self.old.bounds self.new.spans.items (SeesOnly w.now (place start.now) x.now.spans.items)) }
+            → Tells self.new.bounds self.new.spans.items (SeesOnly w.now (place start.now) x.now.spans.items)) }
     {
         self.fresh.clear();
         add_unseeing(self, start, w)?;
@@ -188,7 +188,7 @@ impl Grown {
         ensures gains { OnOk result (Gains self.old.spans.items self.new.spans.items self.new.fresh.items) }
         ensures tells { OnOk result ((x' : List Stretch) → Gains x' x.now.spans.items x.now.fresh.items
             → Tells self.old.bounds self.old.spans.items (SeesOnly w.now (place start.now) x')
-            → Tells self.old.bounds self.new.spans.items (SeesOnlyBy w.now (place start.now) (place last.now) x.now.spans.items)) }
+            → Tells self.new.bounds self.new.spans.items (SeesOnlyBy w.now (place start.now) (place last.now) x.now.spans.items)) }
     {
         self.fresh.clear();
         add_all_held(self, &x.fresh, &x.spans, start, w)?;
@@ -219,7 +219,7 @@ impl Grown {
             → Gains x' x.now.spans.items x.now.fresh.items
             → ((t : Rational) → IsOn x.now.spans.items t → IsOn runs.now.spans.items t)
             → Tells self.old.bounds self.old.spans.items (GoesOn z' x' (place before.now))
-            → Tells self.old.bounds self.new.spans.items (GoesOn runs.now.spans.items x.now.spans.items (place sure.now))) }
+            → Tells self.new.bounds self.new.spans.items (GoesOn runs.now.spans.items x.now.spans.items (place sure.now))) }
     {
         self.fresh.clear();
         add_all_reaching(self, &x.fresh, &runs.spans, &x.spans, sure)?;
@@ -244,7 +244,7 @@ impl Grown {
             → Gains x' x.now.spans.items x.now.fresh.items
             → ((t : Rational) → IsOn x.now.spans.items t → IsOn runs.now.spans.items t)
             → ((t : Rational) → IsOn x.now.spans.items t → Lies x.now.bounds t) → Tells self.old.bounds self.old.spans.items (GoesTo z' x')
-            → Tells self.old.bounds self.new.spans.items (GoesTo runs.now.spans.items x.now.spans.items)) }
+            → Tells self.new.bounds self.new.spans.items (GoesTo runs.now.spans.items x.now.spans.items)) }
     {
         self.fresh.clear();
         add_all_reaching(self, &x.fresh, &runs.spans, &x.spans, &x.bounds.to)?;
@@ -268,7 +268,7 @@ impl Grown {
             → Gains x' x.now.spans.items x.now.fresh.items
             → ((t : Rational) → IsOn x.now.spans.items t → IsOn runs.now.spans.items t)
             → Tells self.old.bounds self.old.spans.items (GoesBackBy carried (place self.old.bounds.from) z' x')
-            → Tells self.old.bounds self.new.spans.items (GoesBackBy carried (place self.old.bounds.from) runs.now.spans.items x.now.spans.items)) }
+            → Tells self.new.bounds self.new.spans.items (GoesBackBy carried (place self.new.bounds.from) runs.now.spans.items x.now.spans.items)) }
     {
         self.fresh.clear();
         add_all_reached(self, &x.fresh, &runs.spans, &x.spans)?;

@@ -1,7 +1,8 @@
 //! What became sure of the input of a window, added to the set of the times whose windows see it.
 ghost use Rattle.std.specs.Prelude.{◌≡◌, OnOk};
 ghost use Rattle.frac128.specs.Cuts.{place};
-ghost use Rattle.growing_sets.specs.Spans.{AreTidy, Grows};
+ghost use Rattle.growing_sets.specs.Spans.{AreTidy};
+ghost use Rattle.growing_sets.specs.Growing.{Adds};
 ghost use Rattle.growing_sets.specs.Steps.{BySome};
 ghost use Rattle.growing_sets.specs.Sure.{SeesItself, SeesUpto, SeesWithin};
 
@@ -23,10 +24,8 @@ fn add_seeing_within(
     w: &Window,
 ) -> Result<(), Memory>
     requires { AreTidy own.old.spans.items }
-    ensures tidy { OnOk result (AreTidy own.new.spans.items) }
     ensures bounds { own.new.bounds ≡ own.old.bounds }
-    ensures ok { OnOk result (Grows own.old.bounds own.old.spans.items own.new.spans.items own.old.fresh.items own.new.fresh.items
-        (SeesWithin w.now (place from.now) (place to.now) part.now)) }
+    ensures ok { OnOk result (Adds own.old own.new (SeesWithin w.now (place from.now) (place to.now) part.now)) }
 {
     match Stretch::make(*from, *to, part) {
         None => Ok(()),
@@ -42,10 +41,8 @@ pub(crate) fn add_all_sure(
     w: &Window,
 ) -> Result<(), Memory>
     requires { AreTidy own.old.spans.items }
-    ensures tidy { OnOk result (AreTidy own.new.spans.items) }
     ensures bounds { own.new.bounds ≡ own.old.bounds }
-    ensures ok { OnOk result (Grows own.old.bounds own.old.spans.items own.new.spans.items own.old.fresh.items own.new.fresh.items
-        (BySome (SeesUpto w.now (place sure.now)) parts.now)) }
+    ensures ok { OnOk result (Adds own.old own.new (BySome (SeesUpto w.now (place sure.now)) parts.now)) }
 {
     for part in parts {
         add_seeing_within(own, part, &part.from, sure, w)?;
@@ -63,10 +60,8 @@ pub(crate) fn add_seeing_between(
 ) -> Result<(), Memory>
     requires own { AreTidy own.old.spans.items }
     requires spans { AreTidy spans.now.items }
-    ensures tidy { OnOk result (AreTidy own.new.spans.items) }
     ensures bounds { own.new.bounds ≡ own.old.bounds }
-    ensures ok { OnOk result (Grows own.old.bounds own.old.spans.items own.new.spans.items own.old.fresh.items own.new.fresh.items
-        (BySome (SeesWithin w.now (place from.now) (place to.now)) spans.now.items)) }
+    ensures ok { OnOk result (Adds own.old own.new (BySome (SeesWithin w.now (place from.now) (place to.now)) spans.now.items)) }
 {
     let mut at = spans.reaching(from);
     while let Some(next) = begins_by(spans, at, to) {
@@ -79,10 +74,8 @@ pub(crate) fn add_seeing_between(
 /// Adds the times of the parts that lie in their own windows.
 pub(crate) fn add_themselves(own: &mut Grown, parts: &[Stretch], w: &Window) -> Result<(), Memory>
     requires { AreTidy own.old.spans.items }
-    ensures tidy { OnOk result (AreTidy own.new.spans.items) }
     ensures bounds { own.new.bounds ≡ own.old.bounds }
-    ensures ok { OnOk result (Grows own.old.bounds own.old.spans.items own.new.spans.items own.old.fresh.items own.new.fresh.items
-        (SeesItself w.now parts.now)) }
+    ensures ok { OnOk result (Adds own.old own.new (SeesItself w.now parts.now)) }
 {
     if !w.sees_itself() {
         return Ok(());

@@ -2,7 +2,7 @@
 ghost use Rattle.std.specs.Prelude.{◌≡◌, ◌≤◌, ◌<◌, ◌^◌, length, take, drop, slice_get, Some, OnOk, IfSome, IfNone};
 ghost use Rattle.rational.specs.Places.{Before};
 ghost use Rattle.frac128.specs.Cuts.{place};
-ghost use Rattle.growing_sets.specs.Spans.{AreTidy, BeginsAfter, EndBefore, Grows, IsAmong, Lies, NoneEndsBefore};
+ghost use Rattle.growing_sets.specs.Spans.{AreTidy, BeginsAfter, EndBefore, IsAmong, IsPutIn, NoneEndsBefore};
 ghost use Rattle.growing_sets.specs.Steps.{HoldsFrom};
 ghost use Rattle.growing_sets.specs.declared.stretch.Stretch.{Stretch};
 ghost use Rattle.growing_sets.specs.Joining.{Notes};
@@ -69,8 +69,7 @@ fn join(
     requires rest { NoneEndsBefore (place part.now.from) (drop at spans.old.items) }
     requires first { slice_get spans.old.items at ≡ Some first.now }
     requires touches { ¬ (Before (place part.now.to) (place first.now.from)) }
-    ensures tidy { OnOk result (AreTidy spans.new.items) }
-    ensures ok { OnOk result (Grows part.now spans.old.items spans.new.items fresh.old.items fresh.new.items (Lies part.now)) }
+    ensures { OnOk result (IsPutIn part.now spans.old.items spans.new.items fresh.old.items fresh.new.items) }
 {
     note(fresh, &part.from, &first.from, part)?;
     let mut joined = part.hull(first);
@@ -97,8 +96,7 @@ fn put_at(
     requires within { at ≤ length spans.old.items }
     requires front { EndBefore (place part.now.from) (take at spans.old.items) }
     requires rest { BeginsAfter (place part.now.to) (drop at spans.old.items) }
-    ensures tidy { OnOk result (AreTidy spans.new.items) }
-    ensures ok { OnOk result (Grows part.now spans.old.items spans.new.items fresh.old.items fresh.new.items (Lies part.now)) }
+    ensures { OnOk result (IsPutIn part.now spans.old.items spans.new.items fresh.old.items fresh.new.items) }
 {
     let Ok(()) = spans.insert(at, *part) else {
         return Err(Memory);
@@ -116,8 +114,7 @@ pub(crate) fn put_in(
     fresh: &mut Vec<Stretch>,
 ) -> Result<(), Memory>
     requires { AreTidy spans.old.items }
-    ensures tidy { OnOk result (AreTidy spans.new.items) }
-    ensures ok { OnOk result (Grows part.now spans.old.items spans.new.items fresh.old.items fresh.new.items (Lies part.now)) }
+    ensures { OnOk result (IsPutIn part.now spans.old.items spans.new.items fresh.old.items fresh.new.items) }
 {
     let at = spans.reaching(&part.from);
     match begins_by(spans, at, &part.to) {

@@ -23,9 +23,11 @@ use Rattle.stl_syntax.specs.declared.node.Node.{Node}
 use Rattle.stl_syntax.specs.declared.node.Node.TheVariants.{Atom as Leaf, And, Or, Implies, Until, Since}
 use Rattle.stl_syntax.proofs.FormulaLemmas.{subformula-at}
 use Rattle.stl_syntax.proofs.PostOrderLemmas.{child_below}
+use Rattle.offline_eval.specs.Forms.{of_knots}
 use Rattle.offline_eval.specs.Inputs.{atoms_before, is_atom, TellAtoms}
 use Rattle.offline_eval.specs.Making.{TellsNode, TellsValue}
 use Rattle.offline_eval.specs.PlainAtoms.{knots_setting}
+use Rattle.offline_eval.proofs.Forms.{knots_laws}
 use Rattle.offline_eval.proofs.PlainAtoms.{plain_told}
 use Rattle.offline_eval.proofs.ToldHaveValues.{has_value, has_inf}
 use Rattle.implicants.specs.Needs.{Certain, IsNeeded, IsOn}
@@ -74,11 +76,11 @@ module _ (tr : Trace) (a : Atom) (xs : List (List (Knot Kleene))) (whole_all : A
       (λ k d l. (whole_all k (get_or xs k d) (there k d l)).signal) (λ k d l. (whole_all k (get_or xs k d) (there k d l)).input)
 
   -- each signal tells its atom
-  pub tells_own : (k : ℕ) (x : List (Knot Kleene)) → k < length xs → slice_get xs k ≡ Some x → TellsValue kleene_shape own_setting (atom k a) x
+  pub tells_own : (k : ℕ) (x : List (Knot Kleene)) → k < length xs → slice_get xs k ≡ Some x → TellsValue (of_knots kleene_shape) own_setting (atom k a) x
   tells_own k x l at =
       let y = told_all k a (let e = leaves_count a xs in omega (arith, e, l)) (leaf_at a xs k l) in
       let same : y.0 ≡ x = same_Some _ _ (sym (subst (λ n. slice_get xs n ≡ Some y.0) (atoms_at a xs k (omega (arith, l))) y.1) ∙ at) in
-      subst (TellsValue kleene_shape own_setting (atom k a)) same y.2
+      subst (TellsValue (of_knots kleene_shape) own_setting (atom k a)) same y.2
 
 kleene_most : (q : Kleene) (t : Rational) → value_at (kleene_shape.function q) t ≤ᵉ kleene_shape.highest
 kleene_most q t = level_at_most (pos 1) (kleene_value q.known) t (kleene_to_one q.known)
@@ -162,7 +164,7 @@ module _ (nodes : List Node) (tr : Trace) (all : List Item) (marks : List Bool) 
   -- a node's signal, made of those of its operands
   pub node_best : (a : Atom) {j : ℕ} {n : Node} {xs : List (List (Knot Kleene))} (r : List (Knot Kleene)) → IsMadeOf nodes tr signs j n xs
       → ((k : ℕ) → IsChild n k → HasBestIn kleene_shape nodes tr all marks c signs k xs)
-      → TellsNode kleene_shape (first_time tr.rows) (last_time 0 tr.rows) n xs r → HasBest kleene_shape nodes tr all marks c signs j r
+      → TellsNode (of_knots kleene_shape) (first_time tr.rows) (last_time 0 tr.rows) n xs r → HasBest kleene_shape nodes tr all marks c signs j r
   node_best a {j} {n} {xs} r made kids tells some within t v worth certain =
       let s = own_setting tr a xs made.whole in
       let told = tells s (λ k. atom k a) j (record { lowest = refl; highest = refl; from = refl; to = refl })
@@ -170,11 +172,12 @@ module _ (nodes : List Node) (tr : Trace) (all : List Item) (marks : List Bool) 
       let here = (told.worth t v).0 worth in
       let tree = subst (λ f. Certain (sign_at signs j) f some tr t) (subformula-at nodes j n made.at made.below) certain in
       tree_helps tr some s.atoms (subformula nodes) (λ k. atom k a) j j n (sign_at signs j) signs made.signed made.other
-      (λ k child. kid k child) (λ k child. has_value kleene_shape (atom k a) s (its k child).0 (its k child).1)
-      (λ k child. has_inf kleene_shape kleene_most (atom k a) s (its k child).0 refl (its k child).1)
+      (λ k child. kid k child) (λ k child. has_value (knots_laws kleene_shape) (atom k a) s (its k child).0 (its k child).1)
+      (λ k child. has_inf (knots_laws kleene_shape) kleene_most (atom k a) s (its k child).0 refl (its k child).1)
       t v here.0 tree here.1
     where
-      its : (k : ℕ) → IsChild n k → (x : List (Knot Kleene)) × TellsValue kleene_shape (own_setting tr a xs made.whole) (atom k a) x × (slice_get xs k ≡ Some x)
+      its : (k : ℕ) → IsChild n k → (x : List (Knot Kleene)) × TellsValue (of_knots kleene_shape) (own_setting tr a xs made.whole) (atom k a) x
+          × (slice_get xs k ≡ Some x)
       its k child =
           let l : k < length xs = let i = child_below j k n made.below child in let l = made.long in omega (arith, i, l) in
           let at = slice_get-get_or xs k [] l in

@@ -29,6 +29,7 @@ use Rattle.stl_syntax.specs.SupInf.{SupInf, one, minus_one, certainty_setting}
 use Rattle.stl_syntax.specs.declared.items.Item.{Item}
 use Rattle.stl_syntax.specs.declared.node.Node.{Node}
 use Rattle.stl_syntax.proofs.LawProofs.{certainty_by_values}
+use Rattle.offline_eval.specs.Forms.{of_knots}
 use Rattle.offline_eval.specs.Making.{IsFit}
 use Rattle.implicants.specs.Keeping.{CoverMore}
 use Rattle.implicants.specs.Needs.{IsOn, IsOff, AreCertainties}
@@ -66,7 +67,8 @@ start_to_stop [] s = le_refl (whole (pos 0))
 start_to_stop (k ∷ x) s = to_stop kleene_shape k x s.each
 
 -- three-valued signals over times of 32 bits may be worked on
-pub fit_over : (x : List (Knot Kleene)) → IsSignal kleene_shape x → whole (pos 0) ≤ʳ start x → stop x ≤ʳ whole (pos (2 ^ 32 - 1)) → IsFit kleene_shape x
+pub fit_over : (x : List (Knot Kleene)) → IsSignal kleene_shape x → whole (pos 0) ≤ʳ start x → stop x ≤ʳ whole (pos (2 ^ 32 - 1))
+    → IsFit (of_knots kleene_shape) x
 fit_over x s low high =
     let order = start_to_stop x s in
     record {
@@ -130,7 +132,7 @@ module _ (nodes : List Node) (tr : Trace) (items : List Item) (signals : List (L
 
 -- signals from one tick to another are fit
 pub fit_over_ticks : (x : List (Knot Kleene)) (m n : ℕ) → n < 2 ^ 32 → IsSignal kleene_shape x → start x ≈ whole (pos m)
-    → stop x ≈ whole (pos n) → IsFit kleene_shape x
+    → stop x ≈ whole (pos n) → IsFit (of_knots kleene_shape) x
 fit_over_ticks x m n h s begins ends = fit_over x s (le_trans low (ge_of_same begins)) (le_trans (le_of_same ends) high)
   where
     low : whole (pos 0) ≤ʳ whole (pos m)

@@ -15,6 +15,7 @@ use Rattle.pl_signal.specs.Moves.{Tells}
 use Rattle.pl_signal.proofs.Limits.{limited}
 use Rattle.signal_ops.specs.Pointwise.{LeastOf, GreatestOf}
 use Rattle.stl_syntax.specs.Trace.{Trace, first_time, last_time}
+use Rattle.offline_eval.specs.Forms.{of_knots}
 use Rattle.offline_eval.specs.Inputs.{IsInput}
 use Rattle.offline_eval.specs.Making.{AreSound, IsFit, IsSound}
 use Rattle.stl_syntax.specs.declared.items.Item.{Item}
@@ -56,7 +57,7 @@ whole_of tr x order late signal begins ends = record {
 }
 
 -- which may be worked on
-pub whole_fit : (tr : Trace) (x : List (Knot Kleene)) → last_time 0 tr.rows < 2 ^ 32 → IsWhole kleene_shape tr x → IsFit kleene_shape x
+pub whole_fit : (tr : Trace) (x : List (Knot Kleene)) → last_time 0 tr.rows < 2 ^ 32 → IsWhole kleene_shape tr x → IsFit (of_knots kleene_shape) x
 whole_fit tr x late is = fit_over_ticks x (first_time tr.rows) (last_time 0 tr.rows) late is.signal is.input.begins is.input.ends
 
 -- two of them go over one domain
@@ -77,7 +78,7 @@ pub whole_view : (tr : Trace) (runs : List Run) (w : View) (x : List (Knot Kleen
     → IsBestSignal kleene_shape runs w x → IsWhole kleene_shape tr x
 whole_view tr runs w x e f is = record {
   signal = is.signal;
-  input = subst (λ m. IsInput kleene_shape m (last_time 0 tr.rows) x) e (subst (λ n. IsInput kleene_shape w.first n x) f is.input);
+  input = subst (λ m. IsInput (of_knots kleene_shape) m (last_time 0 tr.rows) x) e (subst (λ n. IsInput (of_knots kleene_shape) w.first n x) f is.input);
 }
 
 -- where one of them is put in the place of another, all of them are
@@ -112,7 +113,7 @@ greatest_best x y r tells = record {
 
 -- the signals that tell what is certain may be worked on
 pub told_fit : (nodes : List Node) (tr : Trace) (items : List Item) (signals : List (List (Knot Kleene))) → last_time 0 tr.rows < 2 ^ 32
-    → AreCertainties kleene_shape nodes tr items signals → (k : ℕ) (x : List (Knot Kleene)) → slice_get signals k ≡ Some x → IsFit kleene_shape x
+    → AreCertainties kleene_shape nodes tr items signals → (k : ℕ) (x : List (Knot Kleene)) → slice_get signals k ≡ Some x → IsFit (of_knots kleene_shape) x
 told_fit nodes tr items signals late sure k x at =
     let inside : k < length nodes = let a = slice_get_within signals k x at in let c = sure.count in omega (arith, a, c) in
     let tells = told_at nodes tr items signals sure k x inside at in
@@ -120,7 +121,7 @@ told_fit nodes tr items signals late sure k x at =
 
 -- which may be put together
 pub whole_sound : (tr : Trace) (xs : List (List (Knot Kleene))) (from to : ℕ) → from ≡ first_time tr.rows → to ≡ last_time 0 tr.rows
-    → AreWhole kleene_shape tr xs → AreSound kleene_shape from to 4294967295 xs
+    → AreWhole kleene_shape tr xs → AreSound (of_knots kleene_shape) from to 4294967295 xs
 whole_sound tr xs from to e f all_of k x at = record {
   begins = subst (λ n. knots.start x ≈ whole (pos n)) (sym e) (all_of k x at).input.begins;
   ends = subst (λ n. knots.stop x ≈ whole (pos n)) (sym f) (all_of k x at).input.ends;
@@ -130,7 +131,7 @@ whole_sound tr xs from to e f all_of k x at = record {
 
 -- one that is sound is over the whole trace
 pub whole_made : (tr : Trace) (x : List (Knot Kleene)) (from to reach : ℕ) → from ≡ first_time tr.rows → to ≡ last_time 0 tr.rows
-    → first_time tr.rows ≤ last_time 0 tr.rows → last_time 0 tr.rows < 2 ^ 32 → IsSignal kleene_shape x → IsSound kleene_shape from to reach x
+    → first_time tr.rows ≤ last_time 0 tr.rows → last_time 0 tr.rows < 2 ^ 32 → IsSignal kleene_shape x → IsSound (of_knots kleene_shape) from to reach x
     → IsWhole kleene_shape tr x
 whole_made tr x from to reach e f order late signal sound =
     whole_of tr x order late signal (subst (λ n. knots.start x ≈ whole (pos n)) e sound.begins) (subst (λ n. knots.stop x ≈ whole (pos n)) f sound.ends)

@@ -8,6 +8,7 @@ use Rattle.value_laws.specs.declared.kleene.Kleene.{Kleene}
 use Rattle.pl_signal.specs.declared.knot.Knot.{Knot}
 use Rattle.pl_signal.specs.Knots.{start, stop, IsSignal, IsWorth}
 use Rattle.stl_syntax.specs.SupInf.{one, minus_one}
+use Rattle.offline_eval.specs.Forms.{of_knots}
 use Rattle.offline_eval.specs.Inputs.{IsInput}
 use Rattle.implicants.specs.declared.nearby.View.{View}
 use Rattle.implicants.specs.declared.runs.Run.{Run}
@@ -43,5 +44,5 @@ module _ (shape : ShapeOf Kleene) where
   -- one over the whole domain
   pub record IsBestSignal (runs : List Run) (w : View) (x : List (Knot Kleene)) : Type 0 where
     pub signal : IsSignal shape x
-    pub input : IsInput shape w.first w.last x
+    pub input : IsInput (of_knots shape) w.first w.last x
     pub worth : (t : Rational) (v : Extended) → IsWorth shape x t v → IsBestAt runs w.of w.best t v

@@ -15,6 +15,7 @@ use Rattle.stl_syntax.specs.Kleene.{IsCovered, Must, MustNot}
 use Rattle.stl_syntax.specs.SupInf.{one, minus_one, certainty_setting, HasValues, HasInfs}
 use Rattle.stl_syntax.specs.declared.items.Item.{Item}
 use Rattle.stl_syntax.specs.declared.node.Node.{Node}
+use Rattle.offline_eval.specs.Forms.{of_knots}
 use Rattle.offline_eval.specs.Evaluation.{TellNodes}
 use Rattle.implicants.specs.Keeping.{CoverMore}
 
@@ -44,7 +45,7 @@ module _ (shape : ShapeOf Kleene) where
   -- the signals tell what the items leave certain of each node, and each node has values
   pub record AreCertainties (nodes : List Node) (tr : Trace) (items : List Item) (signals : List (List (Knot Kleene))) : Type 0 where
     pub count : length signals ≡ length nodes
-    pub told : TellNodes shape nodes signals (certainty_setting tr items)
+    pub told : TellNodes (of_knots shape) nodes signals (certainty_setting tr items)
     pub values : (k : ℕ) → k < length nodes
         → HasValues (subformula nodes k) (certainty_setting tr items) × HasInfs (subformula nodes k) (certainty_setting tr items)
 

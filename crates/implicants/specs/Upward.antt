@@ -18,6 +18,7 @@ use Rattle.stl_syntax.specs.Kleene.{IsCovered}
 use Rattle.stl_syntax.specs.declared.atom.Atom.{Atom}
 use Rattle.stl_syntax.specs.declared.items.Item.{Item}
 use Rattle.stl_syntax.specs.declared.node.Node.{Node}
+use Rattle.offline_eval.specs.Forms.{of_knots}
 use Rattle.offline_eval.specs.Inputs.{IsInput}
 use Rattle.implicants.specs.Certainty.{stays, known_at}
 use Rattle.implicants.specs.Needs.{Certain, IsAmongPlaces, IsNeeded, IsOff, IsOn}
@@ -134,7 +135,7 @@ module _ (shape : ShapeOf Kleene) where
   -- a signal over the whole trace
   pub record IsWhole (tr : Trace) (x : List (Knot Kleene)) : Type 0 where
     pub signal : IsSignal shape x
-    pub input : IsInput shape (first_time tr.rows) (last_time 0 tr.rows) x
+    pub input : IsInput (of_knots shape) (first_time tr.rows) (last_time 0 tr.rows) x
 
   -- so is each of them
   abbrev pub AreWhole : Trace → List (List (Knot Kleene)) → Type 0

@@ -1,5 +1,6 @@
 //! Between which times a signal is less than the best, though the runs of its node do not have it. What is found says where to look, and
 //! nothing is claimed of it.
+ghost use Rattle.offline_eval.specs.Forms.{of_knots};
 ghost use Rattle.offline_eval.specs.Making.{IsFit};
 
 use crate::runs::{Run, add_short, has_begin, has_end, run_at, run_for};
@@ -71,7 +72,7 @@ pub(crate) fn region_of(
     best: bool,
     x: &Signal<Kleene>,
 ) -> Result<Option<Region>, Memory>
-    requires fit { IsFit ⟦<Kleene as Shape>⟧ x.now }
+    requires fit { IsFit (of_knots ⟦<Kleene as Shape>⟧) x.now }
 {
     let mut pieces = Vec::new(alloc);
     add_short(k, best, x, &mut pieces)?;

@@ -5,6 +5,7 @@ ghost use Rattle.frac128.specs.Spans.{interval};
 ghost use Rattle.stl_syntax.specs.Trace.{start as start_of, stop as stop_of};
 ghost use Rattle.stl_syntax.specs.declared.items.Item.{Item};
 ghost use Rattle.pl_signal.specs.declared.knot.Knot.{Knot};
+ghost use Rattle.offline_eval.specs.Forms.{of_knots};
 ghost use Rattle.offline_eval.specs.Making.{IsFit};
 ghost use Rattle.implicants.specs.Needs.{AreCertainties, IsOff, IsOn};
 ghost use Rattle.implicants.specs.Upward.{AddsOn, AddsRun, AddsShort, AreAmong, AreShortEach, IsOnOver, PutsRun};
@@ -29,7 +30,7 @@ pub(crate) struct Run {
 
 /// On only where the signal is less than certainly true.
 fn turned(x: &Signal<Kleene>) -> Result<Signal<Kleene>, Memory>
-    requires fit { IsFit ⟦<Kleene as Shape>⟧ x.now }
+    requires fit { IsFit (of_knots ⟦<Kleene as Shape>⟧) x.now }
     ensures { IfOk result (λ r. (t : Rational) → IsOn ⟦<Kleene as Shape>⟧ r t → IsOff ⟦<Kleene as Shape>⟧ x.now t) }
 {
     neg(x)
@@ -159,7 +160,7 @@ pub(crate) fn add_short(
     x: &Signal<Kleene>,
     runs: &mut Vec<Run>,
 ) -> Result<(), Memory>
-    requires fit { IsFit ⟦<Kleene as Shape>⟧ x.now }
+    requires fit { IsFit (of_knots ⟦<Kleene as Shape>⟧) x.now }
     ensures { OnOk result (AddsShort ⟦<Kleene as Shape>⟧ of best x.now runs.old.items runs.new.items) }
 {
     if best {
@@ -176,7 +177,7 @@ pub(crate) fn own_runs(
     best: bool,
     x: &Signal<Kleene>,
 ) -> Result<Vec<Run>, Memory>
-    requires fit { IsFit ⟦<Kleene as Shape>⟧ x.now }
+    requires fit { IsFit (of_knots ⟦<Kleene as Shape>⟧) x.now }
     ensures { IfOk result (λ r. AddsShort ⟦<Kleene as Shape>⟧ of best x.now [] r.items) }
 {
     let mut runs = Vec::new(alloc);

@@ -9,6 +9,7 @@ ghost use Rattle.stl_syntax.specs.declared.atom.Atom.{Atom};
 ghost use Rattle.stl_syntax.specs.declared.items.Item.{Item};
 ghost use Rattle.stl_syntax.specs.declared.node.Node.{Node as ANode};
 ghost use Rattle.stl_syntax.specs.declared.node.Node.TheVariants.{Atom as Leaf};
+ghost use Rattle.offline_eval.specs.Forms.{of_knots};
 ghost use Rattle.offline_eval.specs.Making.{IsFit};
 ghost use Rattle.implicants.specs.Runs.{AreAllCells};
 ghost use Rattle.implicants.specs.Keeping.{remaining};
@@ -128,8 +129,8 @@ fn own_at(
 
 /// The least of two signals.
 fn least_of(x: &Signal<Kleene>, y: &Signal<Kleene>) -> Result<Option<Signal<Kleene>>, Memory>
-    requires left { IsFit ⟦<Kleene as Shape>⟧ x.now }
-    requires right { IsFit ⟦<Kleene as Shape>⟧ y.now }
+    requires left { IsFit (of_knots ⟦<Kleene as Shape>⟧) x.now }
+    requires right { IsFit (of_knots ⟦<Kleene as Shape>⟧) y.now }
     requires along { IsAlong ⟦<Kleene as Shape>⟧ x.now y.now }
     ensures { IfOk result (λ o. IfSome o (IsBestOf ⟦<Kleene as Shape>⟧ true x.now y.now)) }
 {
@@ -142,8 +143,8 @@ fn least_of(x: &Signal<Kleene>, y: &Signal<Kleene>) -> Result<Option<Signal<Klee
 
 /// The greatest of two signals.
 fn greatest_of(x: &Signal<Kleene>, y: &Signal<Kleene>) -> Result<Option<Signal<Kleene>>, Memory>
-    requires left { IsFit ⟦<Kleene as Shape>⟧ x.now }
-    requires right { IsFit ⟦<Kleene as Shape>⟧ y.now }
+    requires left { IsFit (of_knots ⟦<Kleene as Shape>⟧) x.now }
+    requires right { IsFit (of_knots ⟦<Kleene as Shape>⟧) y.now }
     requires along { IsAlong ⟦<Kleene as Shape>⟧ x.now y.now }
     ensures { IfOk result (λ o. IfSome o (IsBestOf ⟦<Kleene as Shape>⟧ false x.now y.now)) }
 {
@@ -160,8 +161,8 @@ fn best_of(
     x: &Signal<Kleene>,
     y: &Signal<Kleene>,
 ) -> Result<Option<Signal<Kleene>>, Memory>
-    requires left { IsFit ⟦<Kleene as Shape>⟧ x.now }
-    requires right { IsFit ⟦<Kleene as Shape>⟧ y.now }
+    requires left { IsFit (of_knots ⟦<Kleene as Shape>⟧) x.now }
+    requires right { IsFit (of_knots ⟦<Kleene as Shape>⟧) y.now }
     requires along { IsAlong ⟦<Kleene as Shape>⟧ x.now y.now }
     ensures { IfOk result (λ o. IfSome o (IsBestOf ⟦<Kleene as Shape>⟧ best x.now y.now)) }
 {
@@ -193,7 +194,7 @@ fn add_gained(
     region: Region,
     gained: &mut Vec<Run>,
 ) -> Result<(), Memory>
-    requires fit { IsFit ⟦<Kleene as Shape>⟧ x.now }
+    requires fit { IsFit (of_knots ⟦<Kleene as Shape>⟧) x.now }
     ensures { OnOk result (AddsShort ⟦<Kleene as Shape>⟧ k best x.now gained.old.items gained.new.items) }
 {
     let pieces = own_runs(alloc, k, best, x)?;

@@ -10,8 +10,6 @@ use Rattle.std.proofs.lemmas.List.Elements.{All-head, All-tail}
 use Rattle.std.proofs.lemmas.List.Folds.{list_any-append}
 use Rattle.std.proofs.lemmas.Option.{slice_get_within, get_or_from_slice_get}
 use Rattle.rational.proofs.Lists.{slice_get-push_cases, slice_get-append_here}
-use Rattle.value_laws.specs.Members.{ShapeOf}
-use Rattle.pl_signal.specs.declared.knot.Knot.{Knot}
 use Rattle.stl_syntax.specs.Formula.{Subformula, subformula, tree_of, constant, negation, conjunction, disjunction}
 use Rattle.stl_syntax.specs.Formula.{implication, until, eventually, always, since, once, historically}
 use Rattle.stl_syntax.specs.PostOrder.{children, has_child, is_used, IsPostOrder}
@@ -19,6 +17,7 @@ use Rattle.stl_syntax.specs.SupInf.{Setting}
 use Rattle.stl_syntax.specs.declared.node.Node.{Node}
 use Rattle.stl_syntax.specs.declared.node.Node.TheVariants.{Const, Atom as Leaf, Not, And, Or, Implies, Until, Eventually, Always, Since, Once, Historically}
 use Rattle.stl_syntax.proofs.PostOrderLemmas.{children_free, next_unused, post_order_take}
+use Rattle.offline_eval.specs.Forms.{Form}
 use Rattle.offline_eval.specs.Inputs.{IsOver}
 use Rattle.offline_eval.specs.Keeping.{kept, IsSpare, AreGivenUp, IsRootIn, IsStack, TellsStack}
 use Rattle.offline_eval.specs.Making.{IsSound, AreSound, TellAt, TellsValue}
@@ -126,39 +125,39 @@ module _ (nodes : List Node) where
       second false true e = e
       second false false e = refl
 
-module _ {P : Type 0} (shape : ShapeOf P) (from to : ℕ) where
+module _ {X P : Type 0} (form : Form X P) (from to : ℕ) where
   -- nothing is given up
-  pub none_given_up : (xs : List (List (Knot P))) → AreGivenUp shape from to [] xs xs
+  pub none_given_up : (xs : List X) → AreGivenUp form from to [] xs xs
   none_given_up xs = record { count = refl; at = λ k x h. h }
 
   -- one signal is given up for a spare one
-  pub one_given_up : (p : ℕ) (old new : List (List (Knot P))) (spare : List (Knot P)) → new ≡ set old p spare → IsSpare shape from to spare
-      → AreGivenUp shape from to (p ∷ []) old new
+  pub one_given_up : (p : ℕ) (old new : List X) (spare : X) → new ≡ set old p spare → IsSpare form from to spare
+      → AreGivenUp form from to (p ∷ []) old new
   one_given_up p old new spare e h = record {
     count = ap length e ∙ length-set old p spare;
     at = λ k x there. by_place k x (written_at old p spare k x (subst (λ l. slice_get l k ≡ Some x) e there));
   }
     where
-      by_place : (k : ℕ) (x : List (Knot P)) → ((k ≡ p) × (x ≡ spare)) ⊎ ((p ≡ k → ⊥) × (slice_get old k ≡ Some x))
-          → MatchBool (list_any (λ q. q == k) (p ∷ [])) (IsSpare shape from to x) (slice_get old k ≡ Some x)
+      by_place : (k : ℕ) (x : X) → ((k ≡ p) × (x ≡ spare)) ⊎ ((p ≡ k → ⊥) × (slice_get old k ≡ Some x))
+          → MatchBool (list_any (λ q. q == k) (p ∷ [])) (IsSpare form from to x) (slice_get old k ≡ Some x)
       by_place k x (inl o) =
-          subst (λ b. MatchBool (b || false) (IsSpare shape from to x) (slice_get old k ≡ Some x)) (sym (eq-eqb p k (sym o.0)))
-          (subst (IsSpare shape from to) (sym o.1) h)
-      by_place k x (inr o) = subst (λ b. MatchBool (b || false) (IsSpare shape from to x) (slice_get old k ≡ Some x)) (sym (ne_eqb p k o.0)) o.1
+          subst (λ b. MatchBool (b || false) (IsSpare form from to x) (slice_get old k ≡ Some x)) (sym (eq-eqb p k (sym o.0)))
+          (subst (IsSpare form from to) (sym o.1) h)
+      by_place k x (inr o) = subst (λ b. MatchBool (b || false) (IsSpare form from to x) (slice_get old k ≡ Some x)) (sym (ne_eqb p k o.0)) o.1
 
   -- what is given up in two steps is given up in both
-  pub more_given_up : (ps qs : List ℕ) (old mid new : List (List (Knot P))) → AreGivenUp shape from to ps old mid
-      → AreGivenUp shape from to qs mid new → AreGivenUp shape from to (ps ++ qs) old new
+  pub more_given_up : (ps qs : List ℕ) (old mid new : List X) → AreGivenUp form from to ps old mid
+      → AreGivenUp form from to qs mid new → AreGivenUp form from to (ps ++ qs) old new
   more_given_up ps qs old mid new f s = record {
     count = s.count ∙ f.count;
     at = λ k x there.
-        subst (λ b. MatchBool b (IsSpare shape from to x) (slice_get old k ≡ Some x)) (sym (list_any-append (λ p. p == k) ps qs))
-        (join (IsSpare shape from to x) (slice_get mid k ≡ Some x) (slice_get old k ≡ Some x) (list_any (λ p. p == k) ps) (list_any (λ p. p == k) qs)
+        subst (λ b. MatchBool b (IsSpare form from to x) (slice_get old k ≡ Some x)) (sym (list_any-append (λ p. p == k) ps qs))
+        (join (IsSpare form from to x) (slice_get mid k ≡ Some x) (slice_get old k ≡ Some x) (list_any (λ p. p == k) ps) (list_any (λ p. p == k) qs)
         (s.at k x there) (λ m. f.at k x m));
   }
 
   -- the next node, n at the place i, adds its signal y to the old ones, and those of its children are given up
-  pub record AddsNext (nodes : List Node) (s : Setting) (i : ℕ) (n : Node) (old new : List (List (Knot P))) (y : List (Knot P)) : Type 0 where
+  pub record AddsNext (nodes : List Node) (s : Setting) (i : ℕ) (n : Node) (old new : List X) (y : X) : Type 0 where
     -- children come before their nodes
     pub order : IsPostOrder nodes
     -- n is the next node
@@ -166,42 +165,42 @@ module _ {P : Type 0} (shape : ShapeOf P) (from to : ℕ) where
     -- each node before it has a signal
     pub count : length old ≡ i
     -- the setting is over the stretch
-    pub over : IsOver shape.lowest shape.highest from to s
+    pub over : IsOver form.shape.lowest form.shape.highest from to s
     -- the signals of its children are given up
-    pub given : AreGivenUp shape from to (children n) (old ++ y ∷ []) new
+    pub given : AreGivenUp form from to (children n) (old ++ y ∷ []) new
     -- its signal tells it
-    pub own : TellsValue shape s (subformula nodes i) y
+    pub own : TellsValue form s (subformula nodes i) y
 
   -- what the signals tell once the next node has its own
-  pub kept_told : (nodes : List Node) (s : Setting) (i : ℕ) (n : Node) (old new : List (List (Knot P))) (y : List (Knot P))
-      → AddsNext nodes s i n old new y → TellAt shape s (kept nodes i) old → TellAt shape s (kept nodes (i + 1)) new
+  pub kept_told : (nodes : List Node) (s : Setting) (i : ℕ) (n : Node) (old new : List X) (y : X)
+      → AddsNext nodes s i n old new y → TellAt form s (kept nodes i) old → TellAt form s (kept nodes (i + 1)) new
   kept_told nodes s i n old new y next told k x at = by_child (has_child k n) refl (next.given.at k x at)
     where
-      by_place : has_child k n ≡ false → (slice_get old k ≡ Some x) ⊎ ((k ≡ length old) × (x ≡ y)) → TellsValue shape s (kept nodes (i + 1) k) x
-      by_place e (inl h) = subst (λ f. TellsValue shape s f x) (sym (kept_other nodes i n next.there k e)) (told k x h)
+      by_place : has_child k n ≡ false → (slice_get old k ≡ Some x) ⊎ ((k ≡ length old) × (x ≡ y)) → TellsValue form s (kept nodes (i + 1) k) x
+      by_place e (inl h) = subst (λ f. TellsValue form s f x) (sym (kept_other nodes i n next.there k e)) (told k x h)
       by_place e (inr h) =
           let here : i ≡ k = sym (h.0 ∙ next.count) in
-          subst (λ j. TellsValue shape s (kept nodes (i + 1) j) x) here
-          (subst (λ f. TellsValue shape s f x) (sym (kept_new nodes i n next.there next.order))
-          (subst (TellsValue shape s (subformula nodes i)) (sym h.1) next.own))
+          subst (λ j. TellsValue form s (kept nodes (i + 1) j) x) here
+          (subst (λ f. TellsValue form s f x) (sym (kept_new nodes i n next.there next.order))
+          (subst (TellsValue form s (subformula nodes i)) (sym h.1) next.own))
 
-      by_child : (b : Bool) → has_child k n ≡ b → MatchBool b (IsSpare shape from to x) (slice_get (old ++ y ∷ []) k ≡ Some x)
-          → TellsValue shape s (kept nodes (i + 1) k) x
-      by_child true e spare = subst (λ f. TellsValue shape s f x) (sym (kept_child nodes i n next.there k e)) (spare.told s next.over)
+      by_child : (b : Bool) → has_child k n ≡ b → MatchBool b (IsSpare form from to x) (slice_get (old ++ y ∷ []) k ≡ Some x)
+          → TellsValue form s (kept nodes (i + 1) k) x
+      by_child true e spare = subst (λ f. TellsValue form s f x) (sym (kept_child nodes i n next.there k e)) (spare.told s next.over)
       by_child false e h = by_place e (slice_get-push_cases old y k x h)
 
   -- the signals stay sound
-  pub kept_sound : (places : List ℕ) (reach : ℕ) (old new : List (List (Knot P))) → AreGivenUp shape from to places old new
-      → AreSound shape from to reach old → AreSound shape from to reach new
+  pub kept_sound : (places : List ℕ) (reach : ℕ) (old new : List X) → AreGivenUp form from to places old new
+      → AreSound form from to reach old → AreSound form from to reach new
   kept_sound places reach old new given sound k x at = by_place (list_any (λ p. p == k) places) (given.at k x at)
     where
-      by_place : (b : Bool) → MatchBool b (IsSpare shape from to x) (slice_get old k ≡ Some x) → IsSound shape from to reach x
-      by_place true spare = sound_more shape from to 0 reach x (omega arith) spare.sound
+      by_place : (b : Bool) → MatchBool b (IsSpare form from to x) (slice_get old k ≡ Some x) → IsSound form from to reach x
+      by_place true spare = sound_more form from to 0 reach x (omega arith) spare.sound
       by_place false h = sound k x h
 
-module _ {P : Type 0} (shape : ShapeOf P) (nodes : List Node) (s : Setting) where
+module _ {X P : Type 0} (form : Form X P) (nodes : List Node) (s : Setting) where
   -- a stack of no signals tells the first no nodes
-  pub stack_none : (done : List (List (Knot P))) → done ≡ [] → TellsStack shape nodes s 0 done
+  pub stack_none : (done : List X) → done ≡ [] → TellsStack form nodes s 0 done
   stack_none done e = record {
     told = λ k x at. absurd (none k x (subst (λ l. slice_get l k ≡ Some x) e at));
     signals = [];
@@ -210,21 +209,21 @@ module _ {P : Type 0} (shape : ShapeOf P) (nodes : List Node) (s : Setting) wher
     last = λ k x e at. absurd (omega (arith, e));
   }
     where
-      none : {X : Type 0} (k : ℕ) (x : X) → slice_get [] k ≡ Some x → ⊥
+      none : (k : ℕ) (x : X) → slice_get [] k ≡ Some x → ⊥
       none k x e = cc
 
   -- with the signal of the next node, and its children given up
-  pub stack_next : (from to i : ℕ) (n : Node) (old new : List (List (Knot P))) (y : List (Knot P)) → AddsNext shape from to nodes s i n old new y
-      → TellsStack shape nodes s i old → TellsStack shape nodes s (i + 1) new
+  pub stack_next : (from to i : ℕ) (n : Node) (old new : List X) (y : X) → AddsNext form from to nodes s i n old new y
+      → TellsStack form nodes s i old → TellsStack form nodes s (i + 1) new
   stack_next from to i n old new y next st = record {
-    told = kept_told shape from to nodes s i n old new y next st.told;
+    told = kept_told form from to nodes s i n old new y next st.told;
     signals = st.signals ++ y ∷ [];
     count = pushed_count st.signals (st.signals ++ y ∷ []) y i st.count refl;
-    all = told_pushed shape nodes s i st.signals y st.count refl st.all next.own;
+    all = told_pushed form nodes s i st.signals y st.count refl st.all next.own;
     last = λ k x e at. here k x (omega (arith, e)) (next.given.at k x at);
   }
     where
-      by_place : (k : ℕ) (x : List (Knot P)) → k ≡ i → (slice_get old k ≡ Some x) ⊎ ((k ≡ length old) × (x ≡ y))
+      by_place : (k : ℕ) (x : X) → k ≡ i → (slice_get old k ≡ Some x) ⊎ ((k ≡ length old) × (x ≡ y))
           → slice_get (st.signals ++ y ∷ []) k ≡ Some x
       by_place k x e (inl h) = absurd (let l = slice_get_within old k x h in let count = next.count in omega (arith, e, l, count))
       by_place k x e (inr h) =
@@ -232,23 +231,23 @@ module _ {P : Type 0} (shape : ShapeOf P) (nodes : List Node) (s : Setting) wher
           subst (λ j. slice_get (st.signals ++ y ∷ []) j ≡ Some x) long
           (subst (λ z. slice_get (st.signals ++ y ∷ []) (length st.signals) ≡ Some z) (sym h.1) (slice_get-append_here st.signals y []))
 
-      here : (k : ℕ) (x : List (Knot P)) → k ≡ i → MatchBool (has_child k n) (IsSpare shape from to x) (slice_get (old ++ y ∷ []) k ≡ Some x)
+      here : (k : ℕ) (x : X) → k ≡ i → MatchBool (has_child k n) (IsSpare form from to x) (slice_get (old ++ y ∷ []) k ≡ Some x)
           → slice_get (st.signals ++ y ∷ []) k ≡ Some x
       here k x e m =
           let free : has_child k n ≡ false = subst (λ j. has_child j n ≡ false) (sym e) (no_own_child nodes i n next.there next.order) in
-          by_place k x e (slice_get-push_cases old y k x (subst (λ b. MatchBool b (IsSpare shape from to x) (slice_get (old ++ y ∷ []) k ≡ Some x)) free m))
+          by_place k x e (slice_get-push_cases old y k x (subst (λ b. MatchBool b (IsSpare form from to x) (slice_get (old ++ y ∷ []) k ≡ Some x)) free m))
 
   -- what is left in the end is the last of them
-  pub stack_root : (done rest : List (List (Knot P))) (x : List (Knot P)) → 0 < length nodes → length done ≡ length nodes
-      → done ≡ rest ++ x ∷ [] → TellsStack shape nodes s (length nodes) done → IsRootIn shape nodes s x
+  pub stack_root : (done rest : List X) (x : X) → 0 < length nodes → length done ≡ length nodes
+      → done ≡ rest ++ x ∷ [] → TellsStack form nodes s (length nodes) done → IsRootIn form nodes s x
   stack_root done rest x some count e st = (
     st.signals,
     st.count,
     st.last (length nodes - 1) x (omega (arith, some)) at,
-    all_told shape nodes s st.signals st.count st.all,
+    all_told form nodes s st.signals st.count st.all,
   )
     where
-      length_pushed : {X : Type 0} (xs : List X) (x : X) → length (xs ++ x ∷ []) ≡ suc (length xs)
+      length_pushed : (xs : List X) (x : X) → length (xs ++ x ∷ []) ≡ suc (length xs)
       length_pushed [] x = refl
       length_pushed (z ∷ xs) x = ap suc (length_pushed xs x)
 
@@ -258,20 +257,20 @@ module _ {P : Type 0} (shape : ShapeOf P) (nodes : List Node) (s : Setting) wher
       at : slice_get done (length nodes - 1) ≡ Some x
       at = ap (λ l. slice_get l (length nodes - 1)) e ∙ ap (slice_get (rest ++ x ∷ [])) long ∙ slice_get-append_here rest x []
 
-module _ {P : Type 0} (shape : ShapeOf P) (from to : ℕ) (nodes : List Node) where
+module _ {X P : Type 0} (form : Form X P) (from to : ℕ) (nodes : List Node) where
   -- no signals are a stack before the first node
-  pub stack_empty : (done : List (List (Knot P))) → done ≡ [] → IsStack shape from to nodes 0 done
+  pub stack_empty : (done : List X) → done ≡ [] → IsStack form from to nodes 0 done
   stack_empty done e = record { count = ap length e; sound = λ k x at. absurd (none k x (subst (λ l. slice_get l k ≡ Some x) e at)) }
     where
-      none : {X : Type 0} (k : ℕ) (x : X) → slice_get [] k ≡ Some x → ⊥
+      none : (k : ℕ) (x : X) → slice_get [] k ≡ Some x → ⊥
       none k x e = cc
 
   -- the stack stays sound with the signal of one more node
-  pub stack_on : (i : ℕ) (places : List ℕ) (old new : List (List (Knot P))) (y : List (Knot P)) → i < length nodes
-      → AreGivenUp shape from to places (old ++ y ∷ []) new → IsSound shape from to (reach_before nodes (i + 1)) y
-      → IsStack shape from to nodes i old → IsStack shape from to nodes (i + 1) new
+  pub stack_on : (i : ℕ) (places : List ℕ) (old new : List X) (y : X) → i < length nodes
+      → AreGivenUp form from to places (old ++ y ∷ []) new → IsSound form from to (reach_before nodes (i + 1)) y
+      → IsStack form from to nodes i old → IsStack form from to nodes (i + 1) new
   stack_on i places old new y inside given own st = record {
     count = given.count ∙ pushed_count old (old ++ y ∷ []) y i st.count refl;
-    sound = kept_sound shape from to places (reach_before nodes (i + 1)) (old ++ y ∷ []) new given
-        (all_pushed shape from to nodes i old (old ++ y ∷ []) y inside refl st.sound own);
+    sound = kept_sound form from to places (reach_before nodes (i + 1)) (old ++ y ∷ []) new given
+        (all_pushed form from to nodes i old (old ++ y ∷ []) y inside refl st.sound own);
   }

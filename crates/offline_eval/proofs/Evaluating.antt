@@ -7,9 +7,8 @@ use Rattle.std.proofs.lemmas.Option.{slice_get_within, get_or_from_slice_get, sl
 use Rattle.std.proofs.lemmas.List.{length-drop, length-append}
 use Rattle.std.proofs.lemmas.List.Sums.{sum_by-take-le}
 use Rattle.std.proofs.Math.Seq.{take-length}
-use Rattle.rational.proofs.Lists.{slice_get-push_cases}
+use Rattle.rational.proofs.Lists.{slice_get-push_cases, slice_get_there}
 use Rattle.value_laws.specs.Members.{ShapeOf}
-use Rattle.pl_signal.specs.declared.knot.Knot.{Knot}
 use Rattle.pl_signal.specs.declared.faults.WidePair.TheVariants.{Cross, Value}
 use Rattle.pl_signal.specs.declared.faults.OpFault.{OpFault}
 use Rattle.pl_signal.specs.declared.faults.OpFault.TheVariants as F
@@ -19,6 +18,7 @@ use Rattle.stl_syntax.specs.SupInf.{Setting}
 use Rattle.stl_syntax.specs.declared.atom.Atom.{Atom}
 use Rattle.stl_syntax.specs.declared.node.Node.{Node}
 use Rattle.stl_syntax.specs.declared.node.Node.TheVariants.{Const, Atom as Leaf}
+use Rattle.offline_eval.specs.Forms.{Form}
 use Rattle.offline_eval.specs.Inputs.{is_atom, atoms_before, IsInput}
 use Rattle.offline_eval.specs.Evaluation.{TellNodes, IsFault}
 use Rattle.offline_eval.specs.Making.{IsSound, AreSound, TellAt, TellsValue, IsFaultOf, fault_at}
@@ -60,55 +60,56 @@ some_left nodes all rest i a count left at =
 pub reach_within : (nodes : List Node) (i : ℕ) → reach nodes ≤ 4294967295 → reach_before nodes i ≤ 4294967295
 reach_within nodes i h = omega (arith, h, sum_by-take-le own_reach nodes i)
 
-module _ {P : Type 0} (shape : ShapeOf P) (from to : ℕ) where
+module _ {X P : Type 0} (form : Form X P) (from to : ℕ) where
   -- a signal of an atom is sound
-  pub input_sound : (x : List (Knot P)) → IsInput shape from to x → IsSound shape from to 0 x
-  input_sound x h = record { begins = h.begins; ends = h.ends; limited = h.limited; bases = λ p i. reached (shape.base p) (h.bases p i) }
+  pub input_sound : (x : X) → IsInput form from to x → IsSound form from to 0 x
+  input_sound x h = record { begins = h.begins; ends = h.ends; limited = h.limited; bases = λ p i. reached (form.shape.base p) (h.bases p i) }
     where
       reached : (b : ℤ) → (pos 0 ≤ℤ b) × (b <ℤ pos (2 ^ 32)) → (neg_ℤ (pos 0) ≤ℤ b) × (b <ℤ pos (2 ^ 32 + 0))
       reached b (low, high) = (omega (arith, ints, low), omega (arith, ints, high))
 
   -- so are those that are left
-  pub left_sound : (all rest : List (List (Knot P))) (m : ℕ) → All (IsInput shape from to) all → rest ≡ drop m all → AreSound shape from to 0 rest
+  pub left_sound : (all rest : List X) (m : ℕ) → All (IsInput form from to) all → rest ≡ drop m all → AreSound form from to 0 rest
   left_sound all rest m inputs left k x at =
       let there = dropped_at m all k x (subst (λ r. slice_get r k ≡ Some x) left at) in
-      input_sound x (subst (IsInput shape from to) (get_or_from_slice_get all (m + k) x x there) (inputs (m + k) x (slice_get_within all (m + k) x there)))
+      input_sound x (subst (IsInput form from to) (get_or_from_slice_get all (m + k) x x there) (inputs (m + k) x (slice_get_within all (m + k) x there)))
 
   -- sound for a reach is sound for a longer one
-  pub all_more : (less more : ℕ) (xs : List (List (Knot P))) → less ≤ more → AreSound shape from to less xs → AreSound shape from to more xs
-  all_more less more xs h all k x at = sound_more shape from to less more x h (all k x at)
+  pub all_more : (less more : ℕ) (xs : List X) → less ≤ more → AreSound form from to less xs → AreSound form from to more xs
+  all_more less more xs h all k x at = sound_more form from to less more x h (all k x at)
 
   -- and so with one signal more
-  pub all_pushed : (nodes : List Node) (i : ℕ) (xs ys : List (List (Knot P))) (y : List (Knot P)) → i < length nodes → ys ≡ xs ++ y ∷ []
-      → AreSound shape from to (reach_before nodes i) xs
-      → IsSound shape from to (reach_before nodes (i + 1)) y → AreSound shape from to (reach_before nodes (i + 1)) ys
+  pub all_pushed : (nodes : List Node) (i : ℕ) (xs ys : List X) (y : X) → i < length nodes → ys ≡ xs ++ y ∷ []
+      → AreSound form from to (reach_before nodes i) xs
+      → IsSound form from to (reach_before nodes (i + 1)) y → AreSound form from to (reach_before nodes (i + 1)) ys
   all_pushed nodes i xs ys y inside e all new k x there = by_place (slice_get-push_cases xs y k x (subst (λ l. slice_get l k ≡ Some x) e there))
     where
       grows : reach_before nodes i ≤ reach_before nodes (i + 1)
       grows = omega (arith, sum_on own_reach nodes i (get_or nodes i (Const true)) (slice_get-get_or nodes i (Const true) inside))
 
-      by_place : (slice_get xs k ≡ Some x) ⊎ ((k ≡ length xs) × (x ≡ y)) → IsSound shape from to (reach_before nodes (i + 1)) x
+      by_place : (slice_get xs k ≡ Some x) ⊎ ((k ≡ length xs) × (x ≡ y)) → IsSound form from to (reach_before nodes (i + 1)) x
       by_place (inl h) = all_more (reach_before nodes i) (reach_before nodes (i + 1)) xs grows all k x h
-      by_place (inr h) = subst (IsSound shape from to (reach_before nodes (i + 1))) (sym h.1) new
+      by_place (inr h) = subst (IsSound form from to (reach_before nodes (i + 1))) (sym h.1) new
 
-module _ {P : Type 0} (shape : ShapeOf P) where
+module _ {X P : Type 0} (form : Form X P) where
   -- the node's signal tells it among all
-  pub told_pushed : {ys : List (List (Knot P))} (nodes : List Node) (s : Setting) (i : ℕ) (xs : List (List (Knot P)))
-      (y : List (Knot P)) → length xs ≡ i → ys ≡ xs ++ y ∷ []
-      → TellAt shape s (subformula nodes) xs → TellsValue shape s (subformula nodes i) y
-      → TellAt shape s (subformula nodes) ys
+  pub told_pushed : {ys : List X} (nodes : List Node) (s : Setting) (i : ℕ) (xs : List X)
+      (y : X) → length xs ≡ i → ys ≡ xs ++ y ∷ []
+      → TellAt form s (subformula nodes) xs → TellsValue form s (subformula nodes i) y
+      → TellAt form s (subformula nodes) ys
   told_pushed nodes s i xs y count e all new k x there = by_place (slice_get-push_cases xs y k x (subst (λ l. slice_get l k ≡ Some x) e there))
     where
-      by_place : (slice_get xs k ≡ Some x) ⊎ ((k ≡ length xs) × (x ≡ y)) → TellsValue shape s (subformula nodes k) x
+      by_place : (slice_get xs k ≡ Some x) ⊎ ((k ≡ length xs) × (x ≡ y)) → TellsValue form s (subformula nodes k) x
       by_place (inl h) = all k x h
-      by_place (inr h) = subst (TellsValue shape s (subformula nodes k)) (sym h.1)
-          (subst (λ j. TellsValue shape s (subformula nodes j) y) (sym (h.0 ∙ count)) new)
+      by_place (inr h) = subst (TellsValue form s (subformula nodes k)) (sym h.1)
+          (subst (λ j. TellsValue form s (subformula nodes j) y) (sym (h.0 ∙ count)) new)
 
   -- all are told in the end
-  pub all_told : (nodes : List Node) (s : Setting) (xs : List (List (Knot P))) → length xs ≡ length nodes → TellAt shape s (subformula nodes) xs
-      → TellNodes shape nodes xs s
-  all_told nodes s xs count all i inside = let at = slice_get-get_or xs i [] (omega (arith, count, inside)) in (get_or xs i [], at, all i (get_or xs i []) at)
+  pub all_told : (nodes : List Node) (s : Setting) (xs : List X) → length xs ≡ length nodes → TellAt form s (subformula nodes) xs
+      → TellNodes form nodes xs s
+  all_told nodes s xs count all i inside = let o = slice_get_there xs i (omega (arith, count, inside)) in (o.0, o.1, all i o.0 o.1)
 
+module _ {P : Type 0} (shape : ShapeOf P) where
   -- a fault of the node is one of the formula
   pub fault_is : (nodes : List Node) (s : Setting) (i : ℕ) (e : OpFault P) → i < length nodes → IsFaultOf shape s (subformula nodes i) e
       → IsFault shape nodes s (fault_at i e)

@@ -4,7 +4,7 @@ use Rattle.std.specs.Prelude.{Option, IfSome}
 use Rattle.rational.specs.Time.{Rational, shifted, ◌<ʳ◌, ◌≈◌}
 use Rattle.rational.specs.Extended.{Affine}
 use Rattle.rational.specs.Windows.{Function, Window, Ahead, Behind}
-use Rattle.rational.specs.InPlay.{IsBreakpoint, start, stop, inner, IsLeftLimit, IsRightLimit, window_ahead}
+use Rattle.rational.specs.InPlay.{IsBreakpoint, start, stop, inner, IsLeftLimit, IsRightLimit, of_two, window_ahead}
 use Rattle.rational.specs.InPlay.{window_behind, until_end, since_start, IsEndBehind, IsEndPart, IsValueWithin}
 use Rattle.rational.specs.InPlay.{IsLimitWithin, IsNext, IsPrevious, IsCrossing, IsInPlay, IsWideCrossing, IsWideValue}
 use Rattle.rational.proofs.Order.{lt_of_le_of_lt, lt_of_lt_of_le, lt_trans, le_of_same, ge_of_same, same_trans}
@@ -137,6 +137,12 @@ module _ (from to from' to' : Rational) (begins : from ≈ from') (ends : to ≈
         by_side (inr (inl (inr l))) = inr (inl (inr (right_along from to G G' right l)))
         by_side (inr (inr (inl f))) = inr (inr (inl (result.forth u v n.inside f)))
         by_side (inr (inr (inr l))) = inr (inr (inr (right_within from to R R' result n.inside.above (lt_trans n.before h) l)))
+
+-- of two functions
+pub of_two_along : {l r l' r' : Rational} (from to from' to' : Rational) (F F' G G' : Function) → IsOn l r F F' → IsOn l' r' G G'
+    → (tau : Rational) (line : Affine) → IsInPlay (of_two F G) from to tau line → IsInPlay (of_two F' G') from' to' tau line
+of_two_along {l} {r} from to from' to' F F' G G' left right tau line (inl p) = inl (part_along l r F F' left p)
+of_two_along {l' = l'} {r' = r'} from to from' to' F F' G G' left right tau line (inr p) = inr (part_along l' r' G G' right p)
 
 -- a step and another on the same stretch, in which is in play whatever is in play in the first
 pub record GoesAlong (Step Other : Rational → Affine → Type 0) (from to from' to' : Rational) : Type 0 where

@@ -1,4 +1,6 @@
+pub mod Forms
 pub mod Along
+pub mod Causes
 pub mod Sound
 pub mod Pointwise
 pub mod Steady
@@ -10,6 +12,7 @@ pub mod ToldHaveValues
 pub mod Stretches
 pub mod InPlay
 pub mod WindowLemmas
+pub mod Windowed
 pub mod UntilLemmas
 mod ChildrenKept
 pub mod PlainAtoms

@@ -5,13 +5,12 @@ use Rattle.rational.specs.Extended.{Extended}
 use Rattle.rational.proofs.Order.{same_trans, same_sym, le_trans, le_of_same, ge_of_same}
 use Rattle.rational.proofs.Shift.{le_whole}
 use Rattle.std.proofs.lemmas.Int.{ints}
-use Rattle.value_laws.specs.Members.{ShapeOf}
-use Rattle.pl_signal.specs.declared.knot.Knot.{Knot}
 use Rattle.pl_signal.specs.declared.faults.OpFault.{OpFault}
 use Rattle.stl_syntax.specs.Formula.{Subformula, tree_of}
 use Rattle.stl_syntax.specs.Limits.{own_reach}
 use Rattle.stl_syntax.specs.SupInf.{Setting}
 use Rattle.stl_syntax.specs.declared.node.Node.{Node}
+use Rattle.offline_eval.specs.Forms.{Form}
 use Rattle.offline_eval.specs.Inputs.{IsOver}
 use Rattle.offline_eval.specs.Making.{HasEnds, MayMeet, IsFit, AreFit, IsSound, StaysSound, StaySound, NodeStaysSound}
 use Rattle.offline_eval.specs.Making.{TellsValue, IsFaultOf, TellsOne, TellsTwo, FaultOfOne, FaultOfTwo, TellsNode}
@@ -20,16 +19,16 @@ use Rattle.offline_eval.specs.Making.{FaultOfNode}
 ends_of : {lowest highest : Extended} {from to : ℕ} {s : Setting} → IsOver lowest highest from to s → HasEnds lowest highest s
 ends_of over = record { lowest = over.lowest; highest = over.highest }
 
-module _ {P : Type 0} where
+module _ {X : Type 0} where
   -- the node n has the child p, whose signal among the others is x, and its formula is made of that of the child
-  pub record HasOne (n : Node) (p : ℕ) (xs : List (List (Knot P))) (x : List (Knot P)) (make : Subformula → Subformula) : Type 0 where
+  pub record HasOne (n : Node) (p : ℕ) (xs : List X) (x : X) (make : Subformula → Subformula) : Type 0 where
     -- x is the signal of the child
     pub at_p : slice_get xs p ≡ Some x
     -- the formula of the node is made of that of the child
     pub is : (at : ℕ → Subformula) (i : ℕ) → tree_of at i n ≡ make (at p)
 
   -- the node n has the children p and q, whose signals are x and y, and its formula is made of theirs
-  pub record HasTwo (n : Node) (p q : ℕ) (xs : List (List (Knot P))) (x y : List (Knot P)) (make : Subformula → Subformula → Subformula) : Type 0 where
+  pub record HasTwo (n : Node) (p q : ℕ) (xs : List X) (x y : X) (make : Subformula → Subformula → Subformula) : Type 0 where
     -- x is the signal of the first child
     pub at_p : slice_get xs p ≡ Some x
     -- y is the signal of the second
@@ -37,19 +36,19 @@ module _ {P : Type 0} where
     -- the formula of the node is made of those of the children
     pub is : (at : ℕ → Subformula) (i : ℕ) → tree_of at i n ≡ make (at p) (at q)
 
-module _ {P : Type 0} (shape : ShapeOf P) (from to : ℕ) where
+module _ {X P : Type 0} (form : Form X P) (from to : ℕ) where
   -- two sound signals are over one domain
-  pub may_meet : (reach : ℕ) (x y : List (Knot P)) → IsSound shape from to reach x → IsSound shape from to reach y → MayMeet shape x y
+  pub may_meet : (reach : ℕ) (x y : X) → IsSound form from to reach x → IsSound form from to reach y → MayMeet form x y
   may_meet reach x y s u =
       record { left = s.limited; right = u.limited; begins = same_trans s.begins (same_sym u.begins); ends = same_trans s.ends (same_sym u.ends) }
 
   -- a sound signal is fit for every step
-  pub fit_of : (x : List (Knot P)) → to < 2 ^ 32 → IsSound shape from to 4294967295 x → IsFit shape x
+  pub fit_of : (x : X) → to < 2 ^ 32 → IsSound form from to 4294967295 x → IsFit form x
   fit_of x small s = record {
     limited = s.limited;
     first = le_trans (le_whole (from_zero from)) (ge_of_same s.begins);
     last = le_trans (le_of_same s.ends) (le_whole (below to small));
-    near = λ p h. near_reached (shape.base p) (s.bases p h);
+    near = λ p h. near_reached (form.shape.base p) (s.bases p h);
   }
     where
       from_zero : (n : ℕ) → pos 0 ≤ℤ pos n
@@ -62,7 +61,7 @@ module _ {P : Type 0} (shape : ShapeOf P) (from to : ℕ) where
       near_reached b (low, high) = (omega (arith, ints, low), omega (arith, ints, high))
 
   -- so for two
-  pub are_fit : (x y : List (Knot P)) → to < 2 ^ 32 → IsSound shape from to 4294967295 x → IsSound shape from to 4294967295 y → AreFit shape x y
+  pub are_fit : (x y : X) → to < 2 ^ 32 → IsSound form from to 4294967295 x → IsSound form from to 4294967295 y → AreFit form x y
   are_fit x y small s u = record {
     left = fit_of x small s;
     right = fit_of y small u;
@@ -71,42 +70,42 @@ module _ {P : Type 0} (shape : ShapeOf P) (from to : ℕ) where
   }
 
   -- a node without children
-  pub none_sound : (n : Node) (xs : List (List (Knot P))) (r : List (Knot P)) → ((reach : ℕ) → IsSound shape from to reach r)
-      → NodeStaysSound shape from to n xs r
+  pub none_sound : (n : Node) (xs : List X) (r : X) → ((reach : ℕ) → IsSound form from to reach r)
+      → NodeStaysSound form from to n xs r
   none_sound n xs r sound reach all = sound (reach + own_reach n)
 
   -- with one child
-  pub one_sound : (n : Node) (p own : ℕ) (xs : List (List (Knot P))) (x r : List (Knot P)) → slice_get xs p ≡ Some x → own_reach n ≡ own
-      → StaysSound shape own x r → NodeStaysSound shape from to n xs r
-  one_sound n p own xs x r at e sound reach all = subst (λ k. IsSound shape from to (reach + k) r) (sym e) (sound from to reach (all p x at))
+  pub one_sound : (n : Node) (p own : ℕ) (xs : List X) (x r : X) → slice_get xs p ≡ Some x → own_reach n ≡ own
+      → StaysSound form own x r → NodeStaysSound form from to n xs r
+  one_sound n p own xs x r at e sound reach all = subst (λ k. IsSound form from to (reach + k) r) (sym e) (sound from to reach (all p x at))
 
   -- with two children
-  pub two_sound : {n : Node} {p q : ℕ} {xs : List (List (Knot P))} {x y : List (Knot P)} {make : Subformula → Subformula → Subformula} (own : ℕ)
-      (r : List (Knot P)) → HasTwo n p q xs x y make → own_reach n ≡ own → StaySound shape own x y r → NodeStaysSound shape from to n xs r
+  pub two_sound : {n : Node} {p q : ℕ} {xs : List X} {x y : X} {make : Subformula → Subformula → Subformula} (own : ℕ)
+      (r : X) → HasTwo n p q xs x y make → own_reach n ≡ own → StaySound form own x y r → NodeStaysSound form from to n xs r
   two_sound {n} {p} {q} {xs} {x} {y} own r has e sound reach all =
-      subst (λ k. IsSound shape from to (reach + k) r) (sym e) (sound from to reach (all p x has.at_p) (all q y has.at_q))
+      subst (λ k. IsSound form from to (reach + k) r) (sym e) (sound from to reach (all p x has.at_p) (all q y has.at_q))
 
-module _ {P : Type 0} (shape : ShapeOf P) (from to : ℕ) where
+module _ {X P : Type 0} (form : Form X P) (from to : ℕ) where
   -- what a node with one child tells
-  pub one_told : {n : Node} {p : ℕ} {xs : List (List (Knot P))} {x : List (Knot P)} {make : Subformula → Subformula} (r : List (Knot P))
-      → HasOne n p xs x make → TellsOne shape make x r → TellsNode shape from to n xs r
+  pub one_told : {n : Node} {p : ℕ} {xs : List X} {x : X} {make : Subformula → Subformula} (r : X)
+      → HasOne n p xs x make → TellsOne form make x r → TellsNode form from to n xs r
   one_told {p = p} {x = x} r has told s at i over all =
-      subst (λ f. TellsValue shape s f r) (sym (has.is at i)) (told s (at p) (ends_of over) (all p x has.at_p))
+      subst (λ f. TellsValue form s f r) (sym (has.is at i)) (told s (at p) (ends_of over) (all p x has.at_p))
 
   -- and its fault
-  pub one_fault : {n : Node} {p : ℕ} {xs : List (List (Knot P))} {x : List (Knot P)} {make : Subformula → Subformula} (f : OpFault P)
-      → HasOne n p xs x make → FaultOfOne shape make x f → FaultOfNode shape from to n xs f
+  pub one_fault : {n : Node} {p : ℕ} {xs : List X} {x : X} {make : Subformula → Subformula} (f : OpFault P)
+      → HasOne n p xs x make → FaultOfOne form make x f → FaultOfNode form from to n xs f
   one_fault {p = p} {x = x} f has fault s at i over all =
-      subst (λ t. IsFaultOf shape s t f) (sym (has.is at i)) (fault s (at p) (ends_of over) (all p x has.at_p))
+      subst (λ t. IsFaultOf form.shape s t f) (sym (has.is at i)) (fault s (at p) (ends_of over) (all p x has.at_p))
 
   -- what a node with two children tells
-  pub two_told : {n : Node} {p q : ℕ} {xs : List (List (Knot P))} {x y : List (Knot P)} {make : Subformula → Subformula → Subformula} (r : List (Knot P))
-      → HasTwo n p q xs x y make → TellsTwo shape make x y r → TellsNode shape from to n xs r
+  pub two_told : {n : Node} {p q : ℕ} {xs : List X} {x y : X} {make : Subformula → Subformula → Subformula} (r : X)
+      → HasTwo n p q xs x y make → TellsTwo form make x y r → TellsNode form from to n xs r
   two_told {p = p} {q = q} {x = x} {y = y} r has told s at i over all =
-      subst (λ f. TellsValue shape s f r) (sym (has.is at i)) (told s (at p) (at q) (ends_of over) (all p x has.at_p) (all q y has.at_q))
+      subst (λ f. TellsValue form s f r) (sym (has.is at i)) (told s (at p) (at q) (ends_of over) (all p x has.at_p) (all q y has.at_q))
 
   -- and its fault
-  pub two_fault : {n : Node} {p q : ℕ} {xs : List (List (Knot P))} {x y : List (Knot P)} {make : Subformula → Subformula → Subformula} (f : OpFault P)
-      → HasTwo n p q xs x y make → FaultOfTwo shape make x y f → FaultOfNode shape from to n xs f
+  pub two_fault : {n : Node} {p q : ℕ} {xs : List X} {x y : X} {make : Subformula → Subformula → Subformula} (f : OpFault P)
+      → HasTwo n p q xs x y make → FaultOfTwo form make x y f → FaultOfNode form from to n xs f
   two_fault {p = p} {q = q} {x = x} {y = y} f has fault s at i over all =
-      subst (λ t. IsFaultOf shape s t f) (sym (has.is at i)) (fault s (at p) (at q) (ends_of over) (all p x has.at_p) (all q y has.at_q))
+      subst (λ t. IsFaultOf form.shape s t f) (sym (has.is at i)) (fault s (at p) (at q) (ends_of over) (all p x has.at_p) (all q y has.at_q))

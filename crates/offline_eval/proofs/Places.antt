@@ -13,6 +13,7 @@ use Rattle.stl_syntax.specs.SupInf.{Setting, Gives}
 use Rattle.stl_syntax.specs.declared.atom.Atom.{Atom}
 use Rattle.stl_syntax.specs.declared.node.Node.{Node}
 use Rattle.stl_syntax.specs.declared.node.Node.TheVariants.{Atom as Leaf}
+use Rattle.offline_eval.specs.Forms.{of_knots}
 use Rattle.offline_eval.specs.Inputs.{is_atom, atoms_before, TellAtoms, TellAtomsBelow}
 use Rattle.offline_eval.specs.Making.{AreSound, TellsValue}
 use Rattle.offline_eval.specs.Places.{reach_before, TakesOwn, PlaceStaysSound}
@@ -72,19 +73,20 @@ module _ {P : Type 0} where
 module _ {P : Type 0} (shape : ShapeOf P) where
   -- the signal that an atom takes is sound
   pub atom_sound : (from to : ℕ) (nodes : List Node) (i : ℕ) (x : List (Knot P)) (old new xs : List (List (Knot P))) → old ≡ x ∷ new
-      → AreSound shape from to 0 old → PlaceStaysSound shape from to nodes i xs x
-  atom_sound from to nodes i x old new xs e sound all = sound_more shape from to 0 (reach_before nodes (i + 1)) x (omega arith)
+      → AreSound (of_knots shape) from to 0 old → PlaceStaysSound shape from to nodes i xs x
+  atom_sound from to nodes i x old new xs e sound all = sound_more (of_knots shape) from to 0 (reach_before nodes (i + 1)) x (omega arith)
       (sound 0 x (subst (λ o. slice_get o 0 ≡ Some x) (sym e) refl))
 
   -- and tells the atom
   pub atom_told : {x : List (Knot P)} {new : List (List (Knot P))} (nodes : List Node) (i : ℕ) (a : Atom) (old all : List (List (Knot P))) (s : Setting)
       → slice_get nodes i ≡ Some (Leaf a) → subformula nodes i ≡ tree_of (subformula nodes) i (Leaf a)
-      → old ≡ x ∷ new → old ≡ drop (atoms_before nodes i) all → TellAtoms shape nodes all s → TellsValue shape s (subformula nodes i) x
+      → old ≡ x ∷ new → old ≡ drop (atoms_before nodes i) all → TellAtoms shape nodes all s
+      → TellsValue (of_knots shape) s (subformula nodes i) x
   atom_told {x} {new} nodes i a old all s at tree e left told =
       let o = told i a (slice_get_within nodes i (Leaf a) at) at in
       let here = (drop_at all (atoms_before nodes i) x new (sym e ∙ left)).0 in
       let same : o.0 ≡ x = same_Some _ _ (sym o.1 ∙ here) in
-      subst (λ f. TellsValue shape s f x) (sym tree) (subst (TellsValue shape s (atom i a)) same o.2)
+      subst (λ f. TellsValue (of_knots shape) s f x) (sym tree) (subst (TellsValue (of_knots shape) s (atom i a)) same o.2)
 
   -- before the first node nothing is told
   pub told_none : (nodes : List Node) (s : Setting) → TellAtomsBelow shape 0 nodes [] s

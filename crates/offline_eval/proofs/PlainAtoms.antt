@@ -19,6 +19,7 @@ use Rattle.stl_syntax.specs.SupInf.{Gives, placed, signals}
 use Rattle.stl_syntax.specs.declared.atom.Atom.{Atom}
 use Rattle.stl_syntax.specs.declared.node.Node.{Node}
 use Rattle.stl_syntax.specs.declared.node.Node.TheVariants.{Atom as Leaf}
+use Rattle.offline_eval.specs.Forms.{of_knots}
 use Rattle.offline_eval.specs.Inputs.{atoms_before, is_atom, IsInput, TellAtoms}
 use Rattle.offline_eval.specs.PlainAtoms.{knots_setting}
 use Rattle.offline_eval.proofs.Evaluating.{some_left}
@@ -44,7 +45,7 @@ got_mapped f (y ∷ xs) (suc i) x h = got_mapped f xs i x h
 
 module _ {P : Type 0} (shape : ShapeOf P) (nodes : List Node) (from to : ℕ) (atoms : List (List (Knot P)))
     (count : length atoms ≡ atoms_before nodes (length nodes))
-    (sound : All (IsSignal shape) atoms) (inputs : All (IsInput shape from to) atoms) where
+    (sound : All (IsSignal shape) atoms) (inputs : All (IsInput (of_knots shape) from to) atoms) where
   -- the signal of an atom
   its_signal : (i : ℕ) (a : Atom) → slice_get nodes i ≡ Some (Leaf a) → (x : List (Knot P)) × (slice_get atoms (atoms_before nodes i) ≡ Some x)
   its_signal i a at =
@@ -57,7 +58,7 @@ module _ {P : Type 0} (shape : ShapeOf P) (nodes : List Node) (from to : ℕ) (a
       let (x, there) = its_signal i a at in
       let n = atoms_before nodes i in
       let is_signal = subst (IsSignal shape) (get_or_from_slice_get atoms n x x there) (sound n x (slice_get_within atoms n x there)) in
-      let input = subst (IsInput shape from to) (get_or_from_slice_get atoms n x x there) (inputs n x (slice_get_within atoms n x there)) in
+      let input = subst (IsInput (of_knots shape) from to) (get_or_from_slice_get atoms n x x there) (inputs n x (slice_get_within atoms n x there)) in
       let place = placed_at nodes (map (knots_of shape) atoms) i a (knots_of shape x) at (got_mapped (knots_of shape) atoms n x there) in
       let given : (t : Rational) (v : Extended) → Reads (knots_of shape x) t v → Gives (signals (placed nodes (map (knots_of shape) atoms))) i a t v =
       λ t v h. (knots_of shape x, place, h) in

@@ -1,25 +1,25 @@
 -- What the signals that are made on the way keep.
-use Rattle.std.proofs.Common.{◌≡◌, ℕ, ℤ, pos, neg_ℤ, ◌+◌, ◌≤◌, ◌^◌, ◌≤ℤ◌, ◌<ℤ◌, ◌-ℤ◌, ◌+ℤ◌, ◌⊎◌, inl, inr, Bool, true, false, List, [], ◌∷◌, refl, arith}
+use Rattle.std.proofs.Common.{◌≡◌, ℕ, ℤ, pos, neg_ℤ, ◌+◌, ◌≤◌, ◌^◌, ◌≤ℤ◌, ◌<ℤ◌, ◌-ℤ◌, ◌+ℤ◌, ◌⊎◌, inl, inr, Bool, true, false, refl, arith}
 use Rattle.std.specs.Prelude.{IsTrue}
 use Rattle.std.proofs.lemmas.Int.{ints}
-use Rattle.rational.specs.Time.{Rational, whole, ◌≈◌}
-use Rattle.rational.specs.Rational.{IsWithin}
+use Rattle.rational.specs.Time.{Rational, ◌≈◌}
 use Rattle.rational.specs.Extended.{Extended}
 use Rattle.rational.specs.Affine.{IsBounded}
 use Rattle.rational.specs.Windows.{Function}
-use Rattle.rational.proofs.Order.{le_trans, le_of_same, ge_of_same, same_trans, same_sym}
-use Rattle.value_laws.specs.Members.{ShapeOf, ShapeLaws}
-use Rattle.pl_signal.specs.declared.knot.Knot.{Knot}
-use Rattle.pl_signal.specs.Knots.{start, stop, HasShape}
-use Rattle.pl_signal.specs.Limits.{IsLimited}
-use Rattle.pl_signal.specs.Moves.{Tells}
-use Rattle.until_ops.specs.Untils.{BasesOfTwo}
+use Rattle.rational.proofs.Order.{same_trans}
+use Rattle.value_laws.specs.Members.{ShapeLaws}
+use Rattle.offline_eval.specs.Forms.{Form}
 use Rattle.offline_eval.specs.Making.{IsSound, StaysSound, StaySound}
-use Rattle.pl_signal.proofs.Limits.{limited, limited_last}
+use Rattle.offline_eval.proofs.Forms.{FormLaws}
 
 -- the bases that a signal may have whose shapes were moved by at most `reach`
 abbrev pub IsReached : ℕ → ℤ → Type 0
 IsReached reach b = (neg_ℤ (pos reach) ≤ℤ b) × (b <ℤ pos (2 ^ 32 + reach))
+
+-- each moving shape of the new signal has the base of a moving shape of one of the two
+abbrev pub BasesOfTwo : {X P : Type 0} → Form X P → X → X → X → Type 0
+BasesOfTwo {P} form x y r = (p : P) → form.HasShape r p → IsTrue (form.shape.moves p)
+    → (q : P) × (form.HasShape x q ⊎ form.HasShape y q) × IsTrue (form.shape.moves q) × (form.shape.base p ≡ form.shape.base q)
 
 -- what lies within a reach lies within a longer one
 pub reached_more : (reach more : ℕ) (b : ℤ) → reach ≤ more → IsReached reach b → IsReached more b
@@ -29,26 +29,12 @@ reached_more reach more b h (low, high) = (omega (arith, ints, h, low), omega (a
 pub reached_zero : (reach : ℕ) (b : ℤ) → b ≡ pos 0 → IsReached reach b
 reached_zero reach b e = (omega (arith, ints, e), omega (arith, ints, e))
 
--- whether a time is within its limits does not depend on its pair
-pub same_within : {a b : Rational} → a ≈ b → IsWithin (2 ^ 34) a → IsWithin (2 ^ 34) b
-same_within e h = (le_trans h.0 (le_of_same e), le_trans (ge_of_same e) h.1)
-
-module _ {P : Type 0} (shape : ShapeOf P) where
-  zero_within : IsWithin (2 ^ 34) (whole (pos 0))
-  zero_within = (omega arith, omega arith)
-
-  -- a limited signal lies within 2^34
-  pub ends_within : (x : List (Knot P)) → IsLimited shape x → IsWithin (2 ^ 34) (start x) × IsWithin (2 ^ 34) (stop x)
-  ends_within [] l = (zero_within, zero_within)
-  ends_within (k ∷ ks) l = (l.0.when, limited_last shape k ks l)
-
+module _ {X P : Type 0} {form : Form X P} (laws : FormLaws form) where
   -- a signal over the same domain with bounded values is limited too
-  pub limited_along : (F : Function) (x r : List (Knot P)) → IsLimited shape x → Tells shape F (start x) (stop x) r
-      → ((t : Rational) (v : Extended) → F t v → IsBounded (2 ^ 31) v) → IsLimited shape r
+  pub limited_along : (F : Function) (x r : X) → form.IsLimited x → form.Tells F (form.start x) (form.stop x) r
+      → ((t : Rational) (v : Extended) → F t v → IsBounded (2 ^ 31) v) → form.IsLimited r
   limited_along F x r l tells bounded =
-      let within = ends_within x l in
-      limited shape r tells.signal (λ t v w. bounded t v ((tells.worth t v).0 w).1) (same_within (same_sym tells.begins) within.0)
-      (same_within (same_sym tells.ends) within.1)
+      laws.limited F (form.start x) (form.stop x) r tells bounded (laws.start_within x l) (laws.stop_within x l)
 
 -- the base is that of the old shape, but for a move by at most `own`
 pub record IsMovedBy (own : ℕ) (old new : ℤ) : Type 0 where
@@ -69,63 +55,67 @@ not_moved old new e = record { not_less = omega (arith, ints, e); not_more = ome
 pub hardly_moved : (own : ℕ) (old new : ℤ) → new ≡ old → IsMovedBy own old new
 hardly_moved own old new e = record { not_less = omega (arith, ints, e); not_more = omega (arith, ints, e) }
 
-module _ {P : Type 0} (shape : ShapeOf P) (laws : ShapeLaws shape) where
+module _ {X P : Type 0} (form : Form X P) (laws : ShapeLaws form.shape) where
   -- what holds of the bases of the moving shapes holds of all
-  all_reached : (reach : ℕ) (p : P) → (IsTrue (shape.moves p) → IsReached reach (shape.base p)) → IsReached reach (shape.base p)
-  all_reached reach p moving = by_test (shape.moves p) refl
+  all_reached : (reach : ℕ) (p : P) → (IsTrue (form.shape.moves p) → IsReached reach (form.shape.base p)) → IsReached reach (form.shape.base p)
+  all_reached reach p moving = by_test (form.shape.moves p) refl
     where
-      by_test : (b : Bool) → shape.moves p ≡ b → IsReached reach (shape.base p)
+      by_test : (b : Bool) → form.shape.moves p ≡ b → IsReached reach (form.shape.base p)
       by_test true e = moving e
-      by_test false e = reached_zero reach (shape.base p) (laws.base_of_others p e)
+      by_test false e = reached_zero reach (form.shape.base p) (laws.base_of_others p e)
 
   -- each moving shape has the base of a shape of the old signal, moved by at most `own`
-  abbrev pub MovedFrom : ℕ → List (Knot P) → List (Knot P) → Type 0
-  MovedFrom own x r = (p : P) → HasShape r p → IsTrue (shape.moves p) → (q : P) × HasShape x q × IsMovedBy own (shape.base q) (shape.base p)
+  abbrev pub MovedFrom : ℕ → X → X → Type 0
+  MovedFrom own x r = (p : P) → form.HasShape r p → IsTrue (form.shape.moves p)
+      → (q : P) × form.HasShape x q × IsMovedBy own (form.shape.base q) (form.shape.base p)
 
   -- what a node makes of one signal stays sound
-  pub stays_sound : (own : ℕ) (x r : List (Knot P)) → start r ≈ start x → stop r ≈ stop x → IsLimited shape r → MovedFrom own x r → StaysSound shape own x r
+  pub stays_sound : (own : ℕ) (x r : X) → form.start r ≈ form.start x → form.stop r ≈ form.stop x → form.IsLimited r → MovedFrom own x r
+      → StaysSound form own x r
   stays_sound own x r begins ends limited moved from to reach s = record {
     begins = same_trans begins s.begins;
     ends = same_trans ends s.ends;
     limited = limited;
-    bases = λ p h. all_reached (reach + own) p (λ m. let o = moved p h m in reached_moved reach own (shape.base o.0) (shape.base p) (s.bases o.0 o.1) o.2);
+    bases = λ p h. all_reached (reach + own) p
+        (λ m. let o = moved p h m in reached_moved reach own (form.shape.base o.0) (form.shape.base p) (s.bases o.0 o.1) o.2);
   }
 
   -- each moving shape has the base of a shape of one of the two old signals, moved by at most `own`
-  abbrev pub MovedFromTwo : ℕ → List (Knot P) → List (Knot P) → List (Knot P) → Type 0
-  MovedFromTwo own x y r = (p : P) → HasShape r p → IsTrue (shape.moves p) → (q : P) × (HasShape x q ⊎ HasShape y q)
-      × IsMovedBy own (shape.base q) (shape.base p)
+  abbrev pub MovedFromTwo : ℕ → X → X → X → Type 0
+  MovedFromTwo own x y r = (p : P) → form.HasShape r p → IsTrue (form.shape.moves p) → (q : P) × (form.HasShape x q ⊎ form.HasShape y q)
+      × IsMovedBy own (form.shape.base q) (form.shape.base p)
 
   -- shapes that stay where they are move by no more than any number
-  pub of_two_more : (own : ℕ) (x y r : List (Knot P)) → BasesOfTwo shape x y r → MovedFromTwo own x y r
-  of_two_more own x y r bases p h m = let o = bases p h m in (o.0, o.1, hardly_moved own (shape.base o.0) (shape.base p) o.3)
+  pub of_two_more : (own : ℕ) (x y r : X) → BasesOfTwo form x y r → MovedFromTwo own x y r
+  of_two_more own x y r bases p h m = let o = bases p h m in (o.0, o.1, hardly_moved own (form.shape.base o.0) (form.shape.base p) o.3)
 
   -- r goes from end to end of x, is limited, and is made of the shapes of x and y, moved by at most `own`
-  pub record IsMadeOf (own : ℕ) (x y r : List (Knot P)) : Type 0 where
+  pub record IsMadeOf (own : ℕ) (x y r : X) : Type 0 where
     -- it begins with x
-    pub begins : start r ≈ start x
+    pub begins : form.start r ≈ form.start x
     -- and ends with it
-    pub ends : stop r ≈ stop x
+    pub ends : form.stop r ≈ form.stop x
     -- it is within limits
-    pub limited : IsLimited shape r
+    pub limited : form.IsLimited r
     -- its moving shapes come from those of x and y
     pub moved : MovedFromTwo own x y r
 
   -- and of two
-  pub stay_sound : (own : ℕ) (x y r : List (Knot P)) → IsMadeOf own x y r → StaySound shape own x y r
+  pub stay_sound : (own : ℕ) (x y r : X) → IsMadeOf own x y r → StaySound form own x y r
   stay_sound own x y r made from to reach s u = record {
     begins = same_trans made.begins s.begins;
     ends = same_trans made.ends s.ends;
     limited = made.limited;
-    bases = λ p h. all_reached (reach + own) p (λ m. let o = made.moved p h m in reached_moved reach own (shape.base o.0) (shape.base p) (of_one o.0 o.1) o.2);
+    bases = λ p h. all_reached (reach + own) p
+        (λ m. let o = made.moved p h m in reached_moved reach own (form.shape.base o.0) (form.shape.base p) (of_one o.0 o.1) o.2);
   }
     where
-      of_one : (q : P) → HasShape x q ⊎ HasShape y q → IsReached reach (shape.base q)
+      of_one : (q : P) → form.HasShape x q ⊎ form.HasShape y q → IsReached reach (form.shape.base q)
       of_one q (inl h) = s.bases q h
       of_one q (inr h) = u.bases q h
 
-module _ {P : Type 0} (shape : ShapeOf P) where
+module _ {X P : Type 0} (form : Form X P) where
   -- a sound signal is sound with a larger reach
-  pub sound_more : (from to reach more : ℕ) (x : List (Knot P)) → reach ≤ more → IsSound shape from to reach x → IsSound shape from to more x
+  pub sound_more : (from to reach more : ℕ) (x : X) → reach ≤ more → IsSound form from to reach x → IsSound form from to more x
   sound_more from to reach more x h s =
-      record { begins = s.begins; ends = s.ends; limited = s.limited; bases = λ p i. reached_more reach more (shape.base p) h (s.bases p i) }
+      record { begins = s.begins; ends = s.ends; limited = s.limited; bases = λ p i. reached_more reach more (form.shape.base p) h (s.bases p i) }

@@ -5,12 +5,9 @@ use Rattle.std.proofs.lemmas.Option.{slice_get-get_or}
 use Rattle.rational.specs.Time.{Rational, Within, closed}
 use Rattle.rational.specs.Extended.{value_at, ◌≤ᵉ◌}
 use Rattle.rational.specs.Windows.{IsInfOver}
-use Rattle.rational.proofs.Order.{le_trans, le_of_same, ge_of_same}
+use Rattle.rational.proofs.Order.{le_trans}
 use Rattle.rational.proofs.WindowLemmas.{inf_alike}
-use Rattle.value_laws.specs.Members.{ShapeOf, ShapeLaws}
-use Rattle.pl_signal.specs.declared.knot.Knot.{Knot}
-use Rattle.pl_signal.proofs.Values.{every_time}
-use Rattle.pl_signal.proofs.SupLemmas.{signal_inf}
+use Rattle.value_laws.specs.Members.{ShapeLaws}
 use Rattle.stl_syntax.specs.Formula.{Subformula, subformula, tree_of, HasChildrenBelow}
 use Rattle.stl_syntax.specs.PostOrder.{IsPostOrder}
 use Rattle.stl_syntax.specs.SupInf.{Setting, SupInf, HasValue, HasValues, HasInf, HasInfs}
@@ -18,29 +15,31 @@ use Rattle.stl_syntax.specs.declared.node.Node.{Node}
 use Rattle.stl_syntax.specs.declared.node.Node.TheVariants.{Const, Atom as Leaf, Not, And, Or, Implies, Until, Eventually, Always, Since, Once, Historically}
 use Rattle.stl_syntax.proofs.FormulaLemmas.{subformula-at}
 use Rattle.stl_syntax.proofs.PostOrderLemmas.{placed}
+use Rattle.offline_eval.specs.Forms.{Form}
 use Rattle.offline_eval.specs.Making.{TellsValue}
 use Rattle.offline_eval.specs.Evaluation.{TellNodes}
+use Rattle.offline_eval.proofs.Forms.{FormLaws}
 
-module _ {P : Type 0} (shape : ShapeOf P) where
+module _ {X P : Type 0} {form : Form X P} (laws : FormLaws form) where
   -- what a signal tells has a value at each time of the domain
-  pub has_value : (p : Subformula) (s : Setting) (x : List (Knot P)) → TellsValue shape s p x → HasValue p s
+  pub has_value : (p : Subformula) (s : Setting) (x : X) → TellsValue form s p x → HasValue p s
   has_value p s x tells t i =
-      let o = every_time shape x t tells.signal
-      (record { above = le_trans (le_of_same tells.begins) i.above; below = le_trans i.below (ge_of_same tells.ends) }) in
-      (o.0, ((tells.worth t o.0).0 o.1).1)
+      let o = laws.every_time (SupInf p s) s.from s.to x t tells i in
+      (o.0, (((laws.told (SupInf p s) s.from s.to x tells).worth t o.0).0 o.1).1)
 
   -- and an Inf between each two
-  pub has_inf : ((q : P) (t : Rational) → value_at (shape.function q) t ≤ᵉ shape.highest) → (p : Subformula) (s : Setting) (x : List (Knot P))
-      → s.highest ≡ shape.highest → TellsValue shape s p x → HasInf p s
+  pub has_inf : ((q : P) (t : Rational) → value_at (form.shape.function q) t ≤ᵉ form.shape.highest) → (p : Subformula) (s : Setting) (x : X)
+      → s.highest ≡ form.shape.highest → TellsValue form s p x → HasInf p s
   has_inf most p s x e tells t u i j =
-      let y = signal_inf shape most x (closed t u) in (
+      let is = laws.told (SupInf p s) s.from s.to x tells in
+      let y = laws.infs most x (closed t u) in (
         y.0,
-        subst (λ h. IsInfOver h (Within t u) (SupInf p s) y.0) (sym e) (inf_alike shape.highest y.0
-            (λ v (w, on, worth). (w, record { above = on.above; below = on.below }, ((tells.worth w v).0 worth).1))
+        subst (λ h. IsInfOver h (Within t u) (SupInf p s) y.0) (sym e) (inf_alike form.shape.highest y.0
+            (λ v (w, on, worth). (w, record { above = on.above; below = on.below }, ((is.worth w v).0 worth).1))
             (λ v (w, on, told). (
               w,
               record { above = on.above; below = on.below },
-              (tells.worth w v).1
+              (is.worth w v).1
                   (record { above = le_trans i.above on.above; below = le_trans on.below j.below }, told),
             )) y.1),
       )
@@ -65,8 +64,8 @@ both_of at i (Since p q x y) s below all here = let a = all p below.0 in let b =
 both_of at i (Once p x y c d) s below all here = let a = all p below in ((here, a.0.0), a.0.1)
 both_of at i (Historically p x y c d) s below all here = let a = all p below in ((here, a.0.0), a.0.1)
 
-module _ {P : Type 0} (shape : ShapeOf P) (laws : ShapeLaws shape) (nodes : List Node) (signals : List (List (Knot P))) (s : Setting)
-    (post : IsPostOrder nodes) (e : s.highest ≡ shape.highest) (told : TellNodes shape nodes signals s) where
+module _ {X P : Type 0} {form : Form X P} (laws : FormLaws form) (kind : ShapeLaws form.shape) (nodes : List Node) (signals : List X) (s : Setting)
+    (post : IsPostOrder nodes) (e : s.highest ≡ form.shape.highest) (told : TellNodes form nodes signals s) where
   -- each place below n has both, and an Inf
   below_has : (n k : ℕ) → k < n → n ≤ length nodes → HasBoth s (subformula nodes k) × HasInf (subformula nodes k) s
   below_has zero k h within = absurd (omega (arith, h))
@@ -77,10 +76,10 @@ module _ {P : Type 0} (shape : ShapeOf P) (laws : ShapeLaws shape) (nodes : List
       let children = placed nodes k node post at in
       let tree : subformula nodes k ≡ tree_of (subformula nodes) k node = subformula-at nodes k node at children in
       let x = told k inside in
-      let value = has_value shape (subformula nodes k) s x.0 x.2 in
+      let value = has_value laws (subformula nodes k) s x.0 x.2 in
       let both = both_of (subformula nodes) k node s children (λ j l. below_has n j (omega (arith, h, l)) (omega (arith, within)))
       (subst (λ p. HasValue p s) tree value) in
-      (subst (HasBoth s) (sym tree) both, has_inf shape laws.highest_is_greatest (subformula nodes k) s x.0 e x.2)
+      (subst (HasBoth s) (sym tree) both, has_inf laws kind.highest_is_greatest (subformula nodes k) s x.0 e x.2)
 
   -- so for every node
   pub all_have : (i : ℕ) → i < length nodes → HasValues (subformula nodes i) s × HasInfs (subformula nodes i) s

@@ -2,24 +2,22 @@
 use Rattle.std.specs.Prelude.{◌≡◌, ◌<◌, ℕ, List, length, Some, slice_get}
 use Rattle.frac128.specs.Value.{value}
 use Rattle.value_laws.specs.Members.{ShapeOf}
-use Rattle.pl_signal.specs.declared.knot.Knot.{Knot}
 use Rattle.pl_signal.specs.declared.faults.WidePair.{WidePair}
 use Rattle.pl_signal.specs.declared.faults.WidePair.TheVariants.{Cross, Value}
-use Rattle.pl_signal.specs.Moves.{Tells}
 use Rattle.stl_syntax.specs.Formula.{subformula}
 use Rattle.stl_syntax.specs.SupInf.{Setting, SupInf}
 use Rattle.stl_syntax.specs.WideCause.{IsCrossingCause, IsValueCause}
 use Rattle.stl_syntax.specs.declared.node.Node.{Node}
+use Rattle.offline_eval.specs.Forms.{Form}
 use Rattle.offline_eval.specs.declared.faults.EvalFault.{EvalFault}
 use Rattle.offline_eval.specs.declared.faults.EvalFault.TheVariants as F
 
-module _ {P : Type 0} (shape : ShapeOf P) where
-  -- the signal at each node's place tells over the domain the value of the node's subformula
-  abbrev pub TellNodes : List Node → List (List (Knot P)) → Setting → Type 0
-  TellNodes nodes signals s =
-      (i : ℕ) → i < length nodes
-      → (x : List (Knot P)) × (slice_get signals i ≡ Some x) × Tells shape (SupInf (subformula nodes i) s) s.from s.to x
+-- the signal at each node's place tells over the domain the value of the node's subformula
+abbrev pub TellNodes : {X P : Type 0} → Form X P → List Node → List X → Setting → Type 0
+TellNodes {X} form nodes signals s =
+    (i : ℕ) → i < length nodes → (x : X) × (slice_get signals i ≡ Some x) × form.Tells (SupInf (subformula nodes i) s) s.from s.to x
 
+module _ {P : Type 0} (shape : ShapeOf P) where
   -- the pair is in play at the node, and needs its denominator
   abbrev pub IsCauseAt : List Node → Setting → ℕ → WidePair P → Type 0
   IsCauseAt nodes s i (Cross p q a b den) = IsCrossingCause nodes s i (shape.function p) (shape.function q) (value a) (value b) den

@@ -4,13 +4,12 @@ use Rattle.rational.specs.Time.{whole, ◌≈◌}
 use Rattle.rational.specs.Extended.{Extended}
 use Rattle.value_laws.specs.Members.{ShapeOf}
 use Rattle.pl_signal.specs.declared.knot.Knot.{Knot}
-use Rattle.pl_signal.specs.Knots.{start, stop, HasShape}
-use Rattle.pl_signal.specs.Limits.{IsLimited}
 use Rattle.pl_signal.specs.Moves.{Tells}
 use Rattle.stl_syntax.specs.SupInf.{Setting, Gives}
 use Rattle.stl_syntax.specs.declared.atom.Atom.{Atom}
 use Rattle.stl_syntax.specs.declared.node.Node.{Node}
 use Rattle.stl_syntax.specs.declared.node.Node.TheVariants.{Atom as Leaf}
+use Rattle.offline_eval.specs.Forms.{Form}
 
 -- whether the node is an atom
 abbrev pub is_atom : Node → Bool
@@ -28,14 +27,14 @@ pub record IsOver (least greatest : Extended) (first last : ℕ) (s : Setting) :
   pub from : s.from ≡ whole (pos first)
   pub to : s.to ≡ whole (pos last)
 
-module _ {P : Type 0} (shape : ShapeOf P) where
-  -- a signal over the domain; its bases are times of 32 bits, and its values are infinite or within 2^31
-  pub record IsInput (from to : ℕ) (x : List (Knot P)) : Type 0 where
-    pub begins : start x ≈ whole (pos from)
-    pub ends : stop x ≈ whole (pos to)
-    pub bases : (p : P) → HasShape x p → (pos 0 ≤ℤ shape.base p) × (shape.base p <ℤ pos (2 ^ 32))
-    pub limited : IsLimited shape x
+-- a signal in either form over the domain; its bases are times of 32 bits, and its values are infinite or within 2^31
+pub record IsInput {X P : Type 0} (form : Form X P) (from to : ℕ) (x : X) : Type 0 where
+  pub begins : form.start x ≈ whole (pos from)
+  pub ends : form.stop x ≈ whole (pos to)
+  pub bases : (p : P) → form.HasShape x p → (pos 0 ≤ℤ form.shape.base p) × (form.shape.base p <ℤ pos (2 ^ 32))
+  pub limited : form.IsLimited x
 
+module _ {P : Type 0} (shape : ShapeOf P) where
   -- each atom among the first nodes has its signal, which tells over the domain what the setting's reading gives the atom
   abbrev pub TellAtomsBelow : ℕ → List Node → List (List (Knot P)) → Setting → Type 0
   TellAtomsBelow n nodes signals s =

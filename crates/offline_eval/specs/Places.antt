@@ -7,6 +7,7 @@ use Rattle.stl_syntax.specs.Formula.{Subformula, subformula, tree_of}
 use Rattle.stl_syntax.specs.Limits.{own_reach}
 use Rattle.stl_syntax.specs.SupInf.{Setting}
 use Rattle.stl_syntax.specs.declared.node.Node.{Node}
+use Rattle.offline_eval.specs.Forms.{of_knots}
 use Rattle.offline_eval.specs.Inputs.{atoms_before, IsOver, TellAtoms}
 use Rattle.offline_eval.specs.Making.{AreSound, IsSound, TellAt, TellsValue, IsFaultOf}
 
@@ -21,7 +22,8 @@ TakesOwn {P} nodes i old new = (all : List (List (Knot P))) → old ≡ drop (at
 module _ {P : Type 0} (shape : ShapeOf P) where
   -- the new signal is sound where those before it are
   abbrev pub PlaceStaysSound : ℕ → ℕ → List Node → ℕ → List (List (Knot P)) → List (Knot P) → Type 0
-  PlaceStaysSound from to nodes i xs r = AreSound shape from to (reach_before nodes i) xs → IsSound shape from to (reach_before nodes (i + 1)) r
+  PlaceStaysSound from to nodes i xs r = AreSound (of_knots shape) from to (reach_before nodes i) xs
+      → IsSound (of_knots shape) from to (reach_before nodes (i + 1)) r
 
 -- the formulas at the places are those of the nodes where the node at place i has its children
 abbrev pub AgreeAt : List Node → ℕ → (ℕ → Subformula) → Type 0
@@ -33,10 +35,10 @@ module _ {P : Type 0} (shape : ShapeOf P) where
   TellsPlace from to nodes i left xs r =
       (s : Setting) (at : ℕ → Subformula) (all : List (List (Knot P))) → IsOver shape.lowest shape.highest from to s
       → left ≡ drop (atoms_before nodes i) all → TellAtoms shape nodes all s
-      → AgreeAt nodes i at → TellAt shape s at xs → TellsValue shape s (subformula nodes i) r
+      → AgreeAt nodes i at → TellAt (of_knots shape) s at xs → TellsValue (of_knots shape) s (subformula nodes i) r
 
   -- there a fault is one of its node
   abbrev pub FaultOfPlace : ℕ → ℕ → List Node → ℕ → List (List (Knot P)) → OpFault P → Type 0
   FaultOfPlace from to nodes i xs e =
-      (s : Setting) (at : ℕ → Subformula) → IsOver shape.lowest shape.highest from to s → AgreeAt nodes i at → TellAt shape s at xs
+      (s : Setting) (at : ℕ → Subformula) → IsOver shape.lowest shape.highest from to s → AgreeAt nodes i at → TellAt (of_knots shape) s at xs
       → IsFaultOf shape s (subformula nodes i) e

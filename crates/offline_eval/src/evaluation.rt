@@ -3,6 +3,7 @@ ghost use Rattle.std.specs.Prelude.{◌≡◌, ◌+◌, ◌<◌, ◌≤◌, All,
 ghost use Rattle.stl_syntax.specs.SupInf.{Setting};
 ghost use Rattle.stl_syntax.specs.declared.atom.Atom.{Atom};
 ghost use Rattle.stl_syntax.specs.declared.node.Node.TheVariants.{Atom as Leaf};
+ghost use Rattle.offline_eval.specs.Forms.{of_knots};
 ghost use Rattle.offline_eval.specs.Inputs.{atoms_before, IsInput, IsOver, TellAtoms};
 ghost use Rattle.offline_eval.specs.Evaluation.{IsFault, TellNodes};
 ghost use Rattle.offline_eval.specs.Making.{AreSound, fault_at};
@@ -57,8 +58,8 @@ pub(crate) fn next_signal<P: Shape>(
     requires inside { i < length formula.now.nodes }
     requires place { length done.now ≡ i }
     requires left { (a : Atom) → slice_get formula.now.nodes i ≡ Some (Leaf a) → 0 < length atoms.old }
-    requires inputs { AreSound P.Shape from to 0 atoms.old }
-    requires sound { AreSound P.Shape from to 4294967295 done.now }
+    requires inputs { AreSound (of_knots P.Shape) from to 0 atoms.old }
+    requires sound { AreSound (of_knots P.Shape) from to 4294967295 done.now }
     ensures rest { OnOk result (TakesOwn formula.now.nodes i atoms.old atoms.new) }
     ensures sound { IfOk result (PlaceStaysSound P.Shape from to formula.now.nodes i done.now) }
     ensures told { IfOk result (TellsPlace P.Shape from to formula.now.nodes i atoms.old done.now) }
@@ -99,10 +100,10 @@ pub fn eval<P: Shape, L: Ledger>(
 ) -> Result<Evaluated<P>, EvalFault<P>>
     requires order { from ≤ to }
     requires count { length atoms ≡ atoms_before formula.now.nodes (length formula.now.nodes) }
-    requires inputs { All (IsInput P.Shape from to) atoms }
+    requires inputs { All (IsInput (of_knots P.Shape) from to) atoms }
     ensures count { IfOk result (λ r. length r ≡ length formula.now.nodes) }
     ensures told { IfOk result (λ r. (s : Setting) → IsOver P.lowest P.highest from to s
-        → TellAtoms P.Shape formula.now.nodes atoms s → TellNodes P.Shape formula.now.nodes r s) }
+        → TellAtoms P.Shape formula.now.nodes atoms s → TellNodes (of_knots P.Shape) formula.now.nodes r s) }
     ensures wide { IfErr result (λ e. (s : Setting) → IsOver P.lowest P.highest from to s
         → TellAtoms P.Shape formula.now.nodes atoms s → IsFault P.Shape formula.now.nodes s e) }
     ensures steps { steps.new ≡ steps.old + 1 }

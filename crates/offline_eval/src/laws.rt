@@ -11,6 +11,7 @@ ghost use Rattle.stl_syntax.specs.declared.node.Node.{Node};
 ghost use Rattle.stl_syntax.specs.declared.node.Node.TheVariants.{Atom as Leaf};
 ghost use Rattle.value_laws.specs.declared.truth.Truth.{Truth};
 ghost use Rattle.value_laws.specs.declared.kleene.Kleene.{Kleene};
+ghost use Rattle.offline_eval.specs.Forms.{of_knots};
 ghost use Rattle.offline_eval.specs.Inputs.{atoms_before, is_atom, IsInput, IsOver, TellAtoms, TellAtomsBelow};
 ghost use Rattle.offline_eval.specs.PlainAtoms.{knots_setting};
 ghost use Rattle.offline_eval.specs.declared.faults.EvalFault.{EvalFault};
@@ -37,7 +38,7 @@ pub fn atoms_grow<P: Shape>()
 /// Where the signals tell the nodes, each subformula has a value at each time of the domain, and an Inf between each two times.
 pub fn told_have_values<P: Shape>()
     ensures { (nodes : List Node) (signals : List (List (Knot P))) (s : Setting) → IsPostOrder nodes → s.highest ≡ P.highest
-        → TellNodes P.Shape nodes signals s → (i : ℕ) → i < length nodes
+        → TellNodes (of_knots P.Shape) nodes signals s → (i : ℕ) → i < length nodes
         → HasValues (subformula nodes i) s × HasInfs (subformula nodes i) s }
 {}
 
@@ -45,7 +46,7 @@ pub fn told_have_values<P: Shape>()
 /// signal. So an evaluation always speaks of a setting, also for signals that come from no trace.
 pub fn atoms_are_told<P: Shape>()
     ensures { (nodes : List Node) (from to : ℕ) (atoms : List (List (Knot P))) → length atoms ≡ atoms_before nodes (length nodes)
-        → All (IsSignal P.Shape) atoms → All (IsInput P.Shape from to) atoms
+        → All (IsSignal P.Shape) atoms → All (IsInput (of_knots P.Shape) from to) atoms
         → TellAtoms P.Shape nodes atoms (knots_setting P.Shape nodes from to atoms) }
 {}
 
@@ -53,7 +54,7 @@ pub fn atoms_are_told<P: Shape>()
 pub fn truth_is_never_refused()
     ensures { (nodes : List Node) (from to : ℕ) (atoms : List (List (Knot Truth))) (e : EvalFault Truth)
         → length atoms ≡ atoms_before nodes (length nodes)
-        → All (IsSignal ⟦<value_laws::Truth as Shape>⟧) atoms → All (IsInput ⟦<value_laws::Truth as Shape>⟧ from to) atoms
+        → All (IsSignal ⟦<value_laws::Truth as Shape>⟧) atoms → All (IsInput (of_knots ⟦<value_laws::Truth as Shape>⟧) from to) atoms
         → ((s : Setting) → IsOver ⟦<value_laws::Truth as Shape>⟧.lowest ⟦<value_laws::Truth as Shape>⟧.highest from to s
         → TellAtoms ⟦<value_laws::Truth as Shape>⟧ nodes atoms s → IsFault ⟦<value_laws::Truth as Shape>⟧ nodes s e)
         → e ≡ EvalFault.Memory }
@@ -63,7 +64,7 @@ pub fn truth_is_never_refused()
 pub fn kleene_is_never_refused()
     ensures { (nodes : List Node) (from to : ℕ) (atoms : List (List (Knot Kleene))) (e : EvalFault Kleene)
         → length atoms ≡ atoms_before nodes (length nodes)
-        → All (IsSignal ⟦<value_laws::Kleene as Shape>⟧) atoms → All (IsInput ⟦<value_laws::Kleene as Shape>⟧ from to) atoms
+        → All (IsSignal ⟦<value_laws::Kleene as Shape>⟧) atoms → All (IsInput (of_knots ⟦<value_laws::Kleene as Shape>⟧) from to) atoms
         → ((s : Setting) → IsOver ⟦<value_laws::Kleene as Shape>⟧.lowest ⟦<value_laws::Kleene as Shape>⟧.highest from to s
         → TellAtoms ⟦<value_laws::Kleene as Shape>⟧ nodes atoms s → IsFault ⟦<value_laws::Kleene as Shape>⟧ nodes s e)
         → e ≡ EvalFault.Memory }

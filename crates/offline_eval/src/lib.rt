@@ -2,6 +2,10 @@
 #![tactic(auto)]
 
 mod atoms;
+mod chain_connectives;
+mod chain_nodes;
+mod chain_untils;
+mod chain_windows;
 mod connectives;
 mod evaluation;
 mod faults;

@@ -2,6 +2,7 @@
 ghost use Rattle.std.specs.Prelude.{◌≡◌, ◌≤◌, false, length, IfOk, IfErr};
 ghost use Rattle.stl_syntax.specs.Formula.{HasChildrenBelow};
 ghost use Rattle.stl_syntax.specs.WellFormed.{HasBounds};
+ghost use Rattle.offline_eval.specs.Forms.{of_knots};
 ghost use Rattle.offline_eval.specs.Inputs.{is_atom};
 ghost use Rattle.offline_eval.specs.Making.{AreSound, FaultOfNode, IsAhead, IsBehind, NodeStaysSound, TellsNode};
 
@@ -30,10 +31,10 @@ pub fn of_node<P: Shape>(
     requires kind { is_atom node.now ≡ false }
     requires bounds { HasBounds node.now }
     requires children { HasChildrenBelow (length done.now) node.now }
-    requires sound { AreSound P.Shape from to 4294967295 done.now }
-    ensures sound { IfOk result (NodeStaysSound P.Shape from to node.now done.now) }
-    ensures told { IfOk result (TellsNode P.Shape from to node.now done.now) }
-    ensures wide { IfErr result (FaultOfNode P.Shape from to node.now done.now) }
+    requires sound { AreSound (of_knots P.Shape) from to 4294967295 done.now }
+    ensures sound { IfOk result (NodeStaysSound (of_knots P.Shape) from to node.now done.now) }
+    ensures told { IfOk result (TellsNode (of_knots P.Shape) from to node.now done.now) }
+    ensures wide { IfErr result (FaultOfNode (of_knots P.Shape) from to node.now done.now) }
 {
     match node {
         Node::Const(holds) => Ok(constant_signal(alloc, from, to, *holds)?),
@@ -58,10 +59,10 @@ fn of_future<P: Shape>(
     requires kind { IsAhead node.now }
     requires bounds { HasBounds node.now }
     requires children { HasChildrenBelow (length done.now) node.now }
-    requires sound { AreSound P.Shape from to 4294967295 done.now }
-    ensures sound { IfOk result (NodeStaysSound P.Shape from to node.now done.now) }
-    ensures told { IfOk result (TellsNode P.Shape from to node.now done.now) }
-    ensures wide { IfErr result (FaultOfNode P.Shape from to node.now done.now) }
+    requires sound { AreSound (of_knots P.Shape) from to 4294967295 done.now }
+    ensures sound { IfOk result (NodeStaysSound (of_knots P.Shape) from to node.now done.now) }
+    ensures told { IfOk result (TellsNode (of_knots P.Shape) from to node.now done.now) }
+    ensures wide { IfErr result (FaultOfNode (of_knots P.Shape) from to node.now done.now) }
 {
     match node {
         Node::Until {
@@ -98,10 +99,10 @@ fn of_past<P: Shape>(
     requires kind { IsBehind node.now }
     requires bounds { HasBounds node.now }
     requires children { HasChildrenBelow (length done.now) node.now }
-    requires sound { AreSound P.Shape from to 4294967295 done.now }
-    ensures sound { IfOk result (NodeStaysSound P.Shape from to node.now done.now) }
-    ensures told { IfOk result (TellsNode P.Shape from to node.now done.now) }
-    ensures wide { IfErr result (FaultOfNode P.Shape from to node.now done.now) }
+    requires sound { AreSound (of_knots P.Shape) from to 4294967295 done.now }
+    ensures sound { IfOk result (NodeStaysSound (of_knots P.Shape) from to node.now done.now) }
+    ensures told { IfOk result (TellsNode (of_knots P.Shape) from to node.now done.now) }
+    ensures wide { IfErr result (FaultOfNode (of_knots P.Shape) from to node.now done.now) }
 {
     match node {
         Node::Since {

@@ -6,6 +6,7 @@ ghost use Rattle.stl_syntax.specs.SupInf.{Setting};
 ghost use Rattle.stl_syntax.specs.declared.atom.Atom.{Atom};
 ghost use Rattle.stl_syntax.specs.declared.node.Node.{Node};
 ghost use Rattle.stl_syntax.specs.declared.node.Node.TheVariants.{Atom as Leaf};
+ghost use Rattle.offline_eval.specs.Forms.{of_knots};
 ghost use Rattle.offline_eval.specs.Evaluation.{IsFault};
 ghost use Rattle.offline_eval.specs.Inputs.{is_atom, IsInput, IsOver};
 ghost use Rattle.offline_eval.specs.Keeping.{AreGivenUp, IsRootIn, IsStack, TellsStack};
@@ -51,7 +52,7 @@ fn give_up<P: Shape>(
 ) -> Result<(), Memory>
     requires order { from ≤ to }
     requires inside { IfSome place (λ p. p < length done.old.items) }
-    ensures { OnOk result (AreGivenUp P.Shape from to (option_to_list place) done.old.items done.new.items) }
+    ensures { OnOk result (AreGivenUp (of_knots P.Shape) from to (option_to_list place) done.old.items done.new.items) }
 {
     let Some(place) = place else {
         return Ok(());
@@ -72,7 +73,7 @@ fn keep<P: Shape>(
 ) -> Result<(), Memory>
     requires order { from ≤ to }
     requires children { All (λ p. p < length done.old.items) (children node.now) }
-    ensures { OnOk result (AreGivenUp P.Shape from to (children node.now) (done.old.items ++ signal ∷ []) done.new.items) }
+    ensures { OnOk result (AreGivenUp (of_knots P.Shape) from to (children node.now) (done.old.items ++ signal ∷ []) done.new.items) }
 {
     let (left, right) = operands(node);
     if done.push(signal).is_err() {
@@ -102,8 +103,8 @@ impl<P: Shape> Model for Stack<P> {
 impl<P: Shape> Stack<P> {
     /// No signals yet; it takes no memory.
     pub fn new(alloc: Global) -> Stack<P>
-        ensures stands { (from to : ℕ) (nodes : List Node) → IsStack P.Shape from to nodes 0 result }
-        ensures told { (nodes : List Node) (s : Setting) → TellsStack P.Shape nodes s 0 result }
+        ensures stands { (from to : ℕ) (nodes : List Node) → IsStack (of_knots P.Shape) from to nodes 0 result }
+        ensures told { (nodes : List Node) (s : Setting) → TellsStack (of_knots P.Shape) nodes s 0 result }
     {
         Stack {
             done: Vec::new(alloc),
@@ -117,12 +118,12 @@ impl<P: Shape> Stack<P> {
     /// `Memory` where memory is wanting. The stack is of no use then.
     pub fn give(&mut self, formula: &Formula, i: u32, signal: Signal<P>) -> Result<(), Memory>
         requires { (a : Atom) × (slice_get formula.now.nodes i ≡ Some (Leaf a)) }
-        ensures stands { OnOk result ((from to : ℕ) → IsInput P.Shape from to signal → IsStack P.Shape from to formula.now.nodes i self.old
-            → IsStack P.Shape from to formula.now.nodes (i + 1) self.new) }
+        ensures stands { OnOk result ((from to : ℕ) → IsInput (of_knots P.Shape) from to signal
+            → IsStack (of_knots P.Shape) from to formula.now.nodes i self.old → IsStack (of_knots P.Shape) from to formula.now.nodes (i + 1) self.new) }
         ensures told { OnOk result ((from to : ℕ) (s : Setting) → IsOver P.lowest P.highest from to s
-            → IsStack P.Shape from to formula.now.nodes i self.old → TellsValue P.Shape s (subformula formula.now.nodes i) signal
-            → TellsStack P.Shape formula.now.nodes s i self.old
-            → TellsStack P.Shape formula.now.nodes s (i + 1) self.new) }
+            → IsStack (of_knots P.Shape) from to formula.now.nodes i self.old
+            → TellsValue (of_knots P.Shape) s (subformula formula.now.nodes i) signal → TellsStack (of_knots P.Shape) formula.now.nodes s i self.old
+            → TellsStack (of_knots P.Shape) formula.now.nodes s (i + 1) self.new) }
     {
         // For the proof alone: the nodes stand in post-order.
         let _ = formula.len();
@@ -149,12 +150,12 @@ impl<P: Shape> Stack<P> {
         requires order { from ≤ to }
         requires inside { i < length formula.now.nodes }
         requires kind { (n : Node) → slice_get formula.now.nodes i ≡ Some n → is_atom n ≡ false }
-        requires stands { IsStack P.Shape from to formula.now.nodes i self.old }
-        ensures stands { OnOk result (IsStack P.Shape from to formula.now.nodes (i + 1) self.new) }
-        ensures told { OnOk result ((s : Setting) → IsOver P.lowest P.highest from to s → TellsStack P.Shape formula.now.nodes s i self.old
-            → TellsStack P.Shape formula.now.nodes s (i + 1) self.new) }
-        ensures wide { IfErr result (λ e. (s : Setting) → IsOver P.lowest P.highest from to s → TellsStack P.Shape formula.now.nodes s i self.old
-            → IsFault P.Shape formula.now.nodes s e) }
+        requires stands { IsStack (of_knots P.Shape) from to formula.now.nodes i self.old }
+        ensures stands { OnOk result (IsStack (of_knots P.Shape) from to formula.now.nodes (i + 1) self.new) }
+        ensures told { OnOk result ((s : Setting) → IsOver P.lowest P.highest from to s
+            → TellsStack (of_knots P.Shape) formula.now.nodes s i self.old → TellsStack (of_knots P.Shape) formula.now.nodes s (i + 1) self.new) }
+        ensures wide { IfErr result (λ e. (s : Setting) → IsOver P.lowest P.highest from to s
+            → TellsStack (of_knots P.Shape) formula.now.nodes s i self.old → IsFault P.Shape formula.now.nodes s e) }
     {
         // For the proof alone: the nodes stand in post-order.
         let _ = formula.len();
@@ -173,8 +174,8 @@ impl<P: Shape> Stack<P> {
     /// The signal of the root, once all nodes have had theirs.
     pub fn root(self) -> Signal<P>
         requires { 0 < length self }
-        ensures { (nodes : List Node) (s : Setting) → length nodes ≡ length self → TellsStack P.Shape nodes s (length nodes) self
-            → IsRootIn P.Shape nodes s result }
+        ensures { (nodes : List Node) (s : Setting) → length nodes ≡ length self → TellsStack (of_knots P.Shape) nodes s (length nodes) self
+            → IsRootIn (of_knots P.Shape) nodes s result }
     {
         let Stack { done } = self;
         let mut signals = done;

@@ -1,12 +1,16 @@
 //! The signals of until and since, each composed of four steps; over all times from now on, or up to now, they are one step.
-ghost use Rattle.std.specs.Prelude.{◌≤◌, IsTrue, IfSome, IfOk, IfErr};
+ghost use Rattle.std.specs.Prelude.{◌≤◌, ◌^◌, IsTrue, IfSome, IfOk, IfErr};
+ghost use Rattle.rational.specs.Rational.{IsWithin};
 ghost use Rattle.rational.specs.Time.{later, ◌≤ʳ◌};
+ghost use Rattle.frac128.specs.Value.{value};
 ghost use Rattle.pl_signal.specs.Knots.{start, stop};
 ghost use Rattle.stl_syntax.specs.Formula.{until, since};
 ghost use Rattle.stl_syntax.specs.Limits.{reach_of_bound};
 ghost use Rattle.stl_syntax.specs.WellFormed.{IsInOrder};
+ghost use Rattle.offline_eval.specs.Forms.{of_knots};
 ghost use Rattle.offline_eval.specs.Making.{AreFit, FaultOfTwo, IsFit, StaySound, TellsTwo};
 
+use frac128::Frac;
 use pl_signal::{OpFault, Signal};
 use signal_ops::lower;
 use std::cmp::Ordering;
@@ -22,11 +26,11 @@ pub(crate) fn bounded_until<P: Shape>(
     low: u32,
     high: u32,
 ) -> Result<Signal<P>, OpFault<P>>
-    requires fit { AreFit P.Shape x.now y.now }
+    requires fit { AreFit (of_knots P.Shape) x.now y.now }
     requires order { low ≤ high }
-    ensures sound { IfOk result (StaySound P.Shape high x.now y.now) }
-    ensures told { IfOk result (TellsTwo P.Shape (until low high) x.now y.now) }
-    ensures wide { IfErr result (FaultOfTwo P.Shape (until low high) x.now y.now) }
+    ensures sound { IfOk result (StaySound (of_knots P.Shape) high x.now y.now) }
+    ensures told { IfOk result (TellsTwo (of_knots P.Shape) (until low high) x.now y.now) }
+    ensures wide { IfErr result (FaultOfTwo (of_knots P.Shape) (until low high) x.now y.now) }
 {
     if low == 0 {
         return until_from_now(x, y, high);
@@ -40,10 +44,10 @@ fn until_from_now<P: Shape>(
     y: &Signal<P>,
     high: u32,
 ) -> Result<Signal<P>, OpFault<P>>
-    requires fit { AreFit P.Shape x.now y.now }
-    ensures sound { IfOk result (StaySound P.Shape high x.now y.now) }
-    ensures told { IfOk result (TellsTwo P.Shape (until 0 high) x.now y.now) }
-    ensures wide { IfErr result (FaultOfTwo P.Shape (until 0 high) x.now y.now) }
+    requires fit { AreFit (of_knots P.Shape) x.now y.now }
+    ensures sound { IfOk result (StaySound (of_knots P.Shape) high x.now y.now) }
+    ensures told { IfOk result (TellsTwo (of_knots P.Shape) (until 0 high) x.now y.now) }
+    ensures wide { IfErr result (FaultOfTwo (of_knots P.Shape) (until 0 high) x.now y.now) }
 {
     if reaches_end(x, high) {
         return until_from_now_on(x, y, high);
@@ -51,16 +55,24 @@ fn until_from_now<P: Shape>(
     composed_until(x, y, 0, high)
 }
 
-/// Whether a window up to `high` ticks ahead reaches the end of the domain from each time of it.
-fn reaches_end<P: Shape>(x: &Signal<P>, high: u32) -> bool
-    requires { IsFit P.Shape x.now }
-    ensures { IsTrue result → stop x.now ≤ʳ later (start x.now) high }
+/// Whether a time lies no later than `high` ticks after another.
+pub(crate) fn is_within(time: &Frac, start: &Frac, high: u32) -> bool
+    requires { IsWithin (2 ^ 34) (value start.now) }
+    ensures { IsTrue result → value time.now ≤ʳ later (value start.now) high }
 {
-    let end = x.start().shift(i64::from(high));
-    match end.cmp(&x.stop()) {
+    let end = start.shift(i64::from(high));
+    match end.cmp(time) {
         Ordering::Less => false,
         _ => true,
     }
+}
+
+/// Whether a window up to `high` ticks ahead reaches the end of the domain from each time of it.
+fn reaches_end<P: Shape>(x: &Signal<P>, high: u32) -> bool
+    requires { IsFit (of_knots P.Shape) x.now }
+    ensures { IsTrue result → stop x.now ≤ʳ later (start x.now) high }
+{
+    is_within(&x.stop(), &x.start(), high)
 }
 
 /// Until over all times from now on: the until to the end.
@@ -69,11 +81,11 @@ fn until_from_now_on<P: Shape>(
     y: &Signal<P>,
     high: u32,
 ) -> Result<Signal<P>, OpFault<P>>
-    requires fit { AreFit P.Shape x.now y.now }
+    requires fit { AreFit (of_knots P.Shape) x.now y.now }
     requires far { stop x.now ≤ʳ later (start x.now) high }
-    ensures sound { IfOk result (StaySound P.Shape high x.now y.now) }
-    ensures told { IfOk result (TellsTwo P.Shape (until 0 high) x.now y.now) }
-    ensures wide { IfErr result (FaultOfTwo P.Shape (until 0 high) x.now y.now) }
+    ensures sound { IfOk result (StaySound (of_knots P.Shape) high x.now y.now) }
+    ensures told { IfOk result (TellsTwo (of_knots P.Shape) (until 0 high) x.now y.now) }
+    ensures wide { IfErr result (FaultOfTwo (of_knots P.Shape) (until 0 high) x.now y.now) }
 {
     // For the proof alone: how far the window reaches.
     let _ = high;
@@ -88,11 +100,11 @@ fn composed_until<P: Shape>(
     low: u32,
     high: u32,
 ) -> Result<Signal<P>, OpFault<P>>
-    requires fit { AreFit P.Shape x.now y.now }
+    requires fit { AreFit (of_knots P.Shape) x.now y.now }
     requires order { low ≤ high }
-    ensures sound { IfOk result (StaySound P.Shape high x.now y.now) }
-    ensures told { IfOk result (TellsTwo P.Shape (until low high) x.now y.now) }
-    ensures wide { IfErr result (FaultOfTwo P.Shape (until low high) x.now y.now) }
+    ensures sound { IfOk result (StaySound (of_knots P.Shape) high x.now y.now) }
+    ensures told { IfOk result (TellsTwo (of_knots P.Shape) (until low high) x.now y.now) }
+    ensures wide { IfErr result (FaultOfTwo (of_knots P.Shape) (until low high) x.now y.now) }
 {
     until_is_composed::<P>();
     let within = sup_window(y, low, high, true, true)?;
@@ -108,11 +120,11 @@ pub(crate) fn bounded_since<P: Shape>(
     low: u32,
     high: Option<u32>,
 ) -> Result<Signal<P>, OpFault<P>>
-    requires fit { AreFit P.Shape x.now y.now }
+    requires fit { AreFit (of_knots P.Shape) x.now y.now }
     requires order { IsInOrder low high }
-    ensures sound { IfOk result (StaySound P.Shape (reach_of_bound low high) x.now y.now) }
-    ensures told { IfOk result (TellsTwo P.Shape (since low high) x.now y.now) }
-    ensures wide { IfErr result (FaultOfTwo P.Shape (since low high) x.now y.now) }
+    ensures sound { IfOk result (StaySound (of_knots P.Shape) (reach_of_bound low high) x.now y.now) }
+    ensures told { IfOk result (TellsTwo (of_knots P.Shape) (since low high) x.now y.now) }
+    ensures wide { IfErr result (FaultOfTwo (of_knots P.Shape) (since low high) x.now y.now) }
 {
     if low == 0 {
         return since_up_to_now(x, y, high);
@@ -126,10 +138,10 @@ fn since_up_to_now<P: Shape>(
     y: &Signal<P>,
     high: Option<u32>,
 ) -> Result<Signal<P>, OpFault<P>>
-    requires fit { AreFit P.Shape x.now y.now }
-    ensures sound { IfOk result (StaySound P.Shape (reach_of_bound 0 high) x.now y.now) }
-    ensures told { IfOk result (TellsTwo P.Shape (since 0 high) x.now y.now) }
-    ensures wide { IfErr result (FaultOfTwo P.Shape (since 0 high) x.now y.now) }
+    requires fit { AreFit (of_knots P.Shape) x.now y.now }
+    ensures sound { IfOk result (StaySound (of_knots P.Shape) (reach_of_bound 0 high) x.now y.now) }
+    ensures told { IfOk result (TellsTwo (of_knots P.Shape) (since 0 high) x.now y.now) }
+    ensures wide { IfErr result (FaultOfTwo (of_knots P.Shape) (since 0 high) x.now y.now) }
 {
     if reaches_start(x, high) {
         return since_so_far(x, y, high);
@@ -139,7 +151,7 @@ fn since_up_to_now<P: Shape>(
 
 /// Whether a window from `high` ticks behind, or from the start of time, reaches the start of the domain from each time of it.
 fn reaches_start<P: Shape>(x: &Signal<P>, high: Option<u32>) -> bool
-    requires { IsFit P.Shape x.now }
+    requires { IsFit (of_knots P.Shape) x.now }
     ensures { IsTrue result → IfSome high (λ b. stop x.now ≤ʳ later (start x.now) b) }
 {
     match high {
@@ -154,11 +166,11 @@ fn since_so_far<P: Shape>(
     y: &Signal<P>,
     high: Option<u32>,
 ) -> Result<Signal<P>, OpFault<P>>
-    requires fit { AreFit P.Shape x.now y.now }
+    requires fit { AreFit (of_knots P.Shape) x.now y.now }
     requires far { IfSome high (λ b. stop x.now ≤ʳ later (start x.now) b) }
-    ensures sound { IfOk result (StaySound P.Shape (reach_of_bound 0 high) x.now y.now) }
-    ensures told { IfOk result (TellsTwo P.Shape (since 0 high) x.now y.now) }
-    ensures wide { IfErr result (FaultOfTwo P.Shape (since 0 high) x.now y.now) }
+    ensures sound { IfOk result (StaySound (of_knots P.Shape) (reach_of_bound 0 high) x.now y.now) }
+    ensures told { IfOk result (TellsTwo (of_knots P.Shape) (since 0 high) x.now y.now) }
+    ensures wide { IfErr result (FaultOfTwo (of_knots P.Shape) (since 0 high) x.now y.now) }
 {
     // For the proof alone: how far the window reaches.
     let _ = high;
@@ -173,11 +185,11 @@ fn composed_since<P: Shape>(
     low: u32,
     high: Option<u32>,
 ) -> Result<Signal<P>, OpFault<P>>
-    requires fit { AreFit P.Shape x.now y.now }
+    requires fit { AreFit (of_knots P.Shape) x.now y.now }
     requires order { IsInOrder low high }
-    ensures sound { IfOk result (StaySound P.Shape (reach_of_bound low high) x.now y.now) }
-    ensures told { IfOk result (TellsTwo P.Shape (since low high) x.now y.now) }
-    ensures wide { IfErr result (FaultOfTwo P.Shape (since low high) x.now y.now) }
+    ensures sound { IfOk result (StaySound (of_knots P.Shape) (reach_of_bound low high) x.now y.now) }
+    ensures told { IfOk result (TellsTwo (of_knots P.Shape) (since low high) x.now y.now) }
+    ensures wide { IfErr result (FaultOfTwo (of_knots P.Shape) (since low high) x.now y.now) }
 {
     since_is_composed::<P>();
     let within = sup_past(y, low, high, true, true)?;

@@ -1,17 +1,12 @@
 -- The queue in which an edge lies. No public clause cites it.
-use Rattle.std.specs.Prelude.{◌+◌, ◌≤◌, ℕ, ℤ, Bool, true, false, Option, Some, None, length, take, drop}
+use Rattle.std.specs.Prelude.{◌+◌, ◌≤◌, ℕ, length, take, drop}
 use Rattle.std.specs.VecDeque.{deque_capacity}
 use Rattle.online_nodes.specs.Held.{Edge}
 use Rattle.online_nodes.specs.declared.queue.Queue.{Queue}
 
--- the number noted last, where one was
-abbrev pub number_of : Bool → ℤ → Option ℤ
-number_of false n = None
-number_of true n = Some n
-
 -- the edge that a queue stands for
 abbrev pub edge_of : Queue → Edge
-edge_of q = record { seen = take q.read q.items.items; fresh = drop q.read q.items.items; number = number_of q.noted q.number; joins = q.joins }
+edge_of q = record { seen = take q.read q.items.items; fresh = drop q.read q.items.items; number = q.number; joins = q.joins }
 
 -- no more was read than there is, and there is room for `spare` verdicts more
 pub record IsQueue (spare : ℕ) (q : Queue) : Type 0 where

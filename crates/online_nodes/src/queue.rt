@@ -12,14 +12,12 @@ use std::cmp::Ordering;
 use std::collections::VecDeque;
 use stl_syntax::Verdict;
 
-/// The verdicts of an edge, how many of them were read, the number noted last, whether one was noted, and whether neighbours of one
-/// truth are joined: eight words, so that an edge is found by a shift.
+/// The verdicts of an edge, how many of them were read, the number noted last, and whether neighbours of one truth are joined.
 #[derive(Drop)]
 pub(crate) struct Queue {
     items: VecDeque<Verdict>,
     read: usize,
-    number: i64,
-    noted: bool,
+    number: Option<i64>,
     joins: bool,
 }
 
@@ -34,8 +32,7 @@ impl Queue {
         Queue {
             items: VecDeque::new(alloc),
             read: 0,
-            number: 0,
-            noted: false,
+            number: None,
             joins: false,
         }
     }
@@ -217,8 +214,7 @@ impl Queue {
         ensures noted { edge_of self.new ≡ with_number (edge_of self.old) number }
         ensures kept { (spare : ℕ) → IsQueue spare self.old → IsQueue spare self.new }
     {
-        self.number = number;
-        self.noted = true;
+        self.number = Some(number);
     }
 
     /// The number noted last.
@@ -226,10 +222,7 @@ impl Queue {
     pub(crate) fn number(&self) -> Option<i64>
         ensures { result ≡ (edge_of self.now).number }
     {
-        if self.noted {
-            return Some(self.number);
-        }
-        None
+        self.number
     }
 }
 

@@ -33,7 +33,7 @@ use Rattle.pieces.proofs.Seeing.{BestOf, OfPiece, falling_before, floor, high, l
 use Rattle.pieces.proofs.SinceSteps.{bounded_ends}
 use Rattle.pieces.proofs.Moving.{of_best, to_best}
 
--- two things that hold where a result is good
+-- what follows from two things holds where a result is good, if both do
 pub on_ok_two : {T E A B C : Type 0} (r : Result T E) → (A → B → C) → OnOk r A → OnOk r B → OnOk r C
 on_ok_two (Ok x) f a b = f a b
 on_ok_two (Err x) f a b = tt
@@ -81,7 +81,7 @@ module _ (over : Reach) (small : IsSmall over) (at until best first to : Place)
   at_most_high : (t : Rational) → ¬ Before best (high_place over.high over.high_in t) → add t (whole over.high) ≤ʳ best.at
   at_most_high t n = elim (le_or_lt (add t (whole over.high)) best.at) [ inl h ↦ h | inr h ↦ absurd (n (inl h)) ]
 
-  -- at the last time of the domain its low end lies before the place: its high end is there
+  -- where its low end lies before the place at the last time of the domain, its high end is there
   by_high : at.at ≈ until.at → at.after ≡ false → until.after ≡ true → until.at ≈ to.at → add at.at (whole over.low) <ʳ best.at
       → add at.at (whole over.high) ≈ best.at
   by_high same ahead behind_it last below = same_of_le over_low (le_of_before best (high_place over.high over.high_in at.at) seen)
@@ -107,7 +107,7 @@ module _ (over : Reach) (small : IsSmall over) (at until best first to : Place)
         | inr h ↦ limit_before best.at at.at over.high (λ t l. at_most_high t (h t (upto_of_lt at t l)))
       ]
 
-  -- so it has one of them there
+  -- where the value counts at one time alone, one of the window's ends comes to its place then
   pub one_end : Before at until → at.at ≈ until.at
       → (add at.at (whole over.low) ≈ best.at) ⊎ (add at.at (whole over.high) ≈ best.at)
   one_end (inl l) same = absurd (lt_irrefl (lt_of_lt_of_le l (ge_of_same same)))
@@ -146,7 +146,7 @@ module _ {P : Type 0} (shape : ShapeOf P) (laws : ShapeLaws shape) (side : Side)
   pub none_rises : (from to : Rational) → RisesFrom side from to (shape.function gap)
   none_rises from to t u a k m = nw_same side (transᵉ (is u) (symᵉ (is t)))
 
-  -- and has a bounded level
+  -- its level is bounded
   pub none_level : HasBoundedLevel (2 ^ 31) (shape.function gap)
   none_level steady t = bounded_same (2 ^ 31) (value_at (shape.function gap) t) (none_of side shape.lowest shape.highest) (is t) (by_side side)
     where
@@ -164,7 +164,7 @@ module _ {P : Type 0} (shape : ShapeOf P) (laws : ShapeLaws shape) (chain : Chai
       | inr (e, h) ↦ subst (λ b. AtMost c b) (sym e) (at_most_of_before c (end p) is.order)
     ]
 
-    -- nor behind it
+    -- the best end does not lie behind the piece
     pub best_ends : AtMost best (end p)
     best_ends = elim one [
       | inl (e, h) ↦ subst (λ b. AtMost b (end p)) (sym e) (at_most_of_before c (end p) is.order)
@@ -184,7 +184,7 @@ module _ {P : Type 0} (shape : ShapeOf P) (laws : ShapeLaws shape) (chain : Chai
           (subst (λ b. Before (low shape laws chain way normal t) b) e l) (subst (λ b. Before b (high shape laws chain way normal t)) e h))
     ]
 
-    -- it is bounded
+    -- the value at the best end is bounded
     pub best_bounded : IsLimited shape chain → IsBounded (2 ^ 31) (value_at (shape.function p.shape) best.at)
     best_bounded limited =
         let f = shape.function p.shape in
@@ -194,7 +194,7 @@ module _ {P : Type 0} (shape : ShapeOf P) (laws : ShapeLaws shape) (chain : Chai
           | inr (e, h) ↦ subst (λ b. IsBounded (2 ^ 31) (value_at f b.at)) (sym e) both.1
         ]
 
-    -- and lies in the domain
+    -- the best end lies within the limits of time
     pub best_within : IsLimited shape chain → IsWithin (2 ^ 34) best.at
     best_within limited = within_between (2 ^ 34) limited.begins limited.ends
         (le_trans (le_of_at_most chain.from c is.begins) (le_of_at_most c best best_begins))

@@ -30,11 +30,11 @@ module _ {P : Type 0} (shape : ShapeOf P) (laws : ShapeLaws shape) (chain : Chai
   abbrev pub SeenTo : Place → Rational → Rational → Type 0
   SeenTo met t u = Sees way.over t u × Upto met u
 
-  -- its Sup or its Inf is the best of it
+  -- the Sup or the Inf of what is seen up to a place is the best of it
   pub to_best : (met : Place) (t : Rational) (v : Extended) → BestTo shape chain way met t v → BestOf shape laws chain way normal (SeenTo met t) v
   to_best met t v h = over_best way.side shape.lowest shape.highest (SeenTo met t) (IsWorth shape chain) v h
 
-  -- and the other way round
+  -- the best of what is seen up to a place is its Sup or its Inf
   pub of_best : (met : Place) (t : Rational) (v : Extended) → BestOf shape laws chain way normal (SeenTo met t) v → BestTo shape chain way met t v
   of_best met t v h = best_over way.side shape.lowest shape.highest (SeenTo met t) (IsWorth shape chain) v h
 
@@ -85,7 +85,7 @@ module _ {P : Type 0} (shape : ShapeOf P) (laws : ShapeLaws shape) (chain : Chai
       reached = reached;
     }
 
-  -- it has still come no further than a place, where it has told up to there at most
+  -- a window that has told up to where its high end comes to a place, at most, has come no further than that place
   pub reached_on : (c reach a b next : Place) → ((t : Rational) → Before reach (high shape laws chain way normal t)
       → Before c (high shape laws chain way normal t))
       → (AtMost a chain.from ⊎ ((t : Rational) → Upto a t → ¬ Before c (high shape laws chain way normal t))) → AtMost b next
@@ -194,7 +194,7 @@ module _ {P : Type 0} (shape : ShapeOf P) (laws : ShapeLaws shape) (chain : Chai
         no_step t v g = past t (behind t (give_after shape way.side (stop old.out) old.steps.items t v st.steps g)) (st.sees t v g).1
             (before_at_most (low shape laws chain way normal t) c left (st.sees t v g).0 most)
 
-    -- or not at all, where the steps that go on as far are no worse
+    -- the piece does not count where the steps that go on as far are no worse than its best value
     pub stands_hidden : new.steps.items ≡ old.steps.items → (v : Extended) (e : Place) → FallOff shape way.side (stop old.out) old.steps.items
         → HideTo shape way.side old.steps.items v e
         → ((t : Rational) → After (stop old.out) t → Upto (stop chain) t → Before (low shape laws chain way normal t) left

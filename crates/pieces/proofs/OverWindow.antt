@@ -57,7 +57,7 @@ module _ {P : Type 0} (shape : ShapeOf P) (laws : ShapeLaws shape) (chain : Chai
       (best_alike (λ x m. (m.0, m.1.0, m.2)) (λ x m. (m.0, (m.1, worth_upto shape chain.from chain.pieces m.0 x normal.rising m.2), m.2))
       (to_best shape laws chain way normal (stop chain) t v h))
 
-  -- where all is met, the window tells the rest by its steps
+  -- a window that has met all tells the rest by its steps, and so the best of what is seen from end to end
   pub tells_all : (gap : P) (old new : Sliding P) (to : Place) → Stands shape chain way (stop chain) (stop chain) old
       → HasTold shape way.side gap old new → Same (stop new.out) to → to ≡ stop chain
       → ((t : Rational) → value_at (shape.function gap) t ≈ᵉ none shape laws chain way normal)
@@ -91,7 +91,7 @@ module _ {P : Type 0} (shape : ShapeOf P) (laws : ShapeLaws shape) (chain : Chai
     reached = inl (subst (λ o. AtMost (stop o) chain.from) (sym e) (at_most_itself chain.from));
   }
 
-  -- one that sees nothing has met all
+  -- a window that sees nothing has met all
   pub stands_blind : (s : Sliding P) → ((t u : Rational) → ¬ Sees way.over t u) → Stands shape chain way chain.from chain.from s
       → Stands shape chain way (stop chain) (stop chain) s
   stands_blind s blind st = record {

@@ -140,7 +140,7 @@ module _ {P : Type 0} (shape : ShapeOf P) (side : Side) where
   with_no_worse p None t v g = nw_same side g
   with_no_worse p (Some q) t v g = g.left
 
-  -- nor is it worse than the other one
+  -- what a step gives is no worse than its other shape
   pub with_other : (p q : P) (o : Option P) (t : Rational) (v : Extended) → o ≡ Some q → IsWorthWith shape side p o t v
       → IsNoWorse side v (value_at (shape.function q) t)
   with_other p q None t v e g = absurd (cc)
@@ -532,7 +532,7 @@ module _ {P : Type 0} (shape : ShapeOf P) (side : Side) where
       by_part (inr (inl h)) = hides.above t x h.2
       by_part (inr (inr h)) = absurd h
 
-  -- and they go on to the place
+  -- steps that hide a value up to a place go on to that place
   pub hide_upto : (b : Place) (ss : List (Step P)) (v : Extended) (e : Place) → HideTo shape side ss v e → AtMost e (steps_end b ss)
   hide_upto b ss v e hides = subst (λ s. AtMost e s) (sym (subst (λ xs. steps_end b xs ≡ step_end hides.last) (sym hides.are)
       (steps_end_append b hides.front (hides.last ∷ [])))) hides.upto

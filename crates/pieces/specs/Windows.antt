@@ -92,7 +92,7 @@ module _ {P : Type 0} (shape : ShapeOf P) where
   BestOver chain over side t r = IsBestOver side shape.lowest shape.highest (Sees over t) (IsWorth shape chain) r
 
   module _ (chain : Chain P) (way : Way) where
-    -- so over the window on its way
+    -- at each time the best of what the window on its way sees
     abbrev pub Best : Function
     Best t r = BestOver chain way.over way.side t r
 

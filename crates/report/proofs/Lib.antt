@@ -26,6 +26,7 @@ pub mod TableTexts
 pub mod OneText
 pub mod StreamTexts
 pub mod StringValues
+pub mod Forms
 pub mod JsonData
 pub mod JsonParts
 pub mod JsonItems

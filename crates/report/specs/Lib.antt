@@ -20,3 +20,4 @@ pub mod PartLines
 pub mod EarlyLines
 pub mod After
 pub mod Shown
+pub mod Forms

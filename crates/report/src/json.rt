@@ -1,7 +1,8 @@
 //! The report as one object of JSON.
 //!
-//! Its text is the compact one that `serde_json` has for the report as a value. Each entry (a knot, a piece, an item, a verdict) is made
-//! as a value and printed before the next one, so that a report of many knots takes no memory beside its text but that of one entry.
+//! Its text is the compact one that `serde_json` has for the report as a value. Each entry (a knot, a piece, an item, a verdict) is a value
+//! that is printed before the next one, so that a report of many knots takes no memory beside its text but that of one entry. Knots, pieces
+//! and verdicts are each one object, which has the texts of one entry after another.
 //! What stands around the lists are objects with an empty list at their end, each printed up to where the items of that list begin.
 ghost use Rattle.std.specs.Prelude.{◌≡◌, ◌≤◌, ◌<◌, ◌^◌, ◌++◌, ℕ, List, false, All, IfOk, OnOk, OnErr, codes, drop, length};
 ghost use Rattle.rational.specs.Rational.{IsWithin};
@@ -20,8 +21,9 @@ ghost use Rattle.report.specs.ReportText.{IsReportText, TailParts};
 ghost use Rattle.report.specs.SignalVerdicts.{sign_of};
 ghost use Rattle.report.specs.Steps.{steps_of, step};
 
-use crate::entry::{put_item_entry, put_knot_entry, put_piece_entry, string_value};
+use crate::entry::{put_item_entry, string_value};
 use crate::items::line_from;
+use crate::margin_entry::MarginEntries;
 use crate::signal::put_spans;
 use frac128::Memory;
 use pl_signal::{Knot, Signal};
@@ -80,9 +82,8 @@ fn put_item_entries(
 
 /// Appends the piece between two knots and the second.
 fn put_step_entry(
-    alloc: Global,
     text: &mut Text,
-    room: &mut Text,
+    entries: &mut MarginEntries,
     k: &Knot<Margin>,
     n: &Knot<Margin>,
     scale: Scale,
@@ -96,15 +97,14 @@ fn put_step_entry(
     ensures err { OnErr result
         (GrewInPart (IsStepEntry scale (step (plain_knot margin_shape k.now) (plain_piece margin_shape k.now n.now))) text.old text.new) }
 {
-    put_piece_entry(alloc, text, room, k, n, scale)?;
-    put_knot_entry(alloc, text, room, b",", n, scale)
+    entries.put_piece(text, k, n, scale)?;
+    entries.put_knot(text, b",", n, scale)
 }
 
 /// Appends the pieces, each with the knot after it.
 fn put_step_entries(
-    alloc: Global,
     text: &mut Text,
-    room: &mut Text,
+    entries: &mut MarginEntries,
     s: &Signal<Margin>,
     scale: Scale,
 ) -> Result<(), Memory>
@@ -118,9 +118,8 @@ fn put_step_entries(
     let last = s.len() - 1;
     for i in 0..last {
         put_step_entry(
-            alloc,
             text,
-            room,
+            entries,
             s.knot_in_place(i),
             s.knot_in_place(i + 1),
             scale,
@@ -133,7 +132,6 @@ fn put_step_entries(
 fn put_margin_entries(
     alloc: Global,
     text: &mut Text,
-    room: &mut Text,
     s: &Signal<Margin>,
     scale: Scale,
 ) -> Result<(), Memory>
@@ -146,8 +144,9 @@ fn put_margin_entries(
 {
     // For the proof alone: that it is a signal is a clause of `len`.
     let _ = s.len();
-    put_knot_entry(alloc, text, room, b"", &s.knot(0), scale)?;
-    put_step_entries(alloc, text, room, s, scale)?;
+    let mut entries = MarginEntries::new(alloc)?;
+    entries.put_knot(text, b"", &s.knot(0), scale)?;
+    put_step_entries(text, &mut entries, s, scale)?;
     text.push(b"]")
 }
 
@@ -205,7 +204,6 @@ fn put_opened(alloc: Global, text: &mut Text, lead: &[u8], object: &Value) -> Re
 fn put_head(
     alloc: Global,
     text: &mut Text,
-    room: &mut Text,
     formula: &Formula,
     items: &Items,
     scale: Scale,
@@ -216,14 +214,14 @@ fn put_head(
     ensures err { OnErr result (GrewInPart (HeadParts scale formula.now items.now) text.old text.new) }
 {
     put_opened(alloc, text, b"{", &head_value(alloc, formula)?)?;
-    put_item_entries(alloc, text, room, formula, items, scale)
+    let mut room = Text::new(alloc);
+    put_item_entries(alloc, text, &mut room, formula, items, scale)
 }
 
 /// Appends the object from its margins on.
 fn put_tail(
     alloc: Global,
     text: &mut Text,
-    room: &mut Text,
     truth: &Signal<Truth>,
     margins: &Signal<Margin>,
     holds: bool,
@@ -238,7 +236,7 @@ fn put_tail(
     ensures err { OnErr result (GrewInPart (TailParts scale truth.now margins.now holds) text.old text.new) }
 {
     put_opened(alloc, text, b",", &margins_object(alloc)?)?;
-    put_margin_entries(alloc, text, room, margins, scale)?;
+    put_margin_entries(alloc, text, margins, scale)?;
     put_opened(alloc, text, b",", &start_object(alloc, holds)?)?;
     put_spans(text, truth, scale)?;
     text.push(b"}\n")
@@ -278,7 +276,6 @@ pub fn put_json(
     ensures err { OnErr result (GrewInPart (IsReportText scale formula.now truth.now margins.now items.now) text.old text.new) }
 {
     let holds = start_of(truth);
-    let mut room = Text::new(alloc);
-    put_head(alloc, text, &mut room, formula, items, scale)?;
-    put_tail(alloc, text, &mut room, truth, margins, holds, scale)
+    put_head(alloc, text, formula, items, scale)?;
+    put_tail(alloc, text, truth, margins, holds, scale)
 }

@@ -7,64 +7,71 @@ ghost use Rattle.report.specs.Appended.{Grew, GrewInPart};
 ghost use Rattle.report.specs.SignalVerdicts.{AreSignalLines};
 ghost use Rattle.report.specs.VerdictForms.{TurnedTo, TurnCut, WrittenPast, CutPast, AreEntries};
 
-use crate::entry::put_verdict_entry;
 use crate::spelling::OpenSpan;
+use crate::verdict_entry::VerdictEntries;
 use crate::verdict_lines::VerdictLines;
 use frac128::{Frac, Memory};
 use pl_signal::{Knot, Signal};
-use std::alloc::Global;
 use stl_syntax::{Scale, Text};
 use value_laws::{Shape, Truth};
-
-/// What verdicts are written with in JSON. What `room` has does not matter: it lends its room.
-#[derive(Drop)]
-struct Pen {
-    alloc: Global,
-    scale: Scale,
-    room: Text,
-}
 
 /// Goes on with this truth: from the time on, or after it where it is in the span. What ended there is appended, if the truth is new.
 #[inline(always)]
 fn put_turn(
     text: &mut Text,
-    pen: &mut Pen,
+    entries: &mut VerdictEntries,
     span: &mut OpenSpan,
     at: &Frac,
     at_in: bool,
     truth: bool,
+    scale: Scale,
 ) -> Result<(), Memory>
-    requires digits { pen.old.scale.time ≤ 6 }
+    requires digits { scale.time ≤ 6 }
     requires begun { HasTimeBetween (value span.old.from) (value at.now) (span.old.from_in && at_in) }
-    ensures ok { OnOk result (TurnedTo true pen.old.scale span.old at.now at_in truth span.new text.old text.new) }
-    ensures err { OnErr result (TurnCut true pen.old.scale span.old at.now at_in truth text.old text.new) }
-    ensures scale { pen.new.scale ≡ pen.old.scale }
+    ensures ok { OnOk result (TurnedTo true scale span.old at.now at_in truth span.new text.old text.new) }
+    ensures err { OnErr result (TurnCut true scale span.old at.now at_in truth text.old text.new) }
 {
     if span.holds() == truth {
         return Ok(());
     }
     let ended = span.turn(*at, at_in, truth);
-    put_verdict_entry(pen.alloc, text, &mut pen.room, &ended, pen.scale, false)
+    entries.put(text, &ended, scale, false)
 }
 
 /// Goes on past the gap between two knots and the second knot. What ended there is appended.
 #[inline(always)]
 fn put_past(
     text: &mut Text,
-    pen: &mut Pen,
+    entries: &mut VerdictEntries,
     span: &mut OpenSpan,
     before: &Knot<Truth>,
     next: &Knot<Truth>,
+    scale: Scale,
 ) -> Result<(), Memory>
-    requires digits { pen.old.scale.time ≤ 6 }
+    requires digits { scale.time ≤ 6 }
     requires begun { HasTimeBetween (value span.old.from) (value before.now.time) (span.old.from_in && true) }
     requires rising { value before.now.time <ʳ value next.now.time }
-    ensures ok { OnOk result (WrittenPast true pen.old.scale span.old before.now next.now span.new text.old text.new) }
-    ensures err { OnErr result (CutPast true pen.old.scale span.old before.now next.now text.old text.new) }
-    ensures scale { pen.new.scale ≡ pen.old.scale }
+    ensures ok { OnOk result (WrittenPast true scale span.old before.now next.now span.new text.old text.new) }
+    ensures err { OnErr result (CutPast true scale span.old before.now next.now text.old text.new) }
 {
-    put_turn(text, pen, span, &before.time, true, before.after.holds())?;
-    put_turn(text, pen, span, &next.time, false, next.point.holds())
+    put_turn(
+        text,
+        entries,
+        span,
+        &before.time,
+        true,
+        before.after.holds(),
+        scale,
+    )?;
+    put_turn(
+        text,
+        entries,
+        span,
+        &next.time,
+        false,
+        next.point.holds(),
+        scale,
+    )
 }
 
 /// Appends the verdicts of a signal as objects of JSON: the longest spans of one truth, in order, and what closes their list.
@@ -75,22 +82,19 @@ pub(crate) fn put_spans(text: &mut Text, s: &Signal<Truth>, scale: Scale) -> Res
 {
     let knots = s.len();
     let mut span = OpenSpan::start(s.knot_in_place(0));
-    let mut pen = Pen {
-        alloc: s.alloc(),
-        scale,
-        room: Text::new(s.alloc()),
-    };
+    let mut entries = VerdictEntries::new(s.alloc())?;
     for i in 1..knots {
         put_past(
             text,
-            &mut pen,
+            &mut entries,
             &mut span,
             s.knot_in_place(i - 1),
             s.knot_in_place(i),
+            scale,
         )?;
     }
     let end = span.close(s.stop(), true);
-    put_verdict_entry(pen.alloc, text, &mut pen.room, &end, scale, true)
+    entries.put(text, &end, scale, true)
 }
 
 /// Goes on with this truth: from the time on, or after it where it is in the span. The line of what ended there is put, if the truth is new.

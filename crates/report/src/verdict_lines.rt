@@ -14,7 +14,7 @@ use stl_syntax::{Scale, Text, Verdict};
 
 /// The bracket before a span.
 #[inline(always)]
-fn bracket(inside: bool) -> u8
+pub(crate) fn bracket(inside: bool) -> u8
     ensures { result ∷ [] ≡ (if inside then codes "[" else codes "(") }
 {
     if inside { b'[' } else { b'(' }

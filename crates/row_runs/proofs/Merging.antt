@@ -6,17 +6,20 @@ use Rattle.rational.specs.Time.{Rational, ◌≤ʳ◌, whole, less, Interval, cl
 use Rattle.rational.specs.Places.{Place, begins, ends}
 use Rattle.rational.proofs.Order.{le_trans, le_of_same, le_or_lt}
 use Rattle.rational.proofs.TimeLemmas.{less_in, less_no}
-use Rattle.rational.proofs.PlaceLemmas.{le_of_before}
+use Rattle.rational.specs.Places.{Same}
+use Rattle.rational.proofs.PlaceLemmas.{le_of_before, same_trans_places}
 use Rattle.frac128.specs.Spans.{interval}
 use Rattle.frac128.specs.Value.{value}
 use Rattle.stl_syntax.specs.declared.items.Verdict.{Verdict}
 use Rattle.online_nodes.specs.Network.{Front, needed}
 use Rattle.online_nodes.specs.Needed.{AreMeeting, AreNeeded}
+use Rattle.online_nodes.specs.Held.{AreStretches, IsJoined, as_given, joined}
 use Rattle.online_nodes.specs.Laws.{AreTiles, answered_to, beyond, IsWhole}
+use Rattle.online_nodes.proofs.EmittedLaw.{tiles_append}
 use Rattle.online_nodes.proofs.HeldLaw.{not_met, meeting_is_suffix}
 use Rattle.online_nodes.proofs.MeetingLaw.{one_meeting, needed_first}
 use Rattle.online_nodes.proofs.RunLaw.{none_is_none}
-use Rattle.agreeing.specs.Joined.{AreJoined}
+use Rattle.agreeing.specs.Joined.{AreJoined, HaveTruth}
 use Rattle.row_runs.specs.RowByRow.{AreMerged, AreMergedOn, AreMergedFor}
 
 -- parts that are joined are merged
@@ -29,6 +32,42 @@ pub merged_append : (a vs b ws : List Verdict) → AreMerged a vs → AreMerged 
 merged_append a [] b ws h k = subst (λ l. AreMerged (l ++ b) ws) (sym h) k
 merged_append a (v ∷ vs) b ws (run, others, is, leads, truth, rest) k =
     (run, others ++ b, ap (λ l. l ++ b) is ∙ append_assoc run others b, leads, truth, merged_append others vs b ws rest k)
+
+-- ---- neighbours that are joined
+
+-- tiles lead on from the same place
+tiles_from : (c d : Place) (vs : List Verdict) (e : Place) → Same c d → AreTiles d vs e → AreTiles c vs e
+tiles_from c d [] e s t = same_trans_places s t
+tiles_from c d (v ∷ vs) e s (t, b, rest) = (same_trans_places s t, b, rest)
+
+truth_append : (holds : Bool) (xs ys : List Verdict) → HaveTruth holds xs → HaveTruth holds ys → HaveTruth holds (xs ++ ys)
+truth_append holds [] ys h k = k
+truth_append holds (x ∷ xs) ys (is, h) k = (is, truth_append holds xs ys h k)
+
+-- where parts are merged, and two neighbours of what they make are joined, they are merged
+one_joined : {v w u : Verdict} → IsJoined v w u → (front back parts : List Verdict) → AreMerged parts (front ++ v ∷ w ∷ back)
+    → AreMerged parts (front ++ u ∷ back)
+one_joined {v} {w} {u} j [] back parts (run, others, is, leads, truth, (more, rest, next, on, same, last)) = (
+  run ++ more,
+  rest,
+  is ∙ ap (λ l. run ++ l) next ∙ sym (append_assoc run more rest),
+  subst (λ c. AreTiles c (run ++ more) (ends (interval u.on))) (sym j.begin)
+      (subst (λ d. AreTiles (begins (interval v.on)) (run ++ more) d) (sym j.end)
+      (tiles_append (begins (interval v.on)) run (ends (interval v.on)) more (ends (interval w.on)) leads
+      (tiles_from (ends (interval v.on)) (begins (interval w.on)) more (ends (interval w.on)) j.goes_on.touch on))),
+  truth_append u.holds run more (subst (λ b. HaveTruth b run) (sym j.holds) truth)
+      (subst (λ b. HaveTruth b more) (j.goes_on.alike ∙ sym j.holds) same),
+  last,
+)
+one_joined j (x ∷ front) back parts (run, others, is, leads, truth, rest) = (run, others, is, leads, truth, one_joined j front back others rest)
+
+-- and where any neighbours are
+pub merged_stretches : {stretches vs : List Verdict} → AreStretches stretches vs → (parts : List Verdict) → AreMerged parts vs
+    → AreMerged parts stretches
+merged_stretches as_given parts h = h
+merged_stretches (joined front back j rest) parts h = merged_stretches rest parts (one_joined j front back parts h)
+
+-- ---- without those that end by a time
 
 -- tiles do not lead back
 tiles_le : (c : Place) (vs : List Verdict) (d : Place) → AreTiles c vs d → c.at ≤ʳ d.at

@@ -15,19 +15,20 @@ use Rattle.stl_syntax.proofs.VerdictsLaw.{alike_length}
 use Rattle.stl_syntax.proofs.WellFormedLemmas.{root_some}
 use Rattle.online_nodes.specs.Network.{Event, Front, row, close, State, last_row, node_is_atom, initial, after_event, state_from, state, shown, reach_back}
 use Rattle.online_nodes.specs.Network.{MayCome, IsRunFrom, IsRun, Emitted}
-use Rattle.online_nodes.specs.Needed.{AreNeeded, IsEdge, IsRootEdge}
+use Rattle.online_nodes.specs.Needed.{AreNeeded, IsJoinedEdge, IsRootEdge}
 use Rattle.online_nodes.specs.Driven.{rows_of, pass_of, IsEmptied, IsDriven, nothing as no_rows, by_rows as by_block, by_end as driven_end}
-use Rattle.online_nodes.specs.Held.{held_at}
+use Rattle.online_nodes.specs.Held.{edge_at, held_at}
 use Rattle.online_nodes.specs.Laws.{IsWhole}
 use Rattle.online_nodes.proofs.FrameLaw.{one_more}
 use Rattle.online_nodes.proofs.RisingLaw.{IsSound, sound_of}
 use Rattle.online_nodes.proofs.RowsLaw.{goes_on_itself}
 use Rattle.online_nodes.proofs.FrontsLaw.{fronts_are_times}
 use Rattle.online_nodes.proofs.EmittedLaw.{emitted_tiles}
+use Rattle.online_nodes.proofs.Stretches.{stand_stretches, stretches_whole}
 use Rattle.verdict_stream.proofs.Passes.{state_after, emitted_alike, taken_once}
 use Rattle.verdict_stream.proofs.Watched.{no_row, show, shown_by, IsAfter, rows_at, driven_at, driven_emptied, none_driven}
 use Rattle.row_runs.specs.RowByRow.{AreMerged, IsRowByRow, nothing, by_row, by_end, IsEdgeMerged, RunsStandForRows, WatchesStandForRows}
-use Rattle.row_runs.proofs.Merging.{needed_of}
+use Rattle.row_runs.proofs.Merging.{merged_stretches, needed_of}
 use Rattle.row_runs.proofs.Once.{quiet_steps, once_steps, once_rows, once_pass}
 use Rattle.row_runs.proofs.Stepping.{run_split, GivesMerged, merged_on}
 use Rattle.row_runs.proofs.Building.{row_width, driven_by_rows, is_trace, is_given, HasPassed, pass_follows}
@@ -315,15 +316,18 @@ module _ (nodes : List Node) (header : Header) (order : IsPostOrder nodes) (one 
             (subst (λ r. Continues (record { header = header; rows = rows }) header r (at b.each).closed) (sym (built_at b.built).rows_are)
             (goes_on_itself header rows (at b.each).closed)) (λ c. sym (built_at b.built).closed_is ∙ c) vs em
 
-    edges : (i : ℕ) → i < length nodes → (held : List Verdict) → IsEdge nodes header events i held → IsEdgeMerged nodes header b.each i held
+    edges : (i : ℕ) → i < length nodes → (joins : Bool) (held : List Verdict) → IsJoinedEdge nodes header events joins i held
+        → IsEdgeMerged nodes header b.each i held
     unfolding state
-    edges i l held edge =
+    edges i l joins held edge =
         let (ws, en, merged) = given i l edge.emitted edge.is_emitted in
+        let stretches = stand_stretches joins edge.stand in
         let n = needed_of (first_time (at b.each).rows) (shown (at b.each) i) ((at b.each).fronts edge.reader) (reach_back edge.reading edge.left) ws
-        edge.emitted held (emitted_tiles nodes header order b.each b.built.run i l ws en)
-        (moved (λ start shown reader. IsWhole start shown edge.emitted)
-        (emitted_tiles nodes header order events run i l edge.emitted edge.is_emitted)) merged
-        (moved (λ start shown reader. AreNeeded start shown reader (reach_back edge.reading edge.left) edge.emitted held) edge.is_needed) in
+        edge.stretches held (emitted_tiles nodes header order b.each b.built.run i l ws en)
+        (moved (λ start shown reader. IsWhole start shown edge.stretches)
+        (stretches_whole stretches (first_time (at events).rows) (shown (at events) i)
+        (emitted_tiles nodes header order events run i l edge.emitted edge.is_emitted))) (merged_stretches stretches ws merged)
+        (moved (λ start shown reader. AreNeeded start shown reader (reach_back edge.reading edge.left) edge.stretches held) edge.is_needed) in
         record {
           parts = n.some;
           edge = record {
@@ -391,7 +395,8 @@ watches_stand_for_rows v c ended w =
     record {
       stands = stands;
       numbers = λ i l. w.stands.shows.fronts i l ∙ sym (stands.numbers i l);
-      edges = λ i l. stands.edges i (omega (arith, l)) (held_at v.network.net.edges i) (w.stands.shows.edges i l);
+      edges = λ i l. stands.edges i (omega (arith, l)) (edge_at v.network.net.edges i).joins (held_at v.network.net.edges i)
+          (w.stands.shows.edges i l);
       root = root_edge nodes header w.events stands.each (held_at v.network.net.edges (length nodes - 1)) w.stands.shows.root
           (driven_emptied nodes header w.driven) (driven_emptied nodes header (driven_by_rows nodes header stands.by_rows));
     }

@@ -9,7 +9,7 @@ use Rattle.stl_syntax.specs.WellFormed.{HasOneRoot}
 use Rattle.stl_syntax.specs.declared.items.Verdict.{Verdict}
 use Rattle.stl_syntax.specs.declared.node.Node.{Node}
 use Rattle.online_nodes.specs.Network.{Event, row, close, Front, state, shown, needed, reach_back, IsRun, Emitted}
-use Rattle.online_nodes.specs.Needed.{AreMeeting, IsEdge, IsRootEdge}
+use Rattle.online_nodes.specs.Needed.{AreMeeting, IsEdge, IsJoinedEdge, IsRootEdge}
 use Rattle.online_nodes.specs.Driven.{pass_of, IsEmptied, IsDriven}
 use Rattle.online_nodes.specs.Held.{held_at, number_at}
 use Rattle.online_nodes.specs.Laws.{AreTiles}
@@ -57,7 +57,7 @@ pub record IsEdgeMerged (nodes : List Node) (header : Header) (events : List Eve
       (reach_back edge.reading edge.left) parts held
 
 -- the events stand for a run in which each row is followed by a step of every node: it has the same rows, with their end where they have ended,
--- and the same numbers; and of what each node gave out, and of what its edge holds, neighbours of one truth may be merged
+-- and the same numbers; and of what each node gave out, and of what its edge holds, whether it joins or not, neighbours of one truth may be merged
 pub record StandsForRows (nodes : List Node) (header : Header) (rows : List Row) (ended : Bool) (events : List Event) : Type 0 where
   pub each : List Event
   pub run : IsRun nodes header each
@@ -67,7 +67,8 @@ pub record StandsForRows (nodes : List Node) (header : Header) (rows : List Row)
   pub numbers : (i : ℕ) → i < length nodes → (state nodes each).fronts i ≡ (state nodes events).fronts i
   pub given : (i : ℕ) → i < length nodes → (verdicts : List Verdict) → Emitted nodes header events i verdicts
       → (parts : List Verdict) × Emitted nodes header each i parts × AreMerged parts verdicts
-  pub edges : (i : ℕ) → i < length nodes → (held : List Verdict) → IsEdge nodes header events i held → IsEdgeMerged nodes header each i held
+  pub edges : (i : ℕ) → i < length nodes → (joins : Bool) (held : List Verdict) → IsJoinedEdge nodes header events joins i held
+      → IsEdgeMerged nodes header each i held
 
 -- the run that a stream drives stands for the one row by row
 abbrev pub RunsStandForRows : Type 0

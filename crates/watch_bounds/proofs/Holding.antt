@@ -14,7 +14,7 @@ use Rattle.stl_syntax.proofs.VerdictsLaw.{alike_length}
 use Rattle.online_nodes.specs.Network.{Event, row, State, initial, after_event, state_from, state, node_is_atom, IsRun, IsRunFrom, Emitted}
 use Rattle.online_nodes.specs.Needed.{IsRootEdge}
 use Rattle.online_nodes.specs.Driven.{rows_of, IsEmptied, IsDriven}
-use Rattle.online_nodes.specs.Held.{held_at}
+use Rattle.online_nodes.specs.Held.{edge_at, held_at}
 use Rattle.online_nodes.specs.StreamedWide.{front_at}
 use Rattle.online_nodes.proofs.EmittedLaw.{emitted_alike}
 use Rattle.online_nodes.proofs.FrontsLaw.{fronts_are_times}
@@ -60,7 +60,8 @@ together nodes header events net l N st emptied ready =
             let x : length (held_at net.edges i) ≡ 0 = ap (λ j. length (held_at net.edges j)) e ∙ ap length none in
             omega (arith, x)
         by_place (inr (inl h)) =
-            let joined = joined_few nodes header st.holds.formed events st.run i within (held_at net.edges i) (st.shows.edges i (omega (arith, h, within))) in
+            let joined = joined_few nodes header st.holds.formed events st.run i within (edge_at net.edges i).joins (held_at net.edges i)
+            (st.shows.edges i (omega (arith, h, within))) in
             let few = edge_few nodes header st.holds.formed.post_order st.holds.one_root events st.run l N i within joined.0 joined.1 ready in
             let no_more = joined.2 in
             omega (arith, few, no_more)

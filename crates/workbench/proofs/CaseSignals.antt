@@ -22,6 +22,7 @@ use Rattle.stl_syntax.specs.declared.atom.Atom.{Atom}
 use Rattle.stl_syntax.specs.declared.node.Node.TheVariants.{Atom as Leaf}
 use Rattle.atom_lines.specs.Binding.{IsBound}
 use Rattle.atom_lines.specs.AtomSignals.{IsAtomSignal}
+use Rattle.offline_eval.specs.Forms.{of_knots}
 use Rattle.offline_eval.specs.Inputs.{IsInput, IsOver}
 use Rattle.offline_eval.specs.Keeping.{IsStack}
 use Rattle.offline_eval.specs.Making.{TellsValue}
@@ -37,15 +38,17 @@ no_row = record { time = 0; values = [] }
 module _ {P : Type 0} (shape : ShapeOf P) (reading : Trace → Reading) (c : Case) where
   -- the stack over the ends of the trace is one over the same ends
   pub stands_over : (from to n : ℕ) (xs : List (List (Knot P))) → from ≡ first_time c.trace.rows → to ≡ last_time 0 c.trace.rows
-      → IsStack shape (first_time c.trace.rows) (last_time 0 c.trace.rows) c.formula.nodes n xs → IsStack shape from to c.formula.nodes n xs
-  stands_over from to n xs e h st = subst (λ f. IsStack shape f to c.formula.nodes n xs) (sym e)
-      (subst (λ t. IsStack shape (first_time c.trace.rows) t c.formula.nodes n xs) (sym h) st)
+      → IsStack (of_knots shape) (first_time c.trace.rows) (last_time 0 c.trace.rows) c.formula.nodes n xs → IsStack
+      (of_knots shape) from to c.formula.nodes n xs
+  stands_over from to n xs e h st = subst (λ f. IsStack (of_knots shape) f to c.formula.nodes n xs) (sym e)
+      (subst (λ t. IsStack (of_knots shape) (first_time c.trace.rows) t c.formula.nodes n xs) (sym h) st)
 
   -- and the other way round
   pub stands_back : (from to n : ℕ) (xs : List (List (Knot P))) → from ≡ first_time c.trace.rows → to ≡ last_time 0 c.trace.rows
-      → IsStack shape from to c.formula.nodes n xs → IsStack shape (first_time c.trace.rows) (last_time 0 c.trace.rows) c.formula.nodes n xs
-  stands_back from to n xs e h st = subst (λ f. IsStack shape f (last_time 0 c.trace.rows) c.formula.nodes n xs) e
-      (subst (λ t. IsStack shape from t c.formula.nodes n xs) h st)
+      → IsStack (of_knots shape) from to c.formula.nodes n xs → IsStack (of_knots shape) (first_time c.trace.rows)
+      (last_time 0 c.trace.rows) c.formula.nodes n xs
+  stands_back from to n xs e h st = subst (λ f. IsStack (of_knots shape) f (last_time 0 c.trace.rows) c.formula.nodes n xs) e
+      (subst (λ t. IsStack (of_knots shape) from t c.formula.nodes n xs) h st)
 
   -- the trace is read over its own ends
   pub over_ends : IsOver shape.lowest shape.highest (first_time c.trace.rows) (last_time 0 c.trace.rows) (setting_of shape reading c.trace)
@@ -59,18 +62,18 @@ module _ {P : Type 0} (shape : ShapeOf P) (reading : Trace → Reading) (c : Cas
   -- the signal of an atom tells its node
   pub atom_tells : (i : ℕ) (a : Atom) (x : List (Knot P)) → slice_get c.formula.nodes i ≡ Some (Leaf a) → subformula c.formula.nodes i ≡ atom i a
       → IsBound c.bound c.formula c.trace.header → IsTrace c.trace → IsAtomSignal shape reading c.bound i c.trace x
-      → TellsValue shape (setting_of shape reading c.trace) (subformula c.formula.nodes i) x
-  atom_tells i a x at e bound rows is = subst (λ f. TellsValue shape (setting_of shape reading c.trace) f x) (sym e)
+      → TellsValue (of_knots shape) (setting_of shape reading c.trace) (subformula c.formula.nodes i) x
+  atom_tells i a x at e bound rows is = subst (λ f. TellsValue (of_knots shape) (setting_of shape reading c.trace) f x) (sym e)
       (is.tells a (record { formula = c.formula; bound = bound; node = at; rows = rows }))
 
   -- and is one that an evaluation takes
   pub atom_input : (i : ℕ) (x : List (Knot P)) → IsAtomSignal shape reading c.bound i c.trace x
-      → IsInput shape (first_time c.trace.rows) (last_time 0 c.trace.rows) x
+      → IsInput (of_knots shape) (first_time c.trace.rows) (last_time 0 c.trace.rows) x
   atom_input i x is = record { begins = is.begins; ends = is.ends; bases = is.bases; limited = is.limited }
 
   -- the last of signals that tell the nodes is the root's
   pub root_told : (signals : List (List (Knot P))) (x : List (Knot P)) → 0 < length c.formula.nodes
-      → TellNodes shape c.formula.nodes signals (setting_of shape reading c.trace) → slice_get signals (length c.formula.nodes - 1) ≡ Some x
+      → TellNodes (of_knots shape) c.formula.nodes signals (setting_of shape reading c.trace) → slice_get signals (length c.formula.nodes - 1) ≡ Some x
       → HasValues (root c.formula.nodes) (setting_of shape reading c.trace) × HasInfs (root c.formula.nodes) (setting_of shape reading c.trace)
       → IsRootOf shape reading c x
   root_told signals x some told is have =

@@ -10,6 +10,7 @@ use Rattle.stl_syntax.specs.Trace as trace
 use Rattle.stl_syntax.specs.Trace.{Trace, first_time, last_time}
 use Rattle.stl_syntax.specs.Formula.{root}
 use Rattle.stl_syntax.specs.SupInf.{Reading, Setting, SupInf, HasValues, HasInfs}
+use Rattle.offline_eval.specs.Forms.{of_knots}
 use Rattle.offline_eval.specs.Keeping.{IsStack, TellsStack}
 use Rattle.offline_eval.specs.Evaluation.{IsFault}
 use Rattle.offline_eval.specs.declared.faults.EvalFault.{EvalFault}
@@ -25,8 +26,8 @@ module _ {P : Type 0} (shape : ShapeOf P) (reading : Trace → Reading) where
 
   -- the signals on the way to the root, once the first n nodes have theirs: over the trace they tell the nodes that are still to be read
   pub record IsStackOf (c : Case) (n : ℕ) (signals : List (List (Knot P))) : Type 0 where
-    pub stands : IsStack shape (first_time c.trace.rows) (last_time 0 c.trace.rows) c.formula.nodes n signals
-    pub told : TellsStack shape c.formula.nodes (setting_of c.trace) n signals
+    pub stands : IsStack (of_knots shape) (first_time c.trace.rows) (last_time 0 c.trace.rows) c.formula.nodes n signals
+    pub told : TellsStack (of_knots shape) c.formula.nodes (setting_of c.trace) n signals
 
   -- the signal tells the formula over the trace, where the formula has a value at each time, and an Inf between each two times
   pub record IsRootOf (c : Case) (signal : List (Knot P)) : Type 0 where

@@ -1,5 +1,4 @@
-use Rattle.early_verdict.proofs.LettingLemmas.{endless_cut_at}
-use Rattle.early_verdict.proofs.Splitting.{at_split}
+use Rattle.early_verdict.proofs.Splitting.{at_split, changes_at}
 use Rattle.early_verdict.proofs.anew.cut_endless_at.Goals as goal
 
 pub cut_endless-requires-clause-tidy : goal.cut_endless-requires-clause-tidy
@@ -15,5 +14,5 @@ cut_endless-requires-clause-inside c =
 pub returns : goal.returns
 returns c =
     let f = c.split_at_mut-from in
-    endless_cut_at c.index-from-0.result c.cut_endless.new.own c.args.low c.args.spans.now.items
+    changes_at c.index-from-0.result c.cut_endless.new.own
     (record { front_is = f.ensures.front; back_is = f.ensures.back; within = c.requires.within }) c.cut_endless.ensures

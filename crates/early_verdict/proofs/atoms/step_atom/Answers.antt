@@ -1,7 +1,7 @@
 use Rattle.std.proofs.Common.{true, refl, sym, ◌∙◌}
 use Rattle.rational.proofs.Order.{same_refl}
 use Rattle.stl_syntax.specs.Trace.{row_time}
-use Rattle.early_verdict.specs.Adding.{AfterRow, Piece, before_row}
+use Rattle.early_verdict.specs.Adding.{AfterRow, before_row}
 use Rattle.frac128.specs.Cuts.{place}
 use Rattle.frac128.proofs.Wholes.{same_at_tick}
 use Rattle.early_verdict.proofs.AtomSets.{atom_fits, atom_stepped, grown_of, grown_then, near_of}
@@ -10,11 +10,8 @@ use Rattle.early_verdict.proofs.atoms.step_atom.Goals as goal
 
 pub returns-clause-stepped : goal.returns-clause-stepped
 returns-clause-stepped c =
-    let holds = c.holds-holds.result in
-    let p = c.in_ok-pending.pending in
     atom_stepped c.args.own.now c.rest.new.own c.add_truth.new.own c.rest.ensures
-    (grown_then c.rest.new.own c.up_to_row.new.own c.add_truth.new.own c.in_ok-pending.ensures.grown
-    (grown_of c.up_to_row.new.own c.add_truth.new.own (Piece holds (place p.from) (place c.after_tick.result)) c.in_ok-add_truth.ensures))
+    (grown_then c.in_ok-pending.ensures.grown (grown_of c.in_ok-add_truth.ensures))
 
 pub returns-clause-fits : goal.returns-clause-fits
 returns-clause-fits c a old tr for next from w =

@@ -30,7 +30,7 @@ returns-in_ok-there-in-Split-clause-grown c =
     let first = turned_grown c.args.own.now c.turn.new.own begun c.in_ok-there-in-Split.there c.holds-in-Split-2.result (before_time at) c.requires.own
     c.in_ok-there-in-Split.ensures in
     on_if c.turn-in-Split.result c.turn-in-Split.ensures (λ next h.
-    grown_then c.args.own.now c.turn.new.own c.turn-in-Split.new.own first
+    grown_then first
     (turned_grown c.turn.new.own c.turn-in-Split.new.own c.in_ok-there-in-Split.there next c.holds-in-Split-3.result (after_time at) first.tidy h))
 
 pub returns-in_ok-there-in-Split-clause-added : goal.returns-in_ok-there-in-Split-clause-added

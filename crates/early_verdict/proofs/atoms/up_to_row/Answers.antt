@@ -7,7 +7,7 @@ use Rattle.frac128.specs.Cuts.{place}
 use Rattle.early_verdict.specs.Adding.{AddsOnce, AfterRow, BetweenRows, before_row}
 use Rattle.frac128.specs.declared.cut.Cut.{Cut}
 use Rattle.early_verdict.proofs.AtomSets.{grown_none, grown_then}
-use Rattle.early_verdict.proofs.TurningLemmas.{adds_at_row, adds_first, if_good, on_if, turned_grown}
+use Rattle.early_verdict.proofs.TurningLemmas.{adds_at_row, adds_begun, if_good, on_if, turned_grown}
 use Rattle.early_verdict.proofs.atoms.up_to_row.Goals as goal
 
 -- a cut at a row's time
@@ -23,13 +23,13 @@ returns-in-None-clause-added c = λ a tr for near.
     let r = c.args.row.now in
     subst (λ o. AddsOnce (record { holds = c.args.holds; from = c.before_tick-at.result }) (before_row r) (AfterRow a tr o r) c.args.own.now c.args.own.now)
     (sym c.in-None.is)
-    (adds_first r c.before_tick-at.result
+    (adds_begun (before_row r) c.before_tick-at.result
     (at_row c.before_tick-at.result c.time.result r.time c.time.ensures c.before_tick-at.ensures) c.args.holds c.args.own.now)
 
 pub returns-in_ok-pending-in-Some-clause-grown : goal.returns-in_ok-pending-in-Some-clause-grown
 returns-in_ok-pending-in-Some-clause-grown c = on_if c.turn.result c.turn.ensures (λ next h.
     let grown = c.in_ok-pending-in-Some.ensures.grown in
-    grown_then c.args.own.now c.through_gap.new.own c.turn.new.own grown
+    grown_then grown
     (turned_grown c.through_gap.new.own c.turn.new.own c.in_ok-pending-in-Some.pending next c.args.holds (place c.before_tick-at.result) grown.tidy h))
 
 pub returns-in_ok-pending-in-Some-clause-added : goal.returns-in_ok-pending-in-Some-clause-added

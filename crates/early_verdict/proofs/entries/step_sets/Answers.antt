@@ -2,7 +2,7 @@ use Rattle.std.proofs.Common.{rules, ◌≡◌, sym, subst, ap, ◌∙◌, ◌++
 use Rattle.early_verdict.specs.Standing.{AllEmpty, AllTidy}
 use Rattle.early_verdict.specs.Living.{ComesOn}
 use Rattle.early_verdict.specs.declared.sets.Sets.{Sets}
-use Rattle.early_verdict.proofs.Undecided.{sets_written}
+use Rattle.early_verdict.proofs.Places.{written}
 use Rattle.early_verdict.proofs.entries.step_sets.Goals as goal
 
 pub step_all-requires-clause-count : goal.step_all-requires-clause-count
@@ -34,7 +34,7 @@ returns c =
     let long : length new ≡ live.len = search rules in
     let long_shown : length new_shown ≡ shown.len = search rules in
     subst (λ (xs : List Sets). ComesOn nodes b e before r live.items xs shown.items (take shown.len (new_shown ++ drop (length new_shown) shown.items)))
-    (sets_written new live.items live.len long)
-    (subst (λ (xs : List Sets). ComesOn nodes b e before r live.items new shown.items xs) (sets_written new_shown shown.items shown.len long_shown)
+    (written new live.items live.len long)
+    (subst (λ (xs : List Sets). ComesOn nodes b e before r live.items new shown.items xs) (written new_shown shown.items shown.len long_shown)
     (subst (λ (xs : List Sets). ComesOn nodes b e before r xs new shown.items new_shown) c.deref_mut.ensures.value
     (subst (λ (xs : List Sets). ComesOn nodes b e before r c.deref_mut.result.now new xs new_shown) c.deref_mut-2.ensures.value c.in_ok-step_all.ensures)))

@@ -1,6 +1,4 @@
-use Rattle.early_verdict.proofs.LettingLemmas.{run_cut_at}
-use Rattle.early_verdict.proofs.Splitting.{at_split}
-use Rattle.frac128.specs.Value.{value}
+use Rattle.early_verdict.proofs.Splitting.{at_split, changes_at}
 use Rattle.early_verdict.proofs.letting.cut_run_at.Goals as goal
 
 pub cut_run-requires-clause-tidy : goal.cut_run-requires-clause-tidy
@@ -16,5 +14,5 @@ cut_run-requires-clause-inside c =
 pub returns : goal.returns
 returns c =
     let f = c.split_at_mut-from in
-    run_cut_at c.index-from-0.result c.cut_run.new.own (value c.args.first.now.time) (value c.args.cut.now.time) c.args.wide
+    changes_at c.index-from-0.result c.cut_run.new.own
     (record { front_is = f.ensures.front; back_is = f.ensures.back; within = c.requires.within }) c.cut_run.ensures

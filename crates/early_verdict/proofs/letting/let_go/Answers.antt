@@ -3,7 +3,7 @@ use Rattle.stl_syntax.specs.Trace.{Trace}
 use Rattle.stl_syntax.specs.declared.node.Node.{Node}
 use Rattle.early_verdict.specs.Living.{NetStands}
 use Rattle.early_verdict.specs.declared.sets.Sets.{Sets}
-use Rattle.early_verdict.proofs.Undecided.{sets_written}
+use Rattle.early_verdict.proofs.Places.{written}
 use Rattle.early_verdict.proofs.letting.let_go.Goals as goal
 
 pub loop-i-init : goal.loop-i-init
@@ -47,8 +47,8 @@ loop-i-preserved c =
       within = omega (arith, c.loop-i.invariant.within);
       stands = λ tr h.
           subst (λ (xs : List Sets). NetStands nodes tr xs (take shown.len (new_shown ++ drop (length new_shown) shown.items)))
-          (sets_written new live.items live.len long)
-          (subst (λ (xs : List Sets). NetStands nodes tr new xs) (sets_written new_shown shown.items shown.len long_shown)
+          (written new live.items live.len long)
+          (subst (λ (xs : List Sets). NetStands nodes tr new xs) (written new_shown shown.items shown.len long_shown)
           (c.let_go_at.ensures tr (seen c.args.formula.now.nodes tr c.loop-i.net.live.items c.loop-i.net.shown.items c.deref_mut.result.now
           c.deref_mut-in-loop-i.result.now c.deref_mut.ensures.value c.deref_mut-in-loop-i.ensures.value (c.loop-i.invariant.stands tr h))));
     }

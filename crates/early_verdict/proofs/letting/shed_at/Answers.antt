@@ -1,6 +1,5 @@
-use Rattle.early_verdict.proofs.LettingLemmas.{shed_in_list}
 use Rattle.early_verdict.proofs.Places.{item_at}
-use Rattle.early_verdict.proofs.Splitting.{at_split}
+use Rattle.early_verdict.proofs.Splitting.{at_split, changes_at}
 use Rattle.early_verdict.proofs.letting.shed_at.Goals as goal
 
 pub shed-requires-clause-tidy : goal.shed-requires-clause-tidy
@@ -16,5 +15,8 @@ shed-requires-clause-inside c =
 pub returns : goal.returns
 returns c =
     let f = c.split_at_mut-from in
-    shed_in_list c.index-from-0.result c.shed.new.own (record { front_is = f.ensures.front; back_is = f.ensures.back; within = c.requires.live })
-    (item_at c.args.shown.now c.args.i c.index-shown-i.result c.requires.shown c.index-shown-i.is) c.shed.ensures
+    changes_at c.index-from-0.result c.shed.new.own (record { front_is = f.ensures.front; back_is = f.ensures.back; within = c.requires.live }) (record {
+      x = c.index-shown-i.result;
+      at_shown = item_at c.args.shown.now c.args.i c.index-shown-i.result c.requires.shown c.index-shown-i.is;
+      shed = c.shed.ensures;
+    })

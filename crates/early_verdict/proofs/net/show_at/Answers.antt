@@ -1,6 +1,5 @@
-use Rattle.early_verdict.proofs.LettingLemmas.{shows_at}
 use Rattle.early_verdict.proofs.Places.{item_at}
-use Rattle.early_verdict.proofs.Splitting.{at_split}
+use Rattle.early_verdict.proofs.Splitting.{at_split, changes_at}
 use Rattle.early_verdict.proofs.net.show_at.Goals as goal
 
 pub show-requires : goal.show-requires
@@ -11,5 +10,8 @@ show-requires c =
 pub returns : goal.returns
 returns c =
     let f = c.split_at_mut-from in
-    shows_at c.index-from-0.result c.show.new.shown (record { front_is = f.ensures.front; back_is = f.ensures.back; within = c.requires.within })
-    (item_at c.args.live.now c.args.i c.index-live-i.result c.requires.live_within c.index-live-i.is) c.in_ok-show.ensures
+    changes_at c.index-from-0.result c.show.new.shown (record { front_is = f.ensures.front; back_is = f.ensures.back; within = c.requires.within }) (record {
+      own = c.index-live-i.result;
+      at_live = item_at c.args.live.now c.args.i c.index-live-i.result c.requires.live_within c.index-live-i.is;
+      shown = c.in_ok-show.ensures;
+    })

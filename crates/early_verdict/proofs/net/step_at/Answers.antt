@@ -3,7 +3,7 @@ use Rattle.std.specs.Prelude.{slice_index_or}
 use Rattle.stl_syntax.specs.Formula.{HasChildrenBelow}
 use Rattle.early_verdict.specs.Standing.{LeafGoes, LeafIsBound}
 use Rattle.early_verdict.specs.declared.sets.Sets.{Sets}
-use Rattle.early_verdict.proofs.Splitting.{at_split, front_tidy, steps_at, on_two, length_front}
+use Rattle.early_verdict.proofs.Splitting.{at_split, changes_at, front_tidy, on_two, length_front}
 use Rattle.early_verdict.proofs.net.step_at.Goals as goal
 
 pub step_node-requires-clause-own : goal.step_node-requires-clause-own
@@ -39,7 +39,7 @@ returns c =
     let own : Sets = slice_index_or f.result.1.now 0 c.index-from-0.result in
     let size : length (take i shown) ≡ i = length_front shown i c.requires.shown_within in
     on_two c.step_node.result c.step_node.ensures.stepped c.step_node.ensures.fits (λ step fits. (
-      steps_at c.index-from-0.result c.step_node.new.own (record { front_is = f.ensures.front; back_is = f.ensures.back; within = c.requires.within }) step,
+      changes_at c.index-from-0.result c.step_node.new.own (record { front_is = f.ensures.front; back_is = f.ensures.back; within = c.requires.within }) step,
       λ old tr was h had parts leaf w.
           fits old tr was h had parts
           (subst (λ (k : ℕ). LeafGoes c.args.bound.now k c.args.entry.now old tr c.args.before.now c.args.row.now own n) (sym size) leaf) w,

@@ -1,7 +1,9 @@
 use Rattle.std.proofs.Common.{subst, sym}
 use Rattle.std.specs.Prelude.{OnOk}
+use Rattle.early_verdict.specs.Fitting.{NegationFits, ConjunctionFits, DisjunctionFits, ImplicationFits, UntilFits, SinceFits}
 use Rattle.early_verdict.specs.Standing.{GoesBy}
 use Rattle.growing_sets.proofs.WindowLemmas.{on_good}
+use Rattle.early_verdict.proofs.ChildLists.{one_list, two_lists}
 use Rattle.early_verdict.proofs.operators.step_operator.Goals as goal
 
 pub returns-in-Const-clause-fits : goal.returns-in-Const-clause-fits
@@ -11,30 +13,62 @@ returns-in-Const-clause-fits c =
 
 pub returns-in-Not-clause-fits : goal.returns-in-Not-clause-fits
 returns-in-Not-clause-fits c =
-    subst (λ n. OnOk c.go_negation.result (GoesBy n c.args.entry.now c.args.below.now c.args.own.now c.go_negation.new.own))
-    (sym c.in-Not.is) c.go_negation.ensures.fits
+    let n = c.in-Not in
+    let s = c.at.result.now in
+    subst (λ m. OnOk c.step_negation.result (GoesBy m c.args.entry.now c.args.below.now c.args.own.now c.step_negation.new.own)) (sym n.is)
+    (on_good c.step_negation.result c.step_negation.ensures.fits (λ f old tr was h had parts w.
+    one_list (λ l. NegationFits l c.step_negation.new.own) c.args.below.now n.of s c.at.ensures.at (f old tr (was n.of) (had n.of s c.at.ensures.at) w)))
 
 pub returns-in-And-clause-fits : goal.returns-in-And-clause-fits
 returns-in-And-clause-fits c =
-    subst (λ n. OnOk c.go_conjunction.result (GoesBy n c.args.entry.now c.args.below.now c.args.own.now c.go_conjunction.new.own))
-    (sym c.in-And.is) c.go_conjunction.ensures.fits
+    let n = c.in-And in
+    let l = c.at-in-And in
+    let r = c.at-in-And-2 in
+    subst (λ m. OnOk c.step_conjunction.result (GoesBy m c.args.entry.now c.args.below.now c.args.own.now c.step_conjunction.new.own)) (sym n.is)
+    (on_good c.step_conjunction.result c.step_conjunction.ensures.fits (λ f old tr was h had parts w.
+    two_lists (λ x y. ConjunctionFits x y c.step_conjunction.new.own) c.args.below.now n.left n.right l.result.now r.result.now l.ensures.at r.ensures.at
+    (f old tr (was n.left) (was n.right) (had n.left l.result.now l.ensures.at) (had n.right r.result.now r.ensures.at) w)))
 
 pub returns-in-Or-clause-fits : goal.returns-in-Or-clause-fits
 returns-in-Or-clause-fits c =
-    subst (λ n. OnOk c.go_disjunction.result (GoesBy n c.args.entry.now c.args.below.now c.args.own.now c.go_disjunction.new.own))
-    (sym c.in-Or.is) c.go_disjunction.ensures.fits
+    let n = c.in-Or in
+    let l = c.at-in-Or in
+    let r = c.at-in-Or-2 in
+    subst (λ m. OnOk c.step_disjunction.result (GoesBy m c.args.entry.now c.args.below.now c.args.own.now c.step_disjunction.new.own)) (sym n.is)
+    (on_good c.step_disjunction.result c.step_disjunction.ensures.fits (λ f old tr was h had parts w.
+    two_lists (λ x y. DisjunctionFits x y c.step_disjunction.new.own) c.args.below.now n.left n.right l.result.now r.result.now l.ensures.at r.ensures.at
+    (f old tr (was n.left) (was n.right) (had n.left l.result.now l.ensures.at) (had n.right r.result.now r.ensures.at) w)))
 
 pub returns-in-Implies-clause-fits : goal.returns-in-Implies-clause-fits
 returns-in-Implies-clause-fits c =
-    subst (λ n. OnOk c.go_implication.result (GoesBy n c.args.entry.now c.args.below.now c.args.own.now c.go_implication.new.own))
-    (sym c.in-Implies.is) c.go_implication.ensures.fits
+    let n = c.in-Implies in
+    let l = c.at-in-Implies in
+    let r = c.at-in-Implies-2 in
+    subst (λ m. OnOk c.step_implication.result (GoesBy m c.args.entry.now c.args.below.now c.args.own.now c.step_implication.new.own)) (sym n.is)
+    (on_good c.step_implication.result c.step_implication.ensures.fits (λ f old tr was h had parts w.
+    two_lists (λ x y. ImplicationFits x y c.step_implication.new.own) c.args.below.now n.left n.right l.result.now r.result.now l.ensures.at r.ensures.at
+    (f old tr (was n.left) (was n.right) (had n.left l.result.now l.ensures.at) (had n.right r.result.now r.ensures.at) w)))
 
 pub returns-in-Until-clause-fits : goal.returns-in-Until-clause-fits
 returns-in-Until-clause-fits c =
-    subst (λ n. OnOk c.go_until.result (GoesBy n c.args.entry.now c.args.below.now c.args.own.now c.go_until.new.own))
-    (sym c.in-Until.is) c.go_until.ensures.fits
+    let n = c.in-Until in
+    let l = c.at-in-Until in
+    let r = c.at-in-Until-2 in
+    subst (λ m. OnOk c.step_until.result (GoesBy m c.args.entry.now c.args.below.now c.args.own.now c.step_until.new.own)) (sym n.is)
+    (on_good c.step_until.result c.step_until.ensures.fits (λ f old tr was h had parts w.
+    two_lists (λ x y. UntilFits c.args.entry.now.ended tr n.low n.high x y c.step_until.new.own) c.args.below.now
+    n.left n.right l.result.now r.result.now l.ensures.at r.ensures.at
+    (f old tr (was n.left) (was n.right) n.low n.high c.ahead-w.ensures c.ahead-up_to.ensures h
+    (had n.left l.result.now l.ensures.at) (had n.right r.result.now r.ensures.at) (parts.1 l.result.now l.ensures.at) parts.0 w)))
 
 pub returns-in-Since-clause-fits : goal.returns-in-Since-clause-fits
 returns-in-Since-clause-fits c =
-    subst (λ n. OnOk c.go_since.result (GoesBy n c.args.entry.now c.args.below.now c.args.own.now c.go_since.new.own))
-    (sym c.in-Since.is) c.go_since.ensures.fits
+    let n = c.in-Since in
+    let l = c.at-in-Since in
+    let r = c.at-in-Since-2 in
+    subst (λ m. OnOk c.step_since.result (GoesBy m c.args.entry.now c.args.below.now c.args.own.now c.step_since.new.own)) (sym n.is)
+    (on_good c.step_since.result c.step_since.ensures.fits (λ f old tr was h had parts w.
+    two_lists (λ x y. SinceFits tr n.low n.high x y c.step_since.new.own) c.args.below.now
+    n.left n.right l.result.now r.result.now l.ensures.at r.ensures.at
+    (f old tr (was n.left) (was n.right) n.low n.high c.behind-w.ensures c.behind-down_to.ensures h
+    (had n.left l.result.now l.ensures.at) (had n.right r.result.now r.ensures.at) (parts.1 l.result.now l.ensures.at) parts.0 w)))

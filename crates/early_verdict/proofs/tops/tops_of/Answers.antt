@@ -1,7 +1,8 @@
 use Rattle.std.proofs.Common.{rules, ◌≡◌, ◌-◌, ◌+◌, ◌++◌, sym, subst, ℕ, List, length, take, drop, arith}
 use Rattle.early_verdict.specs.Standing.{AsksBelow, top_at}
 use Rattle.early_verdict.specs.Tops.{AreUpTo, rest_reach}
-use Rattle.early_verdict.proofs.TopsLemmas.{raised, written}
+use Rattle.early_verdict.proofs.Places.{written}
+use Rattle.early_verdict.proofs.TopsLemmas.{raised}
 use Rattle.early_verdict.proofs.tops.tops_of.Goals as goal
 
 pub loop-i-preserved : goal.loop-i-preserved

@@ -1,37 +1,20 @@
-use Rattle.std.proofs.Common.{◌∙◌, refl, subst, take, length}
-use Rattle.std.proofs.lemmas.List.{take_all}
+use Rattle.std.proofs.Common.{refl, take, length}
 use Rattle.std.proofs.lemmas.Option.{slice_get_read}
-use Rattle.growing_sets.specs.Spans.{Grows}
 use Rattle.growing_sets.specs.Windows.{SeesPart}
 use Rattle.growing_sets.specs.Steps.{BySome}
-use Rattle.growing_sets.proofs.GrowingLemmas.{grows_not}
-use Rattle.growing_sets.proofs.LoopLemmas.{grows_on}
+use Rattle.growing_sets.proofs.AddLemmas.{adds_none, adds_on, adds_all}
 use Rattle.growing_sets.proofs.held.add_all_seeing.Goals as goal
 
 pub loop-part-init : goal.loop-part-init
-loop-part-init c = record {
-  tidy = c.requires;
-  bounds = refl;
-  grows = grows_not
-      (BySome (SeesPart c.args.w.now) (take 0 c.args.parts.now)) (λ t b h. h);
-}
+loop-part-init c = adds_none (BySome (SeesPart c.args.w.now) (take 0 c.args.parts.now)) c.requires (λ t b h. h)
 
 pub loop-part-preserved : goal.loop-part-preserved
 loop-part-preserved c =
-    let own = c.args.own.now in
-    let here = c.loop-part.own in
-    let new = c.add_seeing.new.own in
-    record {
-      tidy = c.in_ok-add_seeing.ensures.tidy;
-      bounds = c.add_seeing.ensures.bounds ∙ c.loop-part.invariant.bounds;
-      grows = grows_on (SeesPart c.args.w.now) c.args.parts.now c.loop-part.part-index c.loop-part.invariant.bounds
-          (slice_get_read c.args.parts.now (length c.args.parts.now) c.loop-part.part-index c.part-item.result refl c.loop-part-test.true c.part-item.is)
-          c.loop-part.invariant.grows c.in_ok-add_seeing.ensures.ok;
-    }
+    adds_on (SeesPart c.args.w.now) c.args.parts.now c.loop-part.part-index
+    (slice_get_read c.args.parts.now (length c.args.parts.now) c.loop-part.part-index c.part-item.result refl c.loop-part-test.true c.part-item.is)
+    c.loop-part.invariant c.in_ok-add_seeing.ensures.ok
 
 pub returns-clause-ok : goal.returns-clause-ok
 returns-clause-ok c =
-    let own = c.args.own.now in
-    let here = c.loop-part.own in
-    subst (λ xs. Grows own.bounds own.spans.items here.spans.items own.fresh.items here.fresh.items (BySome (SeesPart c.args.w.now) xs))
-    (take_all c.loop-part.part-index c.args.parts.now c.loop-part-test.false) c.loop-part.invariant.grows
+    adds_all (SeesPart c.args.w.now) c.args.parts.now c.loop-part.part-index
+    c.loop-part-test.false c.loop-part.invariant

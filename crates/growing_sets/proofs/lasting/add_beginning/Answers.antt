@@ -7,18 +7,14 @@ use Rattle.frac128.specs.Cuts.{place}
 use Rattle.growing_sets.specs.Windows.{low_place}
 use Rattle.growing_sets.specs.Lasting.{BeginsFrom}
 use Rattle.rational.proofs.PlaceLemmas.{sides, not_both}
-use Rattle.growing_sets.proofs.GrowingLemmas.{grows_not}
-use Rattle.growing_sets.proofs.LoopLemmas.{grows_alike}
+use Rattle.growing_sets.proofs.AddLemmas.{adds_none, adds_alike}
 use Rattle.growing_sets.proofs.WindowLemmas.{on_good, near_fits}
 use Rattle.growing_sets.proofs.lasting.add_beginning.Goals as goal
 
 pub returns-then-not-precedes-clause-ok : goal.returns-then-not-precedes-clause-ok
 returns-then-not-precedes-clause-ok c =
-    let own = c.args.own.now in
-    let new = c.add.new.self in
-    let bounds = c.bounds-bounds.result in
     on_good c.add.result c.add.ensures.ok
-    (grows_alike
+    (λ a. adds_alike a
     (λ t b h. inl (λ x. let e = c.precedes.ensures.1 x in let f = c.if-not-precedes.true in cc))
     (λ t b h. subst (λ x. After (place x.from) t × Upto (place x.to) t) (sym c.bounds-bounds.ensures) b))
 
@@ -30,11 +26,8 @@ returns-in-Some-clause-ok c =
     let low : (t : Rational) → Upto (place c.before_low.result) t ↔ Before (low_place c.in-Some.low w.low_in t) from =
     subst (λ k. (t : Rational) → Upto (place c.before_low.result) t ↔ Before (low_place k w.low_in t) from) (near_fits c.in-Some.low near)
     c.before_low.ensures in
-    let own = c.args.own.now in
-    let new = c.add-in-Some.new.self in
-    let bounds = c.bounds-bounds.result in
     on_good c.add-in-Some.result c.add-in-Some.ensures.ok
-    (grows_alike
+    (λ a. adds_alike a
     (λ t b h. inr (subst (λ l. MatchOption l ⊥ (λ k. ¬ (Before (low_place k w.low_in t) from))) (sym c.in-Some.is)
     (λ x. not_both (place c.before_low.result) t ((low t).1 x) h.0)))
     (λ t b h. (
@@ -51,9 +44,8 @@ returns-in-Some-clause-ok c =
 pub returns-in-None-clause-ok : goal.returns-in-None-clause-ok
 returns-in-None-clause-ok c =
     let w = c.args.w.now in
-    let own = c.args.own.now in
     let from = place c.args.from.now in
-    grows_not (BeginsFrom w (place c.args.start.now) from)
+    adds_none (BeginsFrom w (place c.args.start.now) from) c.requires.own
     (λ t b h. elim h [
       | inl n ↦ n (c.precedes.ensures.0 c.if-not-precedes.false)
       | inr m ↦ subst (λ l. MatchOption l ⊥ (λ k. ¬ (Before (low_place k w.low_in t) from))) c.in-None.is m

@@ -1,12 +1,7 @@
-use Rattle.std.proofs.Common.{◌≡◌, take}
-use Rattle.growing_sets.specs.Spans.{AreTidy, Grows}
+use Rattle.std.proofs.Common.{take}
 use Rattle.growing_sets.specs.Steps.{BySome, Common}
+use Rattle.growing_sets.specs.Growing.{Adds}
 use Rattle.growing_sets.proofs.pointwise.add_all_common.Given as goal
 
 abbrev pub invariant-loop-part : goal.invariant-loop-part
-invariant-loop-part l = record {
-  tidy : AreTidy l.own.spans.items;
-  bounds : l.own.bounds ≡ l.initial.own.bounds;
-  grows : Grows l.initial.own.bounds l.initial.own.spans.items l.own.spans.items l.initial.own.fresh.items l.own.fresh.items
-      (BySome (Common l.spans.items) (take l.part-index l.parts));
-}
+invariant-loop-part l = Adds l.initial.own l.own (BySome (Common l.spans.items) (take l.part-index l.parts))

@@ -1,15 +1,13 @@
-use Rattle.std.proofs.Common.{◌≡◌, ◌≤◌, ◌-◌, length, take}
-use Rattle.growing_sets.specs.Spans.{AreTidy, Grows}
-use Rattle.growing_sets.specs.Steps.{Common}
+use Rattle.std.proofs.Common.{◌≤◌, ◌-◌, length, take}
+use Rattle.growing_sets.specs.Growing.{Adds}
+use Rattle.growing_sets.specs.Steps.{BySome}
+use Rattle.growing_sets.proofs.BetweenLemmas.{Shares}
 use Rattle.growing_sets.proofs.pointwise.add_common.Given as goal
 
 abbrev pub invariant-loop-next : goal.invariant-loop-next
 invariant-loop-next l = record {
   within : l.at ≤ length l.spans.items;
-  tidy : AreTidy l.own.spans.items;
-  bounds : l.own.bounds ≡ l.initial.own.bounds;
-  grows : Grows l.initial.own.bounds l.initial.own.spans.items l.own.spans.items l.initial.own.fresh.items l.own.fresh.items
-      (Common (take l.at l.spans.items) l.part);
+  adds : Adds l.initial.own l.own (BySome (Shares l.part) (take l.at l.spans.items));
 }
 
 abbrev pub decreases-loop-next : goal.decreases-loop-next

@@ -1,44 +1,31 @@
-use Rattle.std.proofs.Common.{◌<◌, ◌∙◌, refl, length, arith}
+use Rattle.std.proofs.Common.{◌<◌, length, arith}
 use Rattle.std.proofs.lemmas.Option.{slice_get_within}
 use Rattle.frac128.specs.Cuts.{place}
 use Rattle.growing_sets.specs.Reaching.{ReachesBy}
-use Rattle.growing_sets.proofs.LoopLemmas.{grows_on}
+use Rattle.growing_sets.proofs.AddLemmas.{adds_on}
 use Rattle.growing_sets.proofs.BetweenLemmas.{between_first, between_last}
 use Rattle.growing_sets.proofs.reach.add_reaching_between.Goals as goal
 
 pub loop-next-init : goal.loop-next-init
-loop-next-init c =
-    let own = c.args.own.now in
-    record {
-      within = c.reaching-at.ensures.within;
-      tidy = c.requires.own;
-      bounds = refl;
-      grows = between_first (ReachesBy c.args.runs.now.items c.args.spans.now.items (place c.args.before.now) (place c.args.sure.now))
-          (place c.args.before.now) (place c.args.sure.now) own.bounds
-          c.args.spans.now.items c.reaching-at.result (λ s t h. (h.3.0, h.3.1)) own.spans.items own.fresh.items c.reaching-at.ensures.front;
-    }
+loop-next-init c = record {
+  within = c.reaching-at.ensures.within;
+  adds = between_first (ReachesBy c.args.runs.now.items c.args.spans.now.items (place c.args.before.now) (place c.args.sure.now))
+      (place c.args.before.now) (place c.args.sure.now) c.args.spans.now.items c.reaching-at.result (λ s t h. (h.3.0, h.3.1))
+      c.args.own.now c.requires.own c.reaching-at.ensures.front;
+}
 
 pub loop-next-preserved : goal.loop-next-preserved
 loop-next-preserved c =
-    let own = c.args.own.now in
-    let here = c.loop-next.own in
-    let new = c.add_reaching_by.new.own in
-    let next = c.in-Some.next in
-    let below : c.loop-next.at < length c.args.spans.now.items = slice_get_within c.args.spans.now.items c.loop-next.at next c.in-Some.ensures.some.0 in
+    let there = c.in-Some.ensures.some.0 in
+    let below : c.loop-next.at < length c.args.spans.now.items = slice_get_within c.args.spans.now.items c.loop-next.at c.in-Some.next there in
     record {
       within = omega arith;
-      tidy = c.in_ok-add_reaching_by.ensures.tidy;
-      bounds = c.add_reaching_by.ensures.bounds ∙ c.loop-next.invariant.bounds;
-      grows = grows_on (ReachesBy c.args.runs.now.items c.args.spans.now.items (place c.args.before.now) (place c.args.sure.now))
-          c.args.spans.now.items c.loop-next.at c.loop-next.invariant.bounds
-          c.in-Some.ensures.some.0 c.loop-next.invariant.grows c.in_ok-add_reaching_by.ensures.ok;
+      adds = adds_on (ReachesBy c.args.runs.now.items c.args.spans.now.items (place c.args.before.now) (place c.args.sure.now))
+          c.args.spans.now.items c.loop-next.at there c.loop-next.invariant.adds c.in_ok-add_reaching_by.ensures.ok;
     }
 
 pub returns-clause-ok : goal.returns-clause-ok
 returns-clause-ok c =
-    let own = c.args.own.now in
-    let here = c.loop-next.own in
     between_last (ReachesBy c.args.runs.now.items c.args.spans.now.items (place c.args.before.now) (place c.args.sure.now))
-    (place c.args.before.now) (place c.args.sure.now) own.bounds
-    c.args.spans.now.items c.loop-next.at (λ s t h. (h.3.0, h.3.1)) own.spans.items here.spans.items own.fresh.items here.fresh.items c.requires.spans
-    c.in_default.ensures.none c.loop-next.invariant.grows
+    (place c.args.before.now) (place c.args.sure.now) c.args.spans.now.items c.loop-next.at (λ s t h. (h.3.0, h.3.1))
+    c.requires.spans c.in_default.ensures.none c.loop-next.invariant.adds

@@ -3,25 +3,18 @@ use Rattle.growing_sets.specs.Reaching.{ReachesBy, IsNew}
 use Rattle.rational.specs.Time.{Rational}
 use Rattle.std.specs.Prelude.{◌↔◌}
 use Rattle.growing_sets.specs.Spans.{Lies}
-use Rattle.growing_sets.proofs.GrowingLemmas.{grows_not}
-use Rattle.growing_sets.proofs.LoopLemmas.{grows_alike}
+use Rattle.growing_sets.proofs.AddLemmas.{adds_none, adds_alike}
 use Rattle.growing_sets.proofs.ReachLemmas.{newly, from_newly}
 use Rattle.growing_sets.proofs.WindowLemmas.{on_good}
 use Rattle.growing_sets.proofs.reach.add_reaching_by.Goals as goal
 
 pub returns-in-None-clause-ok : goal.returns-in-None-clause-ok
 returns-in-None-clause-ok c =
-    let own = c.args.own.now in
-    grows_not
-    (ReachesBy c.args.runs.now.items c.args.spans.now.items (place c.args.before.now) (place c.args.sure.now) c.args.part.now)
+    adds_none (ReachesBy c.args.runs.now.items c.args.spans.now.items (place c.args.before.now) (place c.args.sure.now) c.args.part.now) c.requires.own
     (λ t b h. let w = h.3 in c.in-None.ensures.none w.0 w.1.1 w.1.2 w.1.0)
 
 pub returns-in-Some-clause-ok : goal.returns-in-Some-clause-ok
 returns-in-Some-clause-ok c =
-    let own = c.args.own.now in
-    let new = c.add_reaching_at.new.own in
-    let runs = c.args.runs.now.items in
-    let spans = c.args.spans.now.items in
     let before = place c.args.before.now in
     let sure = place c.args.sure.now in
     let part = c.in-Some.newly in
@@ -30,6 +23,6 @@ returns-in-Some-clause-ok c =
       λ h. (c.in-Some.ensures.some t).1 (h.1, h.2, h.0),
     ) in
     on_good c.add_reaching_at.result c.add_reaching_at.ensures.ok
-    (grows_alike
+    (λ a. adds_alike a
     (λ t b h. (h.0, h.1, h.3, newly before sure c.args.part.now part h.0 is h.2))
     (λ t b h. let w = h.3 in (h.0, h.1, from_newly before sure c.args.part.now part h.0 is w.0 w.1 w.2 w.3, h.2)))

@@ -5,25 +5,16 @@ use Rattle.growing_sets.specs.Bounds.{reach_of}
 use Rattle.std.specs.Prelude.{◌↔◌, unsigned_abs, MatchOption}
 use Rattle.rational.specs.Places.{After, Upto, Before}
 use Rattle.frac128.specs.Cuts.{place}
-use Rattle.growing_sets.specs.Spans.{Grows}
 use Rattle.growing_sets.specs.Windows.{IsHeld, low_place}
 use Rattle.rational.proofs.PlaceLemmas.{sides, not_both}
-use Rattle.growing_sets.proofs.GrowingLemmas.{grows_not}
-use Rattle.growing_sets.proofs.LoopLemmas.{grows_alike}
-use Rattle.growing_sets.proofs.WindowLemmas.{on_ok, near_fits}
+use Rattle.growing_sets.proofs.AddLemmas.{adds_none, adds_alike}
+use Rattle.growing_sets.proofs.WindowLemmas.{on_good, near_fits}
 use Rattle.growing_sets.proofs.seeing.add_held.Goals as goal
 
 pub returns-then-not-precedes-clause-ok : goal.returns-then-not-precedes-clause-ok
 returns-then-not-precedes-clause-ok c =
-    let w = c.args.w.now in
-    let own = c.args.own.now in
-    let new = c.add.new.self in
-    let held = IsHeld w (place c.args.start.now) c.args.span.now in
-    on_ok c.add.result
-    (Grows own.bounds own.spans.items new.spans.items own.fresh.items new.fresh.items
-    (λ t. After (place c.bounds-bounds.result.from) t × Upto (place c.past_high-to.result) t))
-    (Grows own.bounds own.spans.items new.spans.items own.fresh.items new.fresh.items held)
-    (grows_alike
+    on_good c.add.result c.add.ensures.ok
+    (λ a. adds_alike a
     (λ t b h. (
       inl (λ x. let e = c.precedes.ensures.1 x in let f = c.if-not-precedes.true in cc),
       λ x. not_both (place c.past_high-to.result) t h.1 ((c.past_high-to.ensures t).1 x),
@@ -32,7 +23,6 @@ returns-then-not-precedes-clause-ok c =
       subst (λ x. After (place x.from) t) (sym c.bounds-bounds.ensures) b.0,
       elim (sides (place c.past_high-to.result) t) [ inl u ↦ u | inr a ↦ absurd (h.1 ((c.past_high-to.ensures t).0 a)) ],
     )))
-    c.add.ensures.ok
 
 pub returns-in-Some-clause-ok : goal.returns-in-Some-clause-ok
 returns-in-Some-clause-ok c =
@@ -42,14 +32,8 @@ returns-in-Some-clause-ok c =
     let low : (t : Rational) → Upto (place c.before_low.result) t ↔ Before (low_place c.in-Some.low w.low_in t) (place span.from) =
     subst (λ k. (t : Rational) → Upto (place c.before_low.result) t ↔ Before (low_place k w.low_in t) (place span.from)) (near_fits c.in-Some.low near)
     c.before_low.ensures in
-    let own = c.args.own.now in
-    let new = c.add-in-Some.new.self in
-    let held = IsHeld w (place c.args.start.now) span in
-    on_ok c.add-in-Some.result
-    (Grows own.bounds own.spans.items new.spans.items own.fresh.items new.fresh.items
-    (λ t. After (place c.before_low.result) t × Upto (place c.past_high-to.result) t))
-    (Grows own.bounds own.spans.items new.spans.items own.fresh.items new.fresh.items held)
-    (grows_alike
+    on_good c.add-in-Some.result c.add-in-Some.ensures.ok
+    (λ a. adds_alike a
     (λ t b h. (
       inr (subst (λ l. MatchOption l ⊥ (λ k. ¬ (Before (low_place k w.low_in t) (place span.from)))) (sym c.in-Some.is)
           (λ x. not_both (place c.before_low.result) t ((low t).1 x) h.0)),
@@ -66,13 +50,12 @@ returns-in-Some-clause-ok c =
       ],
       elim (sides (place c.past_high-to.result) t) [ inl u ↦ u | inr a ↦ absurd (h.1 ((c.past_high-to.ensures t).0 a)) ],
     )))
-    c.add-in-Some.ensures.ok
 
 pub returns-in-None-clause-ok : goal.returns-in-None-clause-ok
 returns-in-None-clause-ok c =
     let w = c.args.w.now in
     let span = c.args.span.now in
-    grows_not (IsHeld w (place c.args.start.now) span)
+    adds_none (IsHeld w (place c.args.start.now) span) c.requires
     (λ t b h. elim h.0 [
       | inl n ↦ n (c.precedes.ensures.0 c.if-not-precedes.false)
       | inr m ↦ subst (λ l. MatchOption l ⊥ (λ k. ¬ (Before (low_place k w.low_in t) (place span.from)))) c.in-None.is m

@@ -8,7 +8,7 @@ use Rattle.growing_sets.specs.declared.stretch.Stretch.{Stretch}
 use Rattle.growing_sets.proofs.StretchesJoin.{Absorbing, absorb_first, absorb_next, absorb_last, touches_first, touches_second}
 use Rattle.growing_sets.proofs.SpanLemmas.{without, reaches_at, set_is, get_next, drop_next, without_next, within_without}
 use Rattle.growing_sets.proofs.BlockLemmas.{length_remove}
-use Rattle.growing_sets.proofs.GrowingLemmas.{grows_by, tidy_by}
+use Rattle.growing_sets.proofs.GrowingLemmas.{put_in_by}
 use Rattle.growing_sets.proofs.touching.join.Goals as goal
 
 -- what begins after the place behind the joined one begins after it where that one was taken out
@@ -72,19 +72,10 @@ loop-next-preserved c =
       within = subst (λ ys. at < length ys) (sym left) (let k = within_without xs (suc at) next there in omega arith);
     }
 
-pub returns-clause-tidy : goal.returns-clause-tidy
-returns-clause-tidy c =
+pub returns : goal.returns
+returns c =
     let w = c.loop-next.invariant.within in
-    tidy_by c.loop-next.invariant.joins.tidy
-    (absorb_last c.args.at c.args.part.now c.loop-next.joined c.loop-next.seen c.args.spans.now.items (without c.loop-next.spans.items c.args.at)
-    c.args.fresh.now.items c.loop-next.fresh.items c.loop-next.invariant.joins c.note-2.new.fresh.items c.args.part.now.to c.in_ok-note-3.ensures
-    (last_begins (place c.args.part.now.to) c.loop-next.spans.items c.args.at c.in_default.ensures.none) refl)
-    (c.set.ensures ∙ set_is c.loop-next.spans.items c.args.at c.loop-next.joined (omega arith))
-
-pub returns-clause-ok : goal.returns-clause-ok
-returns-clause-ok c =
-    let w = c.loop-next.invariant.within in
-    grows_by (λ t l. (l, l)) (λ t b p. p)
+    put_in_by c.loop-next.invariant.joins.tidy
     (absorb_last c.args.at c.args.part.now c.loop-next.joined c.loop-next.seen c.args.spans.now.items (without c.loop-next.spans.items c.args.at)
     c.args.fresh.now.items c.loop-next.fresh.items c.loop-next.invariant.joins c.note-2.new.fresh.items c.args.part.now.to c.in_ok-note-3.ensures
     (last_begins (place c.args.part.now.to) c.loop-next.spans.items c.args.at c.in_default.ensures.none) refl)

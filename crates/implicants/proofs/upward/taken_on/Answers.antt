@@ -2,6 +2,7 @@ use Rattle.std.proofs.Common.{◌<◌, ◌≤◌, ◌^◌, ap, arith, length, su
 use Rattle.std.proofs.lemmas.Result.{IfOk-weaker, on_ok_weaker}
 use Rattle.value_laws.specs.Kinds.{kleene_shape}
 use Rattle.stl_syntax.specs.Trace.{first_time}
+use Rattle.offline_eval.specs.Forms.{of_knots}
 use Rattle.offline_eval.specs.Making.{AreSound, TellsNode}
 use Rattle.stl_syntax.proofs.FormulaLemmas.{below_later}
 use Rattle.implicants.proofs.Lifting.{IsMadeOf, child_not_atom, is_so, kids_best, node_best, some_then}
@@ -25,7 +26,7 @@ of_node-requires-clause-children c =
 
 pub of_node-requires-clause-sound : goal.of_node-requires-clause-sound
 of_node-requires-clause-sound c =
-    subst (AreSound kleene_shape c.first-from.result c.last-to.result 4294967295) (sym c.deref.ensures.value)
+    subst (AreSound (of_knots kleene_shape) c.first-from.result c.last-to.result 4294967295) (sym c.deref.ensures.value)
     (whole_sound c.args.trace.now c.put_other.new.done.items c.first-from.result c.last-to.result c.first-from.ensures c.last-to.ensures.last
     c.put_other.ensures.whole)
 
@@ -41,7 +42,7 @@ put_lost-requires-clause-made c =
     let late = subst (λ n. n < 2 ^ 32) c.last-to.ensures.last c.last-to.type_inv in
     let order = subst (λ n. first_time tr.rows ≤ n) c.last-to.ensures.last c.last-to.ensures.later in
     whole_made tr c.in-Ok.made c.first-from.result c.last-to.result _ c.first-from.ensures c.last-to.ensures.last order late c.len-2.ensures.signal
-    (c.in-Ok.ensures.sound 4294967295 (subst (AreSound kleene_shape c.first-from.result c.last-to.result 4294967295) (sym c.deref.ensures.value)
+    (c.in-Ok.ensures.sound 4294967295 (subst (AreSound (of_knots kleene_shape) c.first-from.result c.last-to.result 4294967295) (sym c.deref.ensures.value)
     (whole_sound tr c.put_other.new.done.items c.first-from.result c.last-to.result c.first-from.ensures c.last-to.ensures.last c.put_other.ensures.whole)))
 
 pub put_lost-requires-clause-whole : goal.put_lost-requires-clause-whole
@@ -68,9 +69,9 @@ returns-clause-best c = IfOk-weaker c.put_lost.result _ _ (λ o best. some_then 
     let kids = kids_best nodes tr all marks i signs n c.args.j c.args.k c.beside_in-beside.result.other c.args.done.now.items new operands
     c.node-node.ensures.below (omega (arith, inside, count)) before c.put_other.ensures.stay
     (λ m is l. c.in_ok-put_other.ensures.best m is l nodes all marks i ground.lost) in
-    let told = subst (λ xs. TellsNode kleene_shape c.first-from.result c.last-to.result n xs c.in-Ok.made) c.deref.ensures.value c.in-Ok.ensures.told in
-    let told' = subst (λ a. TellsNode kleene_shape a c.last-to.result n new c.in-Ok.made) c.first-from.ensures told in
-    let told'' = subst (λ b. TellsNode kleene_shape (first_time tr.rows) b n new c.in-Ok.made) c.last-to.ensures.last told' in
+    let told = subst (λ xs. TellsNode (of_knots kleene_shape) c.first-from.result c.last-to.result n xs c.in-Ok.made) c.deref.ensures.value c.in-Ok.ensures.told in
+    let told' = subst (λ a. TellsNode (of_knots kleene_shape) a c.last-to.result n new c.in-Ok.made) c.first-from.ensures told in
+    let told'' = subst (λ b. TellsNode (of_knots kleene_shape) (first_time tr.rows) b n new c.in-Ok.made) c.last-to.ensures.last told' in
     let made : IsMadeOf nodes tr signs c.args.j n new = record {
       at = c.node-node.ensures.node;
       below = c.node-node.ensures.below;
@@ -96,9 +97,9 @@ returns-clause-gained c = on_ok_weaker c.put_lost.result
     let kids = kids_best nodes tr all marks i signs n c.args.j c.args.k c.beside_in-beside.result.other c.args.done.now.items new operands
     c.node-node.ensures.below (omega (arith, inside, count)) before c.put_other.ensures.stay
     (λ m is l. c.in_ok-put_other.ensures.best m is l nodes all marks i ground.lost) in
-    let told = subst (λ xs. TellsNode kleene_shape c.first-from.result c.last-to.result n xs c.in-Ok.made) c.deref.ensures.value c.in-Ok.ensures.told in
-    let told' = subst (λ a. TellsNode kleene_shape a c.last-to.result n new c.in-Ok.made) c.first-from.ensures told in
-    let told'' = subst (λ b. TellsNode kleene_shape (first_time tr.rows) b n new c.in-Ok.made) c.last-to.ensures.last told' in
+    let told = subst (λ xs. TellsNode (of_knots kleene_shape) c.first-from.result c.last-to.result n xs c.in-Ok.made) c.deref.ensures.value c.in-Ok.ensures.told in
+    let told' = subst (λ a. TellsNode (of_knots kleene_shape) a c.last-to.result n new c.in-Ok.made) c.first-from.ensures told in
+    let told'' = subst (λ b. TellsNode (of_knots kleene_shape) (first_time tr.rows) b n new c.in-Ok.made) c.last-to.ensures.last told' in
     let made : IsMadeOf nodes tr signs c.args.j n new = record {
       at = c.node-node.ensures.node;
       below = c.node-node.ensures.below;

@@ -7,6 +7,7 @@ use Rattle.stl_syntax.specs.Limits.{own_reach}
 use Rattle.offline_eval.specs.Making.{IsSound, TellsValue, IsFaultOf}
 use Rattle.offline_eval.specs.Places.{reach_before}
 use Rattle.offline_eval.proofs.Places.{on_ok, atom_takes, other_takes, atom_sound, atom_told, not_atom, sum_on}
+use Rattle.offline_eval.specs.Forms.{of_knots}
 use Rattle.offline_eval.proofs.evaluation.next_signal.Goals as goal
 
 pub take-requires : goal.take-requires
@@ -40,10 +41,11 @@ returns-in_default g c =
     record {
       rest = on_ok c.of_node.result (other_takes nodes c.args.i n c.args.atoms.now c.node.ensures.node (not_atom n c.in_default.not-Atom));
       sound = IfOk-weaker c.of_node.result _ _
-          (λ r h all. subst (λ k. IsSound g.P.Shape c.args.from c.args.to k r) (sym (sum_on own_reach nodes c.args.i n c.node.ensures.node))
+          (λ r h all. subst (λ k. IsSound (of_knots g.P.Shape) c.args.from c.args.to k r) (sym (sum_on own_reach nodes c.args.i n c.node.ensures.node))
           (h (reach_before nodes c.args.i) all)) c.of_node.ensures.sound;
       told = IfOk-weaker c.of_node.result _ _
-          (λ r h s at all over left atoms agree before. subst (λ t. TellsValue g.P.Shape s t r) (agree n c.node.ensures.node ∙ sym c.node.ensures.subformula)
+          (λ r h s at all over left atoms agree before. subst (λ t. TellsValue (of_knots g.P.Shape) s t r) (agree n c.node.ensures.node
+          ∙ sym c.node.ensures.subformula)
           (h s at c.args.i over before)) c.of_node.ensures.told;
       wide = IfErr-weaker c.of_node.result _ _
           (λ e h s at over agree before. subst (λ t. IsFaultOf g.P.Shape s t e) (agree n c.node.ensures.node ∙ sym c.node.ensures.subformula)

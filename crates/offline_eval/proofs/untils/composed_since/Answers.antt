@@ -11,25 +11,27 @@ use Rattle.offline_eval.proofs.UntilLemmas.{from_start_fit, composed_moved, has_
 use Rattle.offline_eval.proofs.UntilLemmas.{since_within_fault, from_start_fault, since_kept_fault, since_least_fault}
 use Rattle.offline_eval.proofs.untils.composed_since.Given.{Over}
 use Rattle.offline_eval.proofs.untils.composed_since.Goals.{In_ok-within, In_ok-from_start, In_ok-kept}
+use Rattle.offline_eval.specs.Forms.{of_knots}
+use Rattle.offline_eval.proofs.Forms.{knots_laws}
 use Rattle.offline_eval.proofs.untils.composed_since.Goals as goal
 
 -- what the parts ask and give
 small_within : (g : Over) (c : In_ok-within g) → IsLimited g.P.Shape c.in_ok-within.within
 small_within g c =
     let fit = c.requires.fit.right in
-    limited_along g.P.Shape _ c.args.y.now c.in_ok-within.within fit.limited c.in_ok-within.ensures.worth
-    (λ t v s. sup_over_bounded g.P.Shape c.args.y.now _ v g.met.P.Shape.lowest_bounded fit.limited s)
+    limited_along (knots_laws g.P.Shape) _ c.args.y.now c.in_ok-within.within fit.limited c.in_ok-within.ensures.worth
+    (λ t v s. sup_over_bounded (knots_laws g.P.Shape) c.args.y.now _ v g.met.P.Shape.lowest_bounded fit.limited s)
 
-fits : (g : Over) (c : In_ok-from_start g) → IsFit g.P.Shape c.in_ok-from_start.from_start
+fits : (g : Over) (c : In_ok-from_start g) → IsFit (of_knots g.P.Shape) c.in_ok-from_start.from_start
 fits g c =
-    from_start_fit g.P.Shape (assumption g.met.P.Shape) c.args.x.now c.args.y.now c.in_ok-from_start.from_start c.requires.fit
+    from_start_fit (knots_laws g.P.Shape) (assumption g.met.P.Shape) c.args.x.now c.args.y.now c.in_ok-from_start.from_start c.requires.fit
     c.in_ok-from_start.ensures.worth c.in_ok-from_start.ensures.bases
 
 small_kept : (g : Over) (c : In_ok-kept g) → IsLimited g.P.Shape c.in_ok-kept.kept
 small_kept g c =
     let fit = fits g (goal.at.In_ok-kept g c).In_ok-from_start in
-    limited_along g.P.Shape _ c.in_ok-from_start.from_start c.in_ok-kept.kept fit.limited c.in_ok-kept.ensures.worth
-    (λ t v s. inf_over_bounded g.P.Shape c.in_ok-from_start.from_start _ v g.met.P.Shape.highest_bounded fit.limited s)
+    limited_along (knots_laws g.P.Shape) _ c.in_ok-from_start.from_start c.in_ok-kept.kept fit.limited c.in_ok-kept.ensures.worth
+    (λ t v s. inf_over_bounded (knots_laws g.P.Shape) c.in_ok-from_start.from_start _ v g.met.P.Shape.highest_bounded fit.limited s)
 
 pub sup_past-requires-clause-order : goal.sup_past-requires-clause-order
 sup_past-requires-clause-order g c = in_order c.args.low c.args.high c.requires.order
@@ -58,18 +60,19 @@ lower-requires g c =
 
 pub returns-in_err-within-clause-wide : goal.returns-in_err-within-clause-wide
 returns-in_err-within-clause-wide g c = err_same c.from_residual.result c.in_err-within.field-0.0 _ c.from_residual.ensures.1
-    (λ s p q ends left right. since_within_fault g.P.Shape s p q ends c.args.x.now c.args.y.now left right c.args.x.now c.args.low c.args.high
+    (λ s p q ends left right. since_within_fault (knots_laws g.P.Shape) s p q ends c.args.x.now c.args.y.now left right c.args.x.now c.args.low c.args.high
     c.in_err-within.field-0.0 c.in_err-within.ensures.wide)
 
 pub returns-in_err-from_start-clause-wide : goal.returns-in_err-from_start-clause-wide
 returns-in_err-from_start-clause-wide g c =
     err_same c.from_residual-in_err-from_start.result c.in_err-from_start.field-0.0 _ c.from_residual-in_err-from_start.ensures.1
-    (λ s p q ends left right. from_start_fault g.P.Shape c.args.x.now c.args.y.now p q c.args.low c.args.high s c.in_err-from_start.field-0.0
+    (λ s p q ends left right. from_start_fault (knots_laws g.P.Shape) c.args.x.now c.args.y.now p q c.args.low c.args.high s c.in_err-from_start.field-0.0
     ends.lowest ends.highest left right c.in_err-from_start.ensures.wide)
 
 pub returns-in_err-kept-clause-wide : goal.returns-in_err-kept-clause-wide
 returns-in_err-kept-clause-wide g c = err_same c.from_residual-in_err-kept.result c.in_err-kept.field-0.0 _ c.from_residual-in_err-kept.ensures.1
-    (λ s p q ends left right. since_kept_fault g.P.Shape s p q ends c.args.x.now c.args.y.now left right c.in_ok-from_start.from_start c.args.low c.args.high
+    (λ s p q ends left right. since_kept_fault
+    (knots_laws g.P.Shape) s p q ends c.args.x.now c.args.y.now left right c.in_ok-from_start.from_start c.args.low c.args.high
     c.in_err-kept.field-0.0 c.in_ok-from_start.ensures.worth c.in_err-kept.ensures.wide)
 
 pub returns-clause-sound : goal.returns-clause-sound
@@ -80,15 +83,16 @@ returns-clause-sound g c =
     let begins = same_trans c.in_ok-within.ensures.worth.begins (same_sym c.requires.fit.begins) in
     let ends = same_trans c.in_ok-within.ensures.worth.ends (same_sym c.requires.fit.ends) in
     ok_both c.lower.result c.lower.ensures.worth c.lower.ensures.shapes
-    (λ r worth shapes. stay_sound g.P.Shape (assumption g.met.P.Shape) own c.args.x.now c.args.y.now r (record {
+    (λ r worth shapes. stay_sound (of_knots g.P.Shape) (assumption g.met.P.Shape) own c.args.x.now c.args.y.now r (record {
       begins = same_trans worth.begins begins;
       ends = same_trans worth.ends ends;
-      limited = limited_along g.P.Shape _ within r inside worth (least_of_bounded g.P.Shape within kept inside (small_kept g at.In_ok-kept));
-      moved = composed_moved g.P.Shape c.args.low own c.args.x.now c.args.y.now within made kept r (record {
+      limited = limited_along (knots_laws g.P.Shape) _ within r inside worth (least_of_bounded (knots_laws g.P.Shape) within kept inside
+          (small_kept g at.In_ok-kept));
+      moved = composed_moved (of_knots g.P.Shape) c.args.low own c.args.x.now c.args.y.now within made kept r (record {
         order = reach_of_order c.args.low c.args.high c.requires.order;
-        within = behind_from g.P.Shape c.args.low c.args.high c.args.y.now within c.requires.order c.in_ok-within.ensures.bases;
+        within = behind_from (of_knots g.P.Shape) c.args.low c.args.high c.args.y.now within c.requires.order c.in_ok-within.ensures.bases;
         both = c.in_ok-from_start.ensures.bases;
-        kept = behind_from g.P.Shape 0 (Some c.args.low) made kept (from_zero c.args.low) c.in_ok-kept.ensures.bases;
+        kept = behind_from (of_knots g.P.Shape) 0 (Some c.args.low) made kept (from_zero c.args.low) c.in_ok-kept.ensures.bases;
         shapes = shapes;
       });
     }))
@@ -98,16 +102,16 @@ returns-clause-sound g c =
 
 pub returns-clause-told : goal.returns-clause-told
 returns-clause-told g c = IfOk-weaker c.lower.result _ _
-    (λ r worth s p q ends left right. since_in g.P.Shape s p q ends c.args.x.now c.args.y.now left right c.in_ok-from_start.from_start
+    (λ r worth s p q ends left right. since_in (knots_laws g.P.Shape) s p q ends c.args.x.now c.args.y.now left right c.in_ok-from_start.from_start
     c.args.low c.args.high c.in_ok-within.within c.in_ok-kept.kept r (in_order c.args.low c.args.high c.requires.order)
     c.in_ok-within.ensures.worth c.in_ok-from_start.ensures.worth c.in_ok-kept.ensures.worth worth
     (c.since_is_composed.ensures c.args.x.now c.args.y.now left.signal
-    (has_from_start g.P.Shape _ _ s.from s.to c.args.x.now c.args.y.now left right c.in_ok-from_start.from_start c.in_ok-from_start.ensures.worth)))
+    (has_from_start (knots_laws g.P.Shape) c.args.x.now c.args.y.now c.in_ok-from_start.from_start c.in_ok-from_start.ensures.worth)))
     c.lower.ensures.worth
 
 pub returns-clause-wide : goal.returns-clause-wide
 returns-clause-wide g c = IfErr-weaker c.lower.result _ _
-    (λ e wide s p q ends left right. since_least_fault g.P.Shape s p q ends c.args.x.now c.args.y.now left right c.in_ok-from_start.from_start
+    (λ e cause s p q ends left right. since_least_fault (knots_laws g.P.Shape) s p q ends c.args.x.now c.args.y.now left right c.in_ok-from_start.from_start
     c.args.low c.args.high c.in_ok-within.within c.in_ok-kept.kept e
-    c.in_ok-within.ensures.worth c.in_ok-from_start.ensures.worth c.in_ok-kept.ensures.worth wide)
-    c.lower.ensures.wide
+    c.in_ok-within.ensures.worth c.in_ok-from_start.ensures.worth c.in_ok-kept.ensures.worth cause)
+    c.lower.ensures.cause

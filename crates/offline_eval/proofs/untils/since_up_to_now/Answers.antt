@@ -1,4 +1,4 @@
-use Rattle.std.proofs.Common.{◌≤◌, ℕ, None, Some, arith}
+use Rattle.std.proofs.Common.{ℕ, None, Some, arith}
 use Rattle.std.specs.Prelude.{Option}
 use Rattle.stl_syntax.specs.WellFormed.{IsInOrder}
 use Rattle.offline_eval.proofs.untils.since_up_to_now.Goals as goal

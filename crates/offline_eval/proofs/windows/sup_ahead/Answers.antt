@@ -1,32 +1,22 @@
-use Rattle.std.proofs.Common.{sym, subst}
 use Rattle.std.proofs.lemmas.Result.{IfOk-weaker, IfErr-weaker}
-use Rattle.rational.specs.Windows.{Ahead, IsSupOver}
-use Rattle.pl_signal.specs.Moves.{Tells}
-use Rattle.stl_syntax.specs.Formula.{eventually}
-use Rattle.stl_syntax.specs.SupInf.{SupInf}
-use Rattle.offline_eval.proofs.Sound.{stays_sound, limited_along}
+use Rattle.offline_eval.proofs.Forms.{knots_laws}
 use Rattle.offline_eval.proofs.Pointwise.{ok_both}
-use Rattle.offline_eval.proofs.WindowLemmas.{before_end, sup_ahead_told, sup_over_bounded, ahead_cause, ahead_moved}
+use Rattle.offline_eval.proofs.WindowLemmas.{before_end}
+use Rattle.offline_eval.proofs.Windowed.{sup_ahead_sound, told_eventually, fault_eventually}
 use Rattle.offline_eval.proofs.windows.sup_ahead.Goals as goal
 
 pub sup_window-requires-clause-last : goal.sup_window-requires-clause-last
 sup_window-requires-clause-last g c = before_end c.requires.fit.last
 
-pub returns : goal.returns
-returns g c =
-    let f = g.P.Shape.function in
-    let x = c.args.x.now in
-    record {
-      sound = ok_both c.sup_window.result c.sup_window.ensures.worth c.sup_window.ensures.bases
-          (λ r worth bases. stays_sound g.P.Shape (assumption g.met.P.Shape) c.args.high x r worth.begins worth.ends
-          (limited_along g.P.Shape _ x r c.requires.fit.limited worth
-          (λ t v s. sup_over_bounded g.P.Shape x _ v g.met.P.Shape.lowest_bounded c.requires.fit.limited s))
-          (ahead_moved g.P.Shape c.args.low c.args.high x r c.requires.order bases));
-      told = IfOk-weaker c.sup_window.result _ _ (λ r worth s p ends tells.
-          subst (λ e. Tells g.P.Shape (λ t v. IsSupOver e (Ahead s.from s.to c.args.low c.args.high c.args.low_in c.args.high_in t) (SupInf p s) v)
-          s.from s.to r) (sym ends.lowest)
-          (sup_ahead_told g.P.Shape (SupInf p s) s.from s.to x r tells c.args.low c.args.high c.args.low_in c.args.high_in worth)) c.sup_window.ensures.worth;
-      wide = IfErr-weaker c.sup_window.result _ _
-          (λ e h s p ends tells. ahead_cause g.P.Shape (SupInf p s) x c.args.low c.args.high c.args.low_in c.args.high_in
-          (eventually c.args.low c.args.high c.args.low_in c.args.high_in p) s e tells (λ C i. i) h) c.sup_window.ensures.wide;
-    }
+pub returns-clause-sound : goal.returns-clause-sound
+returns-clause-sound g c = ok_both c.sup_window.result c.sup_window.ensures.worth c.sup_window.ensures.bases
+    (λ r worth bases. sup_ahead_sound (knots_laws g.P.Shape) c.args.low c.args.high c.args.low_in c.args.high_in c.args.x.now (assumption g.met.P.Shape)
+    c.requires.order c.requires.fit.limited r bases worth)
+
+pub returns-clause-told : goal.returns-clause-told
+returns-clause-told g c = IfOk-weaker c.sup_window.result _ _
+    (λ r worth. told_eventually (knots_laws g.P.Shape) c.args.low c.args.high c.args.low_in c.args.high_in c.args.x.now r worth) c.sup_window.ensures.worth
+
+pub returns-clause-wide : goal.returns-clause-wide
+returns-clause-wide g c = IfErr-weaker c.sup_window.result _ _
+    (λ e cause. fault_eventually (knots_laws g.P.Shape) c.args.low c.args.high c.args.low_in c.args.high_in c.args.x.now e cause) c.sup_window.ensures.wide

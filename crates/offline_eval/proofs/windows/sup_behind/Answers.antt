@@ -1,33 +1,22 @@
-use Rattle.std.proofs.Common.{sym, subst}
 use Rattle.std.proofs.lemmas.Result.{IfOk-weaker, IfErr-weaker}
-use Rattle.rational.specs.Windows.{Behind, IsSupOver}
-use Rattle.pl_signal.specs.Moves.{Tells}
-use Rattle.stl_syntax.specs.Formula.{once}
-use Rattle.stl_syntax.specs.Limits.{reach_of_bound}
-use Rattle.stl_syntax.specs.SupInf.{SupInf}
-use Rattle.offline_eval.proofs.Sound.{stays_sound, limited_along}
+use Rattle.offline_eval.proofs.Forms.{knots_laws}
 use Rattle.offline_eval.proofs.Pointwise.{ok_both}
-use Rattle.offline_eval.proofs.WindowLemmas.{in_order, sup_behind_told, sup_over_bounded, behind_cause, behind_moved}
+use Rattle.offline_eval.proofs.WindowLemmas.{in_order}
+use Rattle.offline_eval.proofs.Windowed.{sup_behind_sound, told_once, fault_once}
 use Rattle.offline_eval.proofs.windows.sup_behind.Goals as goal
 
 pub sup_past-requires-clause-order : goal.sup_past-requires-clause-order
 sup_past-requires-clause-order g c = in_order c.args.low c.args.high c.requires.order
 
-pub returns : goal.returns
-returns g c =
-    let f = g.P.Shape.function in
-    let x = c.args.x.now in
-    record {
-      sound = ok_both c.sup_past.result c.sup_past.ensures.worth c.sup_past.ensures.bases
-          (λ r worth bases. stays_sound g.P.Shape (assumption g.met.P.Shape) (reach_of_bound c.args.low c.args.high) x r worth.begins worth.ends
-          (limited_along g.P.Shape _ x r c.requires.fit.limited worth
-          (λ t v s. sup_over_bounded g.P.Shape x _ v g.met.P.Shape.lowest_bounded c.requires.fit.limited s))
-          (behind_moved g.P.Shape c.args.low c.args.high x r c.requires.order bases));
-      told = IfOk-weaker c.sup_past.result _ _ (λ r worth s p ends tells.
-          subst (λ e. Tells g.P.Shape (λ t v. IsSupOver e (Behind s.from s.to c.args.low c.args.high c.args.low_in c.args.high_in t) (SupInf p s) v)
-          s.from s.to r) (sym ends.lowest)
-          (sup_behind_told g.P.Shape (SupInf p s) s.from s.to x r tells c.args.low c.args.high c.args.low_in c.args.high_in worth)) c.sup_past.ensures.worth;
-      wide = IfErr-weaker c.sup_past.result _ _
-          (λ e h s p ends tells. behind_cause g.P.Shape (SupInf p s) x c.args.low c.args.high c.args.low_in c.args.high_in
-          (once c.args.low c.args.high c.args.low_in c.args.high_in p) s e tells (λ C i. i) h) c.sup_past.ensures.wide;
-    }
+pub returns-clause-sound : goal.returns-clause-sound
+returns-clause-sound g c = ok_both c.sup_past.result c.sup_past.ensures.worth c.sup_past.ensures.bases
+    (λ r worth bases. sup_behind_sound (knots_laws g.P.Shape) c.args.low c.args.high c.args.low_in c.args.high_in c.args.x.now (assumption g.met.P.Shape)
+    c.requires.order c.requires.fit.limited r bases worth)
+
+pub returns-clause-told : goal.returns-clause-told
+returns-clause-told g c = IfOk-weaker c.sup_past.result _ _
+    (λ r worth. told_once (knots_laws g.P.Shape) c.args.low c.args.high c.args.low_in c.args.high_in c.args.x.now r worth) c.sup_past.ensures.worth
+
+pub returns-clause-wide : goal.returns-clause-wide
+returns-clause-wide g c = IfErr-weaker c.sup_past.result _ _
+    (λ e cause. fault_once (knots_laws g.P.Shape) c.args.low c.args.high c.args.low_in c.args.high_in c.args.x.now e cause) c.sup_past.ensures.wide

@@ -9,12 +9,12 @@ use Rattle.report.proofs.Growths.{grew_then, part_then, part_first}
 use Rattle.report.proofs.JsonParts.{knot_entry_exists}
 use Rattle.report.proofs.json.put_step_entry.Goals as goal
 
-pub returns-in_err-put_piece_entry-clause-err : goal.returns-in_err-put_piece_entry-clause-err
-returns-in_err-put_piece_entry-clause-err c =
+pub returns-in_err-put_piece-clause-err : goal.returns-in_err-put_piece-clause-err
+returns-in_err-put_piece-clause-err c =
     let s = c.args.scale in
     let p = step (plain_knot margin_shape c.args.k.now) (plain_piece margin_shape c.args.k.now c.args.n.now) in
     let n = plain_knot margin_shape c.args.n.now in
-    on_err_anyway _ (part_first (IsPieceEntry s p) (IsKnotEntry (codes ",") s n) c.args.text.now _ c.in_err-put_piece_entry.ensures.err
+    on_err_anyway _ (part_first (IsPieceEntry s p) (IsKnotEntry (codes ",") s n) c.args.text.now _ c.in_err-put_piece.ensures.err
     (knot_entry_exists s (codes ",") n))
 
 pub returns-clause-ok : goal.returns-clause-ok
@@ -22,13 +22,13 @@ returns-clause-ok c =
     let s = c.args.scale in
     let p = step (plain_knot margin_shape c.args.k.now) (plain_piece margin_shape c.args.k.now c.args.n.now) in
     let n = plain_knot margin_shape c.args.n.now in
-    on_ok_weaker c.put_knot_entry.result
-    (grew_then (IsPieceEntry s p) (IsKnotEntry (codes ",") s n) c.args.text.now _ _ c.in_ok-put_piece_entry.ensures.ok) c.put_knot_entry.ensures.ok
+    on_ok_weaker c.put_knot.result
+    (grew_then (IsPieceEntry s p) (IsKnotEntry (codes ",") s n) c.args.text.now _ _ c.in_ok-put_piece.ensures.ok) c.put_knot.ensures.ok
 
 pub returns-clause-err : goal.returns-clause-err
 returns-clause-err c =
     let s = c.args.scale in
     let p = step (plain_knot margin_shape c.args.k.now) (plain_piece margin_shape c.args.k.now c.args.n.now) in
     let n = plain_knot margin_shape c.args.n.now in
-    on_err_weaker c.put_knot_entry.result
-    (part_then (IsPieceEntry s p) (IsKnotEntry (codes ",") s n) c.args.text.now _ _ c.in_ok-put_piece_entry.ensures.ok) c.put_knot_entry.ensures.err
+    on_err_weaker c.put_knot.result
+    (part_then (IsPieceEntry s p) (IsKnotEntry (codes ",") s n) c.args.text.now _ _ c.in_ok-put_piece.ensures.ok) c.put_knot.ensures.err

@@ -10,10 +10,10 @@ use Rattle.report.proofs.signal.put_past.Goals as goal
 use Rattle.report.proofs.signal.put_past.Goals.{In_ok-put_turn, After-put_turn-2}
 
 -- past the gap the span goes on with its truth
-by_gap : (c : In_ok-put_turn) → TurnedTo true c.args.pen.now.scale c.args.span.now c.args.before.now.time true
+by_gap : (c : In_ok-put_turn) → TurnedTo true c.args.scale c.args.span.now c.args.before.now.time true
     c.args.before.now.after.holds c.put_turn.new.span c.args.text.now c.put_turn.new.text
 by_gap c =
-    subst (λ b. TurnedTo true c.args.pen.now.scale c.args.span.now c.args.before.now.time true b c.put_turn.new.span
+    subst (λ b. TurnedTo true c.args.scale c.args.span.now c.args.before.now.time true b c.put_turn.new.span
     c.args.text.now c.put_turn.new.text) c.holds.ensures c.in_ok-put_turn.ensures.ok
 
 pub put_turn-requires-2-clause-begun : goal.put_turn-requires-2-clause-begun
@@ -24,36 +24,34 @@ put_turn-requires-2-clause-begun c =
 
 pub returns-in_err-put_turn-clause-err : goal.returns-in_err-put_turn-clause-err
 returns-in_err-put_turn-clause-err c =
-    let E = IsEntry true false c.args.pen.now.scale in
+    let E = IsEntry true false c.args.scale in
     let o = c.args.span.now in
     let k = c.args.before.now in
     let n = c.args.next.now in
-    let g : TurnCut true c.args.pen.now.scale o k.time true k.after.holds c.args.text.now c.put_turn.new.text =
-    subst (λ b. TurnCut true c.args.pen.now.scale o k.time true b c.args.text.now c.put_turn.new.text) c.holds.ensures
+    let g : TurnCut true c.args.scale o k.time true k.after.holds c.args.text.now c.put_turn.new.text =
+    subst (λ b. TurnCut true c.args.scale o k.time true b c.args.text.now c.put_turn.new.text) c.holds.ensures
     c.in_err-put_turn.ensures.err in
     let p = going g.new n.time false n.point.holds
     (room_after_gap o g.new k.time n.time k.after.holds g.ended c.requires.begun c.requires.rising g.goes) in
-    let cut : CutPast true c.args.pen.now.scale o k n c.args.text.now c.put_turn.new.text = record {
+    let cut : CutPast true c.args.scale o k n c.args.text.now c.put_turn.new.text = record {
       past = record { by_gap = g.ended; by_point = p.ended; new = p.new; advanced = record { inside = g.new; gap = g.goes; point = p.goes } };
       part = each_cut_first E (listed g.ended) (listed p.ended) c.args.text.now c.put_turn.new.text g.part
-          (each_exist E (entry_exists true false c.args.pen.now.scale) (listed p.ended));
+          (each_exist E (entry_exists true false c.args.scale) (listed p.ended));
     } in
     on_err_anyway _ cut
 
 pub returns-clause-ok : goal.returns-clause-ok
 returns-clause-ok c =
     let f = (goal.at.returns-clause-ok c).In_ok-put_turn in
-    let E = IsEntry true false c.args.pen.now.scale in
+    let E = IsEntry true false c.args.scale in
     let inside = c.put_turn.new.span in
     let n = c.args.next.now in
     let g = by_gap f in
     on_ok_weaker c.put_turn-2.result (λ h.
-    let t : TurnedTo true c.args.pen.now.scale inside n.time false n.point.holds c.put_turn-2.new.span c.put_turn.new.text
+    let t : TurnedTo true c.args.scale inside n.time false n.point.holds c.put_turn-2.new.span c.put_turn.new.text
     c.put_turn-2.new.text =
-    subst (λ b. TurnedTo true c.args.pen.now.scale inside n.time false b c.put_turn-2.new.span c.put_turn.new.text
-    c.put_turn-2.new.text) c.holds-2.ensures
-    (subst (λ y. TurnedTo true y inside n.time false c.holds-2.result c.put_turn-2.new.span c.put_turn.new.text c.put_turn-2.new.text)
-    c.put_turn.ensures.scale h) in record {
+    subst (λ b. TurnedTo true c.args.scale inside n.time false b c.put_turn-2.new.span c.put_turn.new.text
+    c.put_turn-2.new.text) c.holds-2.ensures h in record {
       past = record {
         by_gap = g.ended;
         by_point = t.ended;
@@ -67,15 +65,13 @@ returns-clause-ok c =
 pub returns-clause-err : goal.returns-clause-err
 returns-clause-err c =
     let f = (goal.at.returns-clause-err c).In_ok-put_turn in
-    let E = IsEntry true false c.args.pen.now.scale in
+    let E = IsEntry true false c.args.scale in
     let inside = c.put_turn.new.span in
     let n = c.args.next.now in
     let g = by_gap f in
     on_err_weaker c.put_turn-2.result (λ h.
-    let t : TurnCut true c.args.pen.now.scale inside n.time false n.point.holds c.put_turn.new.text c.put_turn-2.new.text =
-    subst (λ b. TurnCut true c.args.pen.now.scale inside n.time false b c.put_turn.new.text c.put_turn-2.new.text)
-    c.holds-2.ensures (subst (λ y. TurnCut true y inside n.time false c.holds-2.result c.put_turn.new.text c.put_turn-2.new.text)
-    c.put_turn.ensures.scale h) in record {
+    let t : TurnCut true c.args.scale inside n.time false n.point.holds c.put_turn.new.text c.put_turn-2.new.text =
+    subst (λ b. TurnCut true c.args.scale inside n.time false b c.put_turn.new.text c.put_turn-2.new.text) c.holds-2.ensures h in record {
       past = record { by_gap = g.ended; by_point = t.ended; new = t.new; advanced = record { inside = inside; gap = g.goes; point = t.goes } };
       part = each_cut_second E (listed g.ended) (listed t.ended) c.args.text.now c.put_turn.new.text c.put_turn-2.new.text g.grew t.part;
     }) c.put_turn-2.ensures.err

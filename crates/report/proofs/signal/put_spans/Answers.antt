@@ -1,5 +1,5 @@
 use Rattle.std.proofs.Common.{◌≡◌, ℕ, suc, true, false, ◌+◌, ◌-◌, Some, List, [], ◌∷◌, ◌++◌, length}
-use Rattle.std.proofs.Common.{append-nil, append_assoc, refl, sym, subst, arith, ◌≤◌, ◌∙◌}
+use Rattle.std.proofs.Common.{append-nil, append_assoc, refl, sym, subst, arith}
 use Rattle.std.specs.Prelude.{slice_get}
 use Rattle.std.proofs.lemmas.Result.{on_ok_weaker, on_err_weaker}
 use Rattle.rational.specs.Time.{closed}
@@ -10,16 +10,23 @@ use Rattle.pl_signal.proofs.Values.{next_rises}
 use Rattle.stl_syntax.specs.declared.items.Verdict.{Verdict}
 use Rattle.report.specs.SignalVerdicts.{DescribesFunction}
 use Rattle.report.specs.Spelling.{Past, listed}
-use Rattle.report.specs.VerdictForms.{IsEntry, WrittenPast, CutPast}
-use Rattle.stl_syntax.specs.declared.scale.Scale.{Scale}
+use Rattle.report.specs.VerdictForms.{AreEntries, IsEntry, WrittenPast, CutPast}
 use Rattle.report.specs.declared.spelling.OpenSpan.{OpenSpan}
 use Rattle.pl_signal.specs.declared.knot.Knot.{Knot}
 use Rattle.value_laws.specs.declared.truth.Truth.{Truth}
 use Rattle.report.proofs.Lines.{entries_all, entries_part, entries_part_last}
+use Rattle.report.proofs.Growths.{part_none}
+use Rattle.report.proofs.ReportTexts.{signal_entries_exist}
 use Rattle.report.proofs.Sequences.{each_grow}
 use Rattle.report.proofs.Advances.{IsSpelledTo, spelled_start, room_to, spelled_advance, spelled_stop, stop_room, told_to_end}
 use Rattle.report.proofs.signal.put_spans.Goals as goal
 use Rattle.report.proofs.signal.put_spans.Goals.{After-put_past, After-close-end}
+
+-- before anything was written there is a text for the verdicts
+pub returns-in_err-entries-clause-err : goal.returns-in_err-entries-clause-err
+returns-in_err-entries-clause-err c =
+    on_err_anyway _ (part_none (AreEntries truth_shape true c.args.scale c.args.s.now) c.args.text.now c.args.text.now
+    (signal_entries_exist true c.args.scale c.args.s.now c.len-knots.ensures.signal) refl)
 
 pub loop-i-init : goal.loop-i-init
 loop-i-init c = (
@@ -27,7 +34,6 @@ loop-i-init c = (
   spelled_start c.args.s.now c.knot_in_place.result.now c.start-span.result c.knot_in_place.ensures c.start-span.ensures.from c.start-span.ensures.from_in
       c.start-span.ensures.holds,
   ([], refl, sym (append-nil c.args.text.now)),
-  refl,
 )
 
 pub put_past-requires-clause-begun : goal.put_past-requires-clause-begun
@@ -41,9 +47,6 @@ put_past-requires-clause-rising c =
     next_rises truth_shape c.args.s.now (c.loop-i.i - 1) c.knot_in_place-in-loop-i.result.now c.knot_in_place-in-loop-i-2.result.now
     c.len-knots.ensures.signal.each c.knot_in_place-in-loop-i.ensures
     (subst (λ n. slice_get c.args.s.now n ≡ Some c.knot_in_place-in-loop-i-2.result.now) next c.knot_in_place-in-loop-i-2.ensures)
-
-pub put_past-requires-clause-digits : goal.put_past-requires-clause-digits
-put_past-requires-clause-digits c = subst (λ (y : Scale). y.time ≤ 6) (sym c.loop-i.invariant.3) c.requires
 
 module _ (c : After-put_past) where
   abbrev vs : List Verdict
@@ -78,9 +81,7 @@ module _ (c : After-put_past) where
 pub returns-in_err-put_past-clause-err : goal.returns-in_err-put_past-clause-err
 returns-in_err-put_past-clause-err c =
     let f = (goal.at.returns-in_err-put_past-clause-err c).After-put_past in
-    let cut : CutPast true c.args.scale c.loop-i.span (k f) (n f) c.loop-i.text c.put_past.new.text =
-    subst (λ (y : Scale). CutPast true y c.loop-i.span (k f) (n f) c.loop-i.text c.put_past.new.text) c.loop-i.invariant.3
-    c.in_err-put_past.ensures.err in
+    let cut : CutPast true c.args.scale c.loop-i.span (k f) (n f) c.loop-i.text c.put_past.new.text = c.in_err-put_past.ensures.err in
     let p = cut.past in
     let ws = listed p.by_gap ++ listed p.by_point in
     let end = to_end f p in
@@ -94,7 +95,6 @@ loop-i-preserved c =
     let f = (goal.at.loop-i-preserved c).After-put_past in
     let there : (c.loop-i.i - 1) + 1 ≡ c.loop-i.i + 1 - 1 = omega arith in
     let w : WrittenPast true c.args.scale c.loop-i.span (k f) (n f) c.put_past.new.span c.loop-i.text c.put_past.new.text =
-    subst (λ (y : Scale). WrittenPast true y c.loop-i.span (k f) (n f) c.put_past.new.span c.loop-i.text c.put_past.new.text) c.loop-i.invariant.3
     c.in_ok-put_past.ensures.ok in
     let p = w.past in
     let ws = listed p.by_gap ++ listed p.by_point in (
@@ -102,7 +102,6 @@ loop-i-preserved c =
       subst (λ (o : OpenSpan). IsSpelledTo c.args.s.now (c.loop-i.i + 1 - 1) (vs f ++ ws) o) w.is
           (subst (λ i. IsSpelledTo c.args.s.now i (vs f ++ ws) p.new) there (advanced f p)),
       each_grow (E f) (vs f) ws c.args.text.now c.loop-i.text c.put_past.new.text c.loop-i.invariant.2 w.grew,
-      c.put_past.ensures.scale ∙ c.loop-i.invariant.3,
     )
 
 pub close-end-requires : goal.close-end-requires
@@ -119,15 +118,15 @@ whole c =
 pub returns-clause-ok : goal.returns-clause-ok
 returns-clause-ok c =
     let all = whole (goal.at.returns-clause-ok c).After-close-end in
-    on_ok_weaker c.put_verdict_entry.result
+    on_ok_weaker c.put.result
     (λ grew. entries_all truth_shape true c.args.scale c.args.s.now c.loop-i.invariant.0 c.close-end.result c.args.text.now c.loop-i.text
-    c.put_verdict_entry.new.text all
-    c.loop-i.invariant.2 grew) c.put_verdict_entry.ensures.ok
+    c.put.new.text all
+    c.loop-i.invariant.2 grew) c.put.ensures.ok
 
 pub returns-clause-err : goal.returns-clause-err
 returns-clause-err c =
     let all = whole (goal.at.returns-clause-err c).After-close-end in
-    on_err_weaker c.put_verdict_entry.result
+    on_err_weaker c.put.result
     (λ grew. entries_part_last truth_shape true c.args.scale c.args.s.now c.loop-i.invariant.0 c.close-end.result c.args.text.now
-    c.loop-i.text c.put_verdict_entry.new.text all
-    c.loop-i.invariant.2 grew) c.put_verdict_entry.ensures.err
+    c.loop-i.text c.put.new.text all
+    c.loop-i.invariant.2 grew) c.put.ensures.err

@@ -7,6 +7,4 @@ use Rattle.report.proofs.signal.put_spans.Given as goal
 
 abbrev pub invariant-loop-i : goal.invariant-loop-i
 invariant-loop-i l =
-    (verdicts : List Verdict) × IsSpelledTo l.s (l.i - 1) verdicts l.span × Grew
-    (AreEach (IsEntry true false l.scale) verdicts) l.initial.text l.text
-    × (l.pen.scale ≡ l.scale)
+    (verdicts : List Verdict) × IsSpelledTo l.s (l.i - 1) verdicts l.span × Grew (AreEach (IsEntry true false l.scale) verdicts) l.initial.text l.text

@@ -14,18 +14,18 @@ returns-then-holds-truth-clause-ok c = record {
 
 pub returns-clause-ok : goal.returns-clause-ok
 returns-clause-ok c =
-    let E = IsEntry true false c.args.pen.now.scale in
-    on_ok_weaker c.put_verdict_entry.result
+    let E = IsEntry true false c.args.scale in
+    on_ok_weaker c.put.result
     (λ g. record { ended = Some c.turn-ended.result; goes = c.turn-ended.ensures; grew = (g.0, each_one E c.turn-ended.result g.0 g.1, g.2) })
-    c.put_verdict_entry.ensures.ok
+    c.put.ensures.ok
 
 pub returns-clause-err : goal.returns-clause-err
 returns-clause-err c =
-    let E = IsEntry true false c.args.pen.now.scale in
-    on_err_weaker c.put_verdict_entry.result
+    let E = IsEntry true false c.args.scale in
+    on_err_weaker c.put.result
     (λ g. record {
       ended = Some c.turn-ended.result;
       new = c.turn-ended.new.self;
       goes = c.turn-ended.ensures;
       part = (g.0, g.1, each_one E c.turn-ended.result (g.0 ++ g.1) g.2, g.3);
-    }) c.put_verdict_entry.ensures.err
+    }) c.put.ensures.err

@@ -1,5 +1,6 @@
 use Rattle.std.proofs.Common.{◌≡◌, ◌-◌, ◌<◌, ◌∙◌, length, refl, sym, subst, arith}
 use Rattle.stl_syntax.specs.Trace.{first_time, last_time}
+use Rattle.offline_eval.specs.Forms.{of_knots}
 use Rattle.offline_eval.specs.Keeping.{TellsStack}
 use Rattle.workbench.specs.Answering.{setting_of}
 use Rattle.workbench.proofs.CaseSignals.{root_told}
@@ -29,6 +30,6 @@ returns-clause-told g c =
     let count : c.loop-i.i ≡ length nodes = let t = c.loop-i-test.false in let e = c.len-count.ensures.count in let m = c.loop-i.auto.i-end in omega arith in
     let stack = c.loop-i.invariant in
     let (signals, long, at, told) = c.root.ensures nodes s (sym count ∙ sym stack.stands.count)
-    (subst (λ n. TellsStack g.P.Shape nodes s n c.loop-i.stack) count stack.told) in
+    (subst (λ n. TellsStack (of_knots g.P.Shape) nodes s n c.loop-i.stack) count stack.told) in
     root_told g.P.Shape g.P.AtomShape.reading case signals c.root.result formed.some told at
     (c.told_have_values.ensures nodes signals s formed.nodes.post_order refl told (length nodes - 1) (omega (arith, formed.some)))

@@ -1,24 +1,25 @@
-use Rattle.std.proofs.Common.{OnOk, subst}
-use Rattle.growing_sets.specs.Spans.{Grows, Lies}
+use Rattle.std.proofs.Common.{OnOk}
+use Rattle.growing_sets.specs.Growing.{Adds}
+use Rattle.growing_sets.specs.Spans.{Lies}
 use Rattle.growing_sets.specs.Steps.{BySome}
 use Rattle.growing_sets.proofs.WindowLemmas.{on_good}
-use Rattle.growing_sets.proofs.StepLemmas.{gains_of}
+use Rattle.growing_sets.proofs.AddLemmas.{adds_as, gains_of, tells_still}
 use Rattle.growing_sets.proofs.SetLaws.{same_tells}
 use Rattle.growing_sets.proofs.grown.Grown.same.Goals.{After-add_all}
 use Rattle.growing_sets.proofs.grown.Grown.same.Goals as goal
 
--- what the set grew by
-grown : (c : After-add_all) → OnOk c.add_all.result (Grows c.args.self.now.bounds c.args.self.now.spans.items c.add_all.new.own.spans.items
-    c.clear.new.self.items c.add_all.new.own.fresh.items (BySome Lies c.args.x.now.fresh.items))
-grown c =
-    let own = c.args.self.now in
-    let new = c.add_all.new.own in
-    on_good c.add_all.result c.add_all.ensures.ok
-    (λ g. subst (λ xs. Grows own.bounds own.spans.items new.spans.items c.clear.new.self.items new.fresh.items
-    (BySome Lies xs)) c.deref.ensures.value g)
+-- what the set had added
+added : (c : After-add_all) → OnOk c.add_all.result
+    (Adds (record c.args.self.now { fresh = c.clear.new.self }) c.add_all.new.own (BySome Lies c.args.x.now.fresh.items))
+added c =
+    on_good c.add_all.result c.add_all.ensures.ok (λ a. adds_as (BySome Lies) c.deref.ensures.value a)
+
+pub returns-clause-tidy : goal.returns-clause-tidy
+returns-clause-tidy c = on_good c.add_all.result (added c) (λ a. a.tidy)
 
 pub returns-clause-gains : goal.returns-clause-gains
-returns-clause-gains c = on_good c.add_all.result (grown c) (λ g. gains_of c.clear.ensures.items g)
+returns-clause-gains c = on_good c.add_all.result (added c) (λ a. gains_of c.clear.ensures.items a)
 
 pub returns-clause-tells : goal.returns-clause-tells
-returns-clause-tells c = on_good c.add_all.result (grown c) (λ g x gx t. same_tells gx t g)
+returns-clause-tells c = on_good c.add_all.result (added c)
+    (λ a x gx t. tells_still a (same_tells gx t a.grows))

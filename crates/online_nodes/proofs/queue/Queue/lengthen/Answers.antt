@@ -1,6 +1,5 @@
 use Rattle.std.proofs.Common.{◌≡◌, ◌+◌, ◌<◌, ◌≤◌, ◌-◌, length, refl, subst, arith}
 use Rattle.online_nodes.specs.Held.{GoesOn, IsJoined}
-use Rattle.online_nodes.specs.Queues.{number_of}
 use Rattle.online_nodes.proofs.QueueLemmas.{lengthened, one_item}
 use Rattle.online_nodes.proofs.Stretches.{room_midway, room_of_both}
 use Rattle.online_nodes.proofs.queue.Queue.lengthen.Goals as goal
@@ -38,4 +37,4 @@ returns-clause-more c = λ _.
       end = refl;
       holds = refl;
     } in
-    lengthened xs q.read n v w _ (number_of q.noted q.number) q.joins c.if-not-self.false below long c.index_mut-last.ensures.value j
+    lengthened xs q.read n v w _ q.number q.joins c.if-not-self.false below long c.index_mut-last.ensures.value j

@@ -1,0 +1,155 @@
+-- Objects that take one text after another.
+use Rattle.std.proofs.Common.{◌≡◌, ℕ, Bool, List, [], ◌∷◌, Option, Some, None, option_map, String, Global, Ordering, Less, Equal, Greater, string_bytes, nat_cmp, is_eq, cond, refl, sym, ap, ◌∙◌, codes}
+use Rattle.std.proofs.lemmas.Option.{same_Some}
+use Rattle.std.specs.Cmp.Lexicographic.{slice_cmp}
+use Rattle.std.specs.Map.{lookup, set_value}
+use Rattle.std.specs.Ordering.{match_ordering}
+use Rattle.std.specs.BTreeMap.{is_at}
+use Rattle.serde_json.specs.Data.{Data, null, boolean, number, string, array, object, Members, no_members, member}
+use Rattle.serde_json.specs.Find.{as_object, get, get_member}
+use Rattle.serde_json.specs.View.{view, members_view}
+use Rattle.serde_json.specs.declared.value.Value.{Value}
+use Rattle.serde_json.proofs.OnLiterals.{serde_json_on_literals}
+use Rattle.serde_json.proofs.Views.{view-lookup}
+use Rattle.report.specs.Forms.{replaced, with_member, knot_object, piece_object, verdict_object}
+
+abbrev pub Entry : Type 0
+Entry = String Global × Value
+
+set_at : (o : Ordering) (e : Entry) (es rest : List Entry) (w : Value) (r : Members) → members_view rest ≡ r
+    → members_view (cond (is_eq o) ((e.0, w) ∷ es) (e ∷ rest))
+    ≡ match_ordering o (member (string_bytes e.0) (view e.1) r) (member (string_bytes e.0) (view w) (members_view es)) (member (string_bytes e.0) (view e.1) r)
+set_at Less e es rest w r h = ap (member (string_bytes e.0) (view e.1)) h
+set_at Equal e es rest w r h = refl
+set_at Greater e es rest w r h = ap (member (string_bytes e.0) (view e.1)) h
+
+-- what is written at a key of a map replaces a member
+pub view-set_value : (name : List ℕ) (es : List Entry) (w : Value)
+    → members_view (set_value (is_at (λ k. slice_cmp nat_cmp name (string_bytes k))) es w) ≡ replaced name (view w) (members_view es)
+view-set_value name [] w = refl
+view-set_value name (e ∷ es) w = set_at (slice_cmp nat_cmp name (string_bytes e.0)) e es _ w _ (view-set_value name es w)
+
+same_at : (o : Ordering) (l : List ℕ) (f e : Data) (ms r : Members) (g : Option Data) → match_ordering o g (Some f) g ≡ Some e → (g ≡ Some e → ms ≡ r)
+    → member l f ms ≡ match_ordering o (member l f r) (member l e ms) (member l f r)
+same_at Less l f e ms r g h later = ap (member l f) (later h)
+same_at Equal l f e ms r g h later = ap (λ x. member l x ms) (same_Some _ _ h)
+same_at Greater l f e ms r g h later = ap (member l f) (later h)
+
+-- a member replaced by itself
+pub replaced_same : (k : List ℕ) (e : Data) (ms : Members) → get_member k ms ≡ Some e → ms ≡ replaced k e ms
+replaced_same k e no_members h = refl
+replaced_same k e (member l f ms) h = same_at (slice_cmp nat_cmp k l) l f e ms (replaced k e ms) (get_member k ms) h (replaced_same k e ms)
+
+-- and so in an object
+pub with_same : (k : List ℕ) (e d : Data) → get k d ≡ Some e → d ≡ with_member k e d
+with_same k e null h = refl
+with_same k e (boolean b) h = refl
+with_same k e (number n) h = refl
+with_same k e (string s) h = refl
+with_same k e (array ds) h = refl
+with_same k e (object ms) h = ap object (replaced_same k e ms h)
+
+-- ---- what stands at the keys of the objects
+
+pub knot_has_at : (a m : List ℕ) → get (codes "at") (knot_object a m) ≡ Some (string a)
+unfolding serde_json_on_literals
+knot_has_at a m = refl
+
+pub knot_has_margin : (a m : List ℕ) → get (codes "margin") (knot_object a m) ≡ Some (string m)
+unfolding serde_json_on_literals
+knot_has_margin a m = refl
+
+pub knot_with_at : (a m t : List ℕ) → with_member (codes "at") (string t) (knot_object a m) ≡ knot_object t m
+unfolding serde_json_on_literals
+knot_with_at a m t = refl
+
+pub knot_with_margin : (a m t : List ℕ) → with_member (codes "margin") (string t) (knot_object a m) ≡ knot_object a t
+unfolding serde_json_on_literals
+knot_with_margin a m t = refl
+
+pub piece_has_from : (f o t : List ℕ) → get (codes "from") (piece_object f o t) ≡ Some (string f)
+unfolding serde_json_on_literals
+piece_has_from f o t = refl
+
+pub piece_has_on : (f o t : List ℕ) → get (codes "on") (piece_object f o t) ≡ Some (string o)
+unfolding serde_json_on_literals
+piece_has_on f o t = refl
+
+pub piece_has_to : (f o t : List ℕ) → get (codes "to") (piece_object f o t) ≡ Some (string t)
+unfolding serde_json_on_literals
+piece_has_to f o t = refl
+
+pub piece_with_from : (f o t w : List ℕ) → with_member (codes "from") (string w) (piece_object f o t) ≡ piece_object w o t
+unfolding serde_json_on_literals
+piece_with_from f o t w = refl
+
+pub piece_with_on : (f o t w : List ℕ) → with_member (codes "on") (string w) (piece_object f o t) ≡ piece_object f w t
+unfolding serde_json_on_literals
+piece_with_on f o t w = refl
+
+pub piece_with_to : (f o t w : List ℕ) → with_member (codes "to") (string w) (piece_object f o t) ≡ piece_object f o w
+unfolding serde_json_on_literals
+piece_with_to f o t w = refl
+
+pub verdict_has_on : (o : List ℕ) (b : Bool) → get (codes "on") (verdict_object o b) ≡ Some (string o)
+unfolding serde_json_on_literals
+verdict_has_on o b = refl
+
+pub verdict_with_on : (o w : List ℕ) (b : Bool) → with_member (codes "on") (string w) (verdict_object o b) ≡ verdict_object w b
+unfolding serde_json_on_literals
+verdict_with_on o w b = refl
+
+-- ---- an object that takes a text is one of its kind
+
+module _ (d e : Data) where
+  pub knot_at : (a m t : List ℕ) → d ≡ knot_object a m → e ≡ with_member (codes "at") (string t) d → e ≡ knot_object t m
+  knot_at a m t is h = h ∙ ap (with_member (codes "at") (string t)) is ∙ knot_with_at a m t
+
+  pub knot_margin : (a m t : List ℕ) → d ≡ knot_object a m → e ≡ with_member (codes "margin") (string t) d → e ≡ knot_object a t
+  knot_margin a m t is h = h ∙ ap (with_member (codes "margin") (string t)) is ∙ knot_with_margin a m t
+
+  pub piece_from : (f o t w : List ℕ) → d ≡ piece_object f o t → e ≡ with_member (codes "from") (string w) d → e ≡ piece_object w o t
+  piece_from f o t w is h = h ∙ ap (with_member (codes "from") (string w)) is ∙ piece_with_from f o t w
+
+  pub piece_on : (f o t w : List ℕ) → d ≡ piece_object f o t → e ≡ with_member (codes "on") (string w) d → e ≡ piece_object f w t
+  piece_on f o t w is h = h ∙ ap (with_member (codes "on") (string w)) is ∙ piece_with_on f o t w
+
+  pub piece_to : (f o t w : List ℕ) → d ≡ piece_object f o t → e ≡ with_member (codes "to") (string w) d → e ≡ piece_object f o w
+  piece_to f o t w is h = h ∙ ap (with_member (codes "to") (string w)) is ∙ piece_with_to f o t w
+
+  pub verdict_on : (o w : List ℕ) (b : Bool) → d ≡ verdict_object o b → e ≡ with_member (codes "on") (string w) d → e ≡ verdict_object w b
+  verdict_on o w b is h = h ∙ ap (with_member (codes "on") (string w)) is ∙ verdict_with_on o w b
+
+-- ---- finding what stands at a key
+
+-- the value that a map has at a key of a text is that text
+pub found : (name : List ℕ) (es : List Entry) (v : Value) (s : List ℕ) → Some v ≡ lookup (is_at (λ k. slice_cmp nat_cmp name (string_bytes k))) es
+    → get_member name (members_view es) ≡ Some (string s) → view v ≡ string s
+found name es v s e h = same_Some _ _ (ap (option_map view) e ∙ (view-lookup name es ∙ h))
+
+-- there is one
+pub not_missed : (name : List ℕ) (es : List Entry) (e : Data) → None ≡ lookup (is_at (λ k. slice_cmp nat_cmp name (string_bytes k))) es
+    → get_member name (members_view es) ≡ Some e → ⊥
+not_missed name es e n h = let x : None ≡ Some e = ap (option_map view) n ∙ (view-lookup name es ∙ h) in cc
+
+-- what has members is an object
+pub object_of : (d : Data) (ms : Members) → Some ms ≡ as_object d → d ≡ object ms
+object_of null ms h = absurd (let x = h in cc)
+object_of (boolean b) ms h = absurd (let x = h in cc)
+object_of (number n) ms h = absurd (let x = h in cc)
+object_of (string s) ms h = absurd (let x = h in cc)
+object_of (array ds) ms h = absurd (let x = h in cc)
+object_of (object ns) ms h = ap object (sym (same_Some _ _ h))
+
+-- and so is what has something at a key
+pub has_members : (k : List ℕ) (d e : Data) → get k d ≡ Some e → None ≡ as_object d → ⊥
+has_members k null e h n = let x = h in cc
+has_members k (boolean b) e h n = let x = h in cc
+has_members k (number m) e h n = let x = h in cc
+has_members k (string s) e h n = let x = h in cc
+has_members k (array ds) e h n = let x = h in cc
+has_members k (object ms) e h n = let x = n in cc
+
+-- an object in which a text came to a key
+pub object_with : (d : Data) (ms ns : Members) (k : List ℕ) (e : Data) → d ≡ object ms → ns ≡ replaced k e ms → object ns ≡ with_member k e d
+object_with d ms ns k e is h = ap object h ∙ sym (ap (with_member k e) is)

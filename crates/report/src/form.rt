@@ -1,0 +1,109 @@
+//! Objects of JSON that are made once and take the texts of one entry after another, so that their keys and their memory are taken once.
+ghost use Rattle.std.specs.Prelude.{◌≡◌, ◌≤◌, ◌^◌, length, ℕ, List, IsSome, IfOk, OnOk};
+ghost use Rattle.rational.specs.Rational.{IsWithin};
+ghost use Rattle.rational.specs.Extended.{value_at};
+ghost use Rattle.frac128.specs.Value.{value};
+ghost use Rattle.value_laws.specs.Margins.{margin_function};
+ghost use Rattle.serde_json.specs.Data.{string};
+ghost use Rattle.serde_json.specs.Find.{as_str};
+ghost use Rattle.serde_json.specs.View.{view, members_view};
+ghost use Rattle.stl_syntax.specs.Texts.{IsNumberText, IsValueText};
+ghost use Rattle.report.specs.Forms.{replaced, with_member, HasText, HasTextAt, Sets, SetsSome};
+
+use crate::time_text::TimeText;
+use crate::value_text::ValueText;
+use frac128::{Frac, Memory};
+use serde_json::{Map, Value};
+use std::str;
+use value_laws::Margin;
+
+/// Room for the text of a span, and for copying its times.
+pub(crate) const SPAN_ROOM: usize = 256;
+
+/// The bytes as a text.
+pub(crate) fn text_of(content: &[u8]) -> Result<&str, Memory>
+    ensures { IfOk result (λ s. s.now ≡ content.now) }
+{
+    // Numbers are ASCII, and the names in a formula are text, so what is printed of them is. No proof says so; tools/read_back tries it.
+    match str::from_utf8(content) {
+        Ok(text) => Ok(text),
+        Err(_) => Err(Memory),
+    }
+}
+
+/// Puts a text in the place of another, whose memory it takes over.
+fn put_text(slot: &mut Value, content: &str) -> Result<(), Memory>
+    requires { IsSome (as_str (view slot.old)) }
+    ensures ok { OnOk result (view slot.new ≡ string content.now) }
+    ensures form { (s : List ℕ) × (view slot.new ≡ string s) }
+{
+    let Value::String(text) = slot else {
+        unreachable!();
+    };
+    text.clear();
+    text.push_str(content)?;
+    Ok(())
+}
+
+/// Puts a text in the place of the one that is at the key.
+fn set_member(members: &mut Map<String, Value>, key: &str, content: &str) -> Result<(), Memory>
+    requires { HasTextAt key.now (members_view members.old.entries) }
+    ensures ok { OnOk result (members_view members.new.entries ≡ replaced key.now (string content.now) (members_view members.old.entries)) }
+    ensures form { (s : List ℕ) × (members_view members.new.entries ≡ replaced key.now (string s) (members_view members.old.entries)) }
+{
+    match members.get_mut(key) {
+        Some(slot) => put_text(slot, content),
+        None => unreachable!(),
+    }
+}
+
+/// Puts a text in the place of the one that the object has at the key.
+pub(crate) fn set_text(object: &mut Value, key: &str, content: &[u8]) -> Result<(), Memory>
+    requires { HasText key.now (view object.old) }
+    ensures ok { OnOk result (view object.new ≡ with_member key.now (string content.now) (view object.old)) }
+    ensures form { SetsSome key.now (view object.old) (view object.new) }
+{
+    let content = text_of(content)?;
+    match object.as_object_mut() {
+        Some(members) => set_member(members, key, content),
+        None => unreachable!(),
+    }
+}
+
+/// Puts a time in the place of the text at the key, in units. What `room` has does not matter: it lends its bytes, here and below.
+pub(crate) fn set_time(
+    object: &mut Value,
+    key: &str,
+    room: &mut [u8; SPAN_ROOM],
+    last: &mut TimeText,
+    t: &Frac,
+    digits: u8,
+) -> Result<(), Memory>
+    requires digits { digits ≤ 6 }
+    requires form { HasText key.now (view object.old) }
+    ensures ok { OnOk result (Sets (IsNumberText digits (value t.now)) key.now (view object.old) (view object.new)) }
+    ensures form { SetsSome key.now (view object.old) (view object.new) }
+{
+    let end = last.put(room, 0, t, digits);
+    set_text(object, key, &room[..end])
+}
+
+/// Puts the value of a margin at a time in the place of the text at the key, in units.
+pub(crate) fn set_value(
+    object: &mut Value,
+    key: &str,
+    room: &mut [u8; SPAN_ROOM],
+    last: &mut ValueText,
+    m: &Margin,
+    at: &Frac,
+    digits: u8,
+) -> Result<(), Memory>
+    requires digits { digits ≤ 6 }
+    requires time { IsWithin (2 ^ 34) (value at.now) }
+    requires form { HasText key.now (view object.old) }
+    ensures ok { OnOk result (Sets (IsValueText digits (value_at (margin_function m.now) (value at.now))) key.now (view object.old) (view object.new)) }
+    ensures form { SetsSome key.now (view object.old) (view object.new) }
+{
+    let end = last.put(room, 0, m, at, digits);
+    set_text(object, key, &room[..end])
+}
