@@ -1,41 +1,40 @@
 -- What a network stands for once the rows of a block have come.
-use Rattle.std.proofs.Common.{◌≡◌, ◌≢◌, ◌⊎◌, inl, inr, refl, sym, ap, subst, ◌∙◌, ℕ, zero, suc, ◌+◌, ◌-◌, ◌<◌, Bool, true, false, cond}
-use Rattle.std.proofs.Common.{Option, Some, None, List, [], ◌∷◌, ◌++◌, length, take, drop, get_or, pos, ◌<ℤ◌, arith, append_assoc}
+use Rattle.std.proofs.Common.{◌≡◌, ◌⊎◌, inl, inr, refl, sym, ap, subst, ◌∙◌, ℕ, zero, suc, ◌+◌, ◌-◌, ◌<◌, ◌≤◌, Bool, true, false, cond}
+use Rattle.std.proofs.Common.{Option, Some, None, List, [], ◌∷◌, ◌++◌, length, take, drop, get_or, pos, arith, append_assoc}
 use Rattle.std.specs.Prelude.{IfSome, IsTrue, MatchBool, slice_get}
 use Rattle.std.proofs.lemmas.Bool.{cases_lt}
 use Rattle.std.proofs.lemmas.List.{append-nil}
-use Rattle.std.proofs.lemmas.Option.{get_or_from_slice_get, slice_get-get_or, slice_get_within}
-use Rattle.rational.specs.Rational.{Rational, ◌<ʳ◌, ◌≤ʳ◌, ◌≈◌, whole}
-use Rattle.rational.specs.Time.{Interval, IsIn, left_open}
-use Rattle.rational.specs.Line.{at}
+use Rattle.std.proofs.lemmas.Option.{slice_get-get_or, slice_get_within}
+use Rattle.rational.specs.Rational.{Rational, ◌<ʳ◌, ◌≤ʳ◌, ◌≈◌}
+use Rattle.rational.specs.Time.{Interval, left_open}
 use Rattle.rational.specs.Places.{Place, begins, ends, After, Upto}
-use Rattle.rational.proofs.Order.{lt_or_same_or_gt, not_lt_of_le, same_sym, le_of_lt, same_refl}
+use Rattle.rational.proofs.Order.{lt_or_same_or_gt, not_lt_of_le, same_sym, le_of_lt}
 use Rattle.rational.proofs.PlaceLemmas.{same_places, after_of_before, after_same}
 use Rattle.frac128.specs.Spans.{interval}
-use Rattle.stl_syntax.specs.Trace.{Header, Row, Trace, IsTrace, AreRows, AreRowsAfter, row_time}
-use Rattle.stl_syntax.specs.Formula.{Subformula, atom}
+use Rattle.stl_syntax.specs.Trace.{Header, Row, Trace, IsTrace, AreRows, row_time}
+use Rattle.stl_syntax.specs.Formula.{atom}
 use Rattle.stl_syntax.specs.Truth.{compares, expression, holds_at}
-use Rattle.stl_syntax.specs.Verdicts.{Describes, GoesOn, IsTold}
+use Rattle.stl_syntax.specs.Verdicts.{Describes, GoesOn}
 use Rattle.stl_syntax.specs.declared.atom.Atom.{Atom}
 use Rattle.stl_syntax.specs.declared.items.Verdict.{Verdict}
 use Rattle.stl_syntax.specs.declared.node.Node.{Node}
-use Rattle.atom_lines.specs.Binding.{Binding, IsAtomNode, IsFor, HasRow, AreNeighbours}
+use Rattle.atom_lines.specs.Binding.{Binding, IsAtomNode, IsFor, AreNeighbours}
 use Rattle.atom_lines.specs.Passages.{HasBlock}
 use Rattle.atom_lines.specs.Rows.{row_of}
-use Rattle.atom_lines.specs.Sums.{reach}
 use Rattle.atom_lines.specs.declared.bound_atom.BoundAtom.{BoundAtom}
+use Rattle.atom_lines.proofs.Columns.{next_row, row_width}
 use Rattle.atom_lines.proofs.Signs.{compare_same}
 use Rattle.atom_lines.proofs.SumLemmas.{atom_binding, expression_at_row, expression_in_gap}
 use Rattle.online_nodes.specs.Driven.{rows_of}
 use Rattle.online_nodes.specs.Network.{Event, row}
-use Rattle.online_nodes.specs.Held.{Edge, Held, JoinsAlike, Stand, edge_at, no_edge, with_more, with_number}
+use Rattle.online_nodes.specs.Held.{Edge, Held, Stand, edge_at, no_edge, with_more, with_number}
 use Rattle.online_nodes.specs.Laws.{AreTiles, AreTold}
 use Rattle.online_nodes.specs.declared.operator.Operator.{Operator}
 use Rattle.online_nodes.proofs.EmittedLaw.{describes_tiles}
 use Rattle.online_nodes.proofs.MeetingLaw.{tiled_upto}
 use Rattle.online_nodes.proofs.Stretches.{stand_given}
 use Rattle.online_nodes.proofs.Writing.{in_after, in_upto}
-use Rattle.online_net.specs.Atoms.{IsPut, HasPutAtoms, begun}
+use Rattle.online_net.specs.Atoms.{HasPutAtoms, begun}
 use Rattle.online_net.specs.Nets.{Parts, Stands}
 use Rattle.online_net.specs.Stretches.{AreOfRows, IsPutRows, HaveRows, rows_between}
 use Rattle.online_net.proofs.Feeding.{fed_stands}
@@ -87,8 +86,8 @@ module _ (b : Binding) (i : ℕ) (k : BoundAtom) (here : slice_get b.atoms i ≡
             (told.truth t h);
       },
       told_alike (ends (interval v.on)) d vs rest more (λ t low high.
-      same t (after_same (begins (interval v.on)) c t (same_places s)
-      (after_of_before (begins (interval v.on)) (ends (interval v.on)) t some low)) high),
+          same t (after_same (begins (interval v.on)) c t (same_places s)
+          (after_of_before (begins (interval v.on)) (ends (interval v.on)) t some low)) high),
     )
 
     -- so what describes it in the one trace does in the other
@@ -135,7 +134,11 @@ changed_count f k (x ∷ xs) = ap suc (changed_count f (suc k) xs)
 changed_at : (f : ℕ → Edge → Edge) (k : ℕ) (xs : List Edge) (j : ℕ) → j < length xs → get_or (changed f k xs) j no_edge ≡ f (k + j) (get_or xs j no_edge)
 changed_at f k [] j l = absurd (omega (arith, l))
 changed_at f k (x ∷ xs) zero l = ap (λ n. f n x) (let e : k ≡ k + 0 = omega arith in e)
-changed_at f k (x ∷ xs) (suc j) l = changed_at f (suc k) xs j (omega (arith, l)) ∙ ap (λ n. f n (get_or xs j no_edge)) (let e : suc k + j ≡ k + suc j = omega arith in e)
+changed_at f k (x ∷ xs) (suc j) l =
+    changed_at f (suc k) xs j (omega (arith, l)) ∙ ap (λ n. f n (get_or xs j no_edge)) (let e : suc k + j ≡ k + suc j = omega arith in e)
+
+changed_here : (f : ℕ → Edge → Edge) (xs : List Edge) (j : ℕ) → j < length xs → get_or (changed f 0 xs) j no_edge ≡ f j (get_or xs j no_edge)
+changed_here f xs j l = changed_at f 0 xs j l ∙ ap (λ n. f n (get_or xs j no_edge)) (let e : 0 + j ≡ j = omega arith in e)
 
 changed_past : (f : ℕ → Edge → Edge) (k : ℕ) (xs : List Edge) (j : ℕ) → (j < length xs → ⊥) → get_or (changed f k xs) j no_edge ≡ get_or xs j no_edge
 changed_past f k [] j l = refl
@@ -153,32 +156,6 @@ here_is (Some None) e = refl
 here_is (Some (Some op)) e = absurd (let y : false ≡ true = e in cc)
 here_is None e = absurd (let y : false ≡ true = e in cc)
 
--- ---- rows of a trace
-
-rise_after : (width time : ℕ) (rows : List Row) → AreRowsAfter width time rows → (k : ℕ) → suc k < length rows
-    → (get_or rows k no_row).time < (get_or rows (suc k) no_row).time
-rise_after width time [] h k l = absurd (omega (arith, l))
-rise_after width time (r ∷ []) h k l = absurd (omega (arith, l))
-rise_after width time (r ∷ s ∷ rows) h zero l = h.2.0
-rise_after width time (r ∷ s ∷ rows) h (suc k) l = rise_after width r.time (s ∷ rows) h.2 k (omega (arith, l))
-
-pub rows_rise : (width : ℕ) (rows : List Row) → AreRows width rows → (k : ℕ) → suc k < length rows
-    → (get_or rows k no_row).time < (get_or rows (suc k) no_row).time
-rows_rise width [] h k l = absurd h
-rows_rise width (r ∷ []) h k l = absurd (omega (arith, l))
-rows_rise width (r ∷ s ∷ rows) h zero l = h.1.0
-rows_rise width (r ∷ s ∷ rows) h (suc k) l = rise_after width r.time (s ∷ rows) h.1 k (omega (arith, l))
-
-wide_after : (width time : ℕ) (rows : List Row) → AreRowsAfter width time rows → (k : ℕ) → k < length rows → length (get_or rows k no_row).values ≡ width
-wide_after width time [] h k l = absurd (omega (arith, l))
-wide_after width time (r ∷ rows) h zero l = h.1
-wide_after width time (r ∷ rows) h (suc k) l = wide_after width r.time rows h.2 k (omega (arith, l))
-
-pub rows_wide : (width : ℕ) (rows : List Row) → AreRows width rows → (k : ℕ) → k < length rows → length (get_or rows k no_row).values ≡ width
-rows_wide width [] h k l = absurd h
-rows_wide width (r ∷ rows) h zero l = h.0
-rows_wide width (r ∷ rows) h (suc k) l = wide_after width r.time rows h.1 k (omega (arith, l))
-
 -- ---- a network over rows
 
 module _ (nodes : List Node) (header : Header) (b : Binding) (ops : List (Option Operator)) (block : Trace) (is_trace : IsTrace block)
@@ -190,7 +167,7 @@ module _ (nodes : List Node) (header : Header) (b : Binding) (ops : List (Option
   here j = is_here (slice_get ops j)
 
   rising : (k : ℕ) → suc k < length block.rows → (row_at k).time < (row_at (suc k)).time
-  rising = rows_rise (length block.header.columns) block.rows is_trace.rows
+  rising k = next_row (length block.header.columns) block.rows k no_row is_trace.rows
 
   -- verdicts of the atom at node j over rows of the block, as it is in some trace in which the block's rows stand
   pub record HasGiven (j : ℕ) (k : ℕ) (rows : List Row) (vs : List Verdict) : Type 0 where
@@ -239,7 +216,7 @@ module _ (nodes : List Node) (header : Header) (b : Binding) (ops : List (Option
   with_row_at : (e : Held) (more : ℕ → List Verdict) (time j : ℕ) → j < length e.edges → slice_get ops j ≡ Some None
       → edge_at (with_row e more time) j ≡ with_number (with_more (edge_at e j) (more j)) (pos time)
   with_row_at e more time j l at =
-      changed_at (λ j x. cond (here j) (with_number (with_more x (more j)) (pos time)) x) 0 e.edges j l
+      changed_here (λ j x. cond (here j) (with_number (with_more x (more j)) (pos time)) x) e.edges j l
       ∙ ap (λ t. cond t (with_number (with_more (edge_at e j) (more j)) (pos time)) (edge_at e j)) (ap is_here at)
 
   with_row_other : (e : Held) (more : ℕ → List Verdict) (time j : ℕ) → (slice_get ops j ≡ Some None → ⊥) → edge_at (with_row e more time) j ≡ edge_at e j
@@ -253,7 +230,7 @@ module _ (nodes : List Node) (header : Header) (b : Binding) (ops : List (Option
       not_here false x = ap (λ t. cond t (with_number (with_more (edge_at e j) (more j)) (pos time)) (edge_at e j)) x
 
       by_place : (j < length e.edges) ⊎ (length e.edges ≤ j) → edge_at (with_row e more time) j ≡ edge_at e j
-      by_place (inl l) = changed_at f 0 e.edges j l ∙ not_here (here j) refl
+      by_place (inl l) = changed_here f e.edges j l ∙ not_here (here j) refl
       by_place (inr h) = changed_past f 0 e.edges j (λ l. omega (arith, l, h))
 
   -- what the atom at node j gave out at the row behind row k, and what it gave out at the rows after that
@@ -269,7 +246,8 @@ module _ (nodes : List Node) (header : Header) (b : Binding) (ops : List (Option
   one_row k l net events st going same_bound same_ops last e' more got first =
       fed_stands nodes header events net st r
       (row_may nodes header events net st r going (subst (λ o. IfSome o (λ q. q.time < r.time)) (sym last) (rising k l))
-      (subst (λ (c : Binding). length r.values ≡ c.width) (sym same_bound) (rows_wide (length block.header.columns) block.rows is_trace.rows (suc k) l ∙ width))) e'
+      (subst (λ (c : Binding). length r.values ≡ c.width) (sym same_bound)
+      (row_width (length block.header.columns) block.rows (suc k) no_row is_trace.rows l ∙ width))) e'
       (subst (λ o. HasPutAtoms net.bound o r net.operators (length net.operators) (begun net.edges o r) e') (sym last)
       (subst (λ c. HasPutAtoms c (Some (row_at k)) r net.operators (length net.operators) net.edges e') (sym same_bound)
       (subst (λ l. HasPutAtoms b (Some (row_at k)) r l (length l) net.edges e') (sym same_ops) put)))
@@ -338,7 +316,8 @@ module _ (nodes : List Node) (header : Header) (b : Binding) (ops : List (Option
   stand_rows (suc m) k l net events st going same_bound same_ops last e' given got is =
       subst (λ n. Stands nodes header (record net { edges = e'; last = Some (row_at n) })
       (events ++ rows_of (take (suc (suc m)) (drop (suc k) block.rows)))) e
-      (subst (λ rs. Stands nodes header (record net { edges = e'; last = Some (row_at (suc k + suc m)) }) (events ++ rows_of (take (suc (suc m)) rs))) (sym next)
+      (subst (λ rs. Stands nodes header (record net { edges = e'; last = Some (row_at (suc k + suc m)) })
+      (events ++ rows_of (take (suc (suc m)) rs))) (sym next)
       (subst (λ es. Stands nodes header (record net { edges = e'; last = Some (row_at (suc k + suc m)) }) es)
       (append_assoc events (row r ∷ []) (rows_of (take (suc m) (drop (suc (suc k)) block.rows))))
       (stand_rows m (suc k) (omega (arith, l)) (record net { edges = e1; last = Some r }) (events ++ row r ∷ [])
@@ -365,9 +344,7 @@ module _ (nodes : List Node) (header : Header) (b : Binding) (ops : List (Option
           let g = is j (here_is (slice_get ops j) x) in
           let h = subst (λ rs. AreOfRows (atom j g.a) g.tr (row_at k) (take (suc (suc m)) rs) (given j)) next g.each in (
             (h.0, h.1),
-            h.4,
-            (g.a, g.tr, g.for, g.has, h.2),
-            record { a = g.a; tr = g.tr; for = g.for; has = g.has; each = h.3 },
+            (h.4, (g.a, g.tr, g.for, g.has, h.2), record { a = g.a; tr = g.tr; for = g.for; has = g.has; each = h.3 }),
           )
 
       parts : (f : ℕ → List Verdict × List Verdict) × ((j : ℕ) → here j ≡ true → Parted j (f j))
@@ -465,7 +442,10 @@ module _ (nodes : List Node) (header : Header) (events : List Event) (net : Part
       count = omega (arith, order)
 
       stands_whole : HasBlock (record { header = header; rows = block.rows }) block
-      stands_whole = record { place = 0; rows = λ k r e. e }
+      stands_whole = record {
+        place = 0;
+        rows = λ k r e. subst (λ n. slice_get block.rows n ≡ Some r) (let z : k ≡ 0 + k = omega arith in z) e;
+      }
 
       trace_is : IsTrace (record { header = header; rows = block.rows })
       trace_is = record { rows = subst (λ w. AreRows w block.rows) (width ∙ st.holds.bound.width) is_trace.rows }
@@ -490,8 +470,7 @@ module _ (nodes : List Node) (header : Header) (events : List Event) (net : Part
           } in
           let vs = (put j at).fresh leaf.0 (record { header = header; rows = block.rows }) for stands_whole in (
             vs.0,
-            record { a = leaf.0; tr = record { header = header; rows = block.rows }; for = for; has = stands_whole; each = vs.1 },
-            vs.2,
+            (record { a = leaf.0; tr = record { header = header; rows = block.rows }; for = for; has = stands_whole; each = vs.1 }, vs.2),
           )
 
       chosen_all : (f : ℕ → List Verdict) × ((j : ℕ) → is_here (slice_get net.operators j) ≡ true → IsGiven j (f j))

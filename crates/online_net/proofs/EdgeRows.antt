@@ -1,26 +1,24 @@
 -- The edge of an atom once verdicts over rows of a block were put onto it.
-use Rattle.std.proofs.Common.{◌≡◌, ◌≢◌, ◌⊎◌, inl, inr, refl, sym, ap, subst, ◌∙◌, ℕ, suc, ◌+◌, ◌-◌, ◌<◌, ◌≤◌, Bool, true, false, Option, Some, None}
-use Rattle.std.proofs.Common.{List, [], ◌∷◌, ◌++◌, length, take, drop, get_or, set, pos, arith, append_assoc}
+use Rattle.std.proofs.Common.{◌≡◌, ◌≢◌, ◌⊎◌, inl, inr, refl, sym, ap, subst, ◌∙◌, ℕ, suc, ◌+◌, ◌-◌, ◌<◌, ◌≤◌, true, Option, Some, None}
+use Rattle.std.proofs.Common.{List, [], ◌++◌, length, take, drop, get_or, set, pos, arith, append_assoc}
 use Rattle.std.specs.Prelude.{slice_get}
-use Rattle.std.proofs.lemmas.Bool.{cases_eq, cases_order}
+use Rattle.std.proofs.lemmas.Bool.{cases_order}
 use Rattle.std.proofs.lemmas.List.{append-nil, get_or-set_same, get_or-set_other, length-set, set-get_or, set-set}
 use Rattle.std.proofs.lemmas.Option.{get_or_from_slice_get, slice_get-get_or, slice_get_within}
 use Rattle.rational.specs.Time.{left_open}
 use Rattle.stl_syntax.specs.Trace.{Row, Trace, IsTrace, row_time}
 use Rattle.stl_syntax.specs.Formula.{atom}
 use Rattle.stl_syntax.specs.Verdicts.{Describes}
-use Rattle.stl_syntax.specs.declared.atom.Atom.{Atom}
-use Rattle.stl_syntax.specs.declared.items.Verdict.{Verdict}
-use Rattle.atom_lines.specs.Binding.{Binding, IsFor}
+use Rattle.atom_lines.specs.Binding.{Binding}
 use Rattle.atom_lines.specs.Passages.{HasBlock}
 use Rattle.atom_lines.specs.Rows.{row_of}
-use Rattle.online_nodes.specs.Held.{AreStretches, Edge, Held, JoinsAlike, Stand, edge_at, no_edge, with_edge, with_number}
+use Rattle.online_nodes.specs.Held.{Edge, Held, JoinsAlike, Stand, edge_at, no_edge, with_number}
 use Rattle.online_nodes.specs.Written.{Lead}
 use Rattle.online_nodes.specs.declared.operator.Operator.{Operator}
 use Rattle.online_nodes.proofs.Stretches.{stand_again, stand_given, stand_more, stretches_again, stretches_behind}
 use Rattle.online_nodes.proofs.Writing.{lead_describes}
-use Rattle.online_net.specs.Stretches.{after_time, rows_between, AreOfRows, HasMoreAt, HasPutStretch, IsPutRows, HasPutRows, HaveRows}
-use Rattle.online_net.proofs.BlockRows.{rows_rise}
+use Rattle.online_net.specs.Stretches.{after_time, AreOfRows, HasPutStretch, IsPutRows, HasPutRows, HaveRows}
+use Rattle.atom_lines.proofs.Columns.{next_row}
 use Rattle.online_net.proofs.RowParts.{of_rows, row_more}
 use Rattle.online_net.proofs.Running.{later_order}
 use Rattle.online_net.proofs.Saying.{HasNoted}
@@ -34,7 +32,8 @@ pub block_rises : (tr block : Trace) → IsTrace tr → HasBlock tr block → (k
 block_rises tr block is has k l =
     subst (λ (r : Row). (get_or block.rows k no_row).time < r.time) there
     (subst (λ (r : Row). r.time < (get_or tr.rows (suc (has.place + k)) no_row).time) here
-    (rows_rise (length tr.header.columns) tr.rows is.rows (has.place + k) (slice_get_within tr.rows (suc (has.place + k)) (get_or block.rows (suc k) no_row) at)))
+    (next_row (length tr.header.columns) tr.rows (has.place + k) no_row is.rows
+    (slice_get_within tr.rows (suc (has.place + k)) (get_or block.rows (suc k) no_row) at)))
   where
     at : slice_get tr.rows (suc (has.place + k)) ≡ Some (get_or block.rows (suc k) no_row)
     at = subst (λ n. slice_get tr.rows n ≡ Some (get_or block.rows (suc k) no_row)) (let e : has.place + suc k ≡ suc (has.place + k) = omega arith in e)
@@ -60,8 +59,8 @@ module _ (b : Binding) (block : Trace) (i : ℕ) where
       joins = s.got.here.joins;
       fresh = λ a tr for has.
           let led = s.led a tr for has in
-          let each = of_rows (atom i a) tr block.rows (block_rises tr block for.rows has) (to - suc from) from (subst (λ n. n < length block.rows) (sym end) within)
-          s.more led.0
+          let each = of_rows (atom i a) tr block.rows (block_rises tr block for.rows has) (to - suc from) from
+          (subst (λ n. n < length block.rows) (sym end) within) s.more led.0
           (subst (λ n. Lead (atom i a) tr (after_time (row_at from).time) None s.more (after_time (row_at n).time) led.0) (sym end) led.1) in (
             each.0,
             subst (λ n. AreOfRows (atom i a) tr (row_at from) (take n (drop (suc from) block.rows)) each.0) (sym count) each.1,

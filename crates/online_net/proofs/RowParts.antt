@@ -1,26 +1,24 @@
 -- Verdicts over several rows, and those of each of them.
-use Rattle.std.proofs.Common.{◌≡◌, ◌≢◌, ◌⊎◌, inl, inr, refl, sym, ap, subst, ◌∙◌, ℕ, zero, suc, ◌+◌, ◌-◌, ◌<◌, Bool, true, false, not, ◌&&◌}
+use Rattle.std.proofs.Common.{◌≡◌, ◌⊎◌, inl, inr, refl, sym, ap, subst, ◌∙◌, ℕ, zero, suc, ◌+◌, ◌<◌, Bool, true, false, not, ◌&&◌}
 use Rattle.std.proofs.Common.{Option, Some, None, List, [], ◌∷◌, ◌++◌, length, take, drop, get_or, pos, arith, append_assoc}
 use Rattle.std.proofs.lemmas.List.{append-nil}
 use Rattle.rational.specs.Rational.{◌≈◌, whole}
 use Rattle.rational.specs.Time.{HasTimeBetween, left_open}
-use Rattle.rational.specs.Places.{Place, begins, ends, After, Upto, Before, Same}
+use Rattle.rational.specs.Places.{Place, begins, ends, Before, Same}
 use Rattle.rational.proofs.Mixed.{parts}
 use Rattle.rational.proofs.PlaceLemmas.{place_order, room_of_before, same_places, same_trans_places, same_before, before_same, before_trans}
-use Rattle.rational.proofs.PlaceLemmas.{not_before_itself, after_of_before, upto_of_before, after_same, upto_same}
+use Rattle.rational.proofs.PlaceLemmas.{not_before_itself, after_of_before, upto_of_before}
 use Rattle.frac128.specs.Spans.{interval}
 use Rattle.frac128.specs.Value.{value}
 use Rattle.frac128.proofs.Wholes.{whole_frac}
 use Rattle.stl_syntax.specs.Trace.{Row, Trace, row_time}
 use Rattle.stl_syntax.specs.Formula.{Subformula}
-use Rattle.stl_syntax.specs.Truth.{Truth}
 use Rattle.stl_syntax.specs.Verdicts.{Describes}
 use Rattle.stl_syntax.specs.declared.items.Verdict.{Verdict}
-use Rattle.online_nodes.specs.Held.{AreStretches, IsJoined, Stand, as_given, joined}
-use Rattle.online_nodes.specs.Truths.{AllAre}
+use Rattle.online_nodes.specs.Held.{AreStretches, as_given, joined}
 use Rattle.online_nodes.specs.Written.{Lead}
 use Rattle.online_nodes.proofs.Stretches.{stretches_behind, stretches_again}
-use Rattle.online_nodes.proofs.Writing.{same_itself, lead_to, lead_describes}
+use Rattle.online_nodes.proofs.Writing.{same_itself, lead_describes}
 use Rattle.online_net.specs.Stretches.{after_time, AreOfRows}
 use Rattle.online_net.proofs.Running.{later_order}
 
@@ -65,7 +63,8 @@ module _ (n : Subformula) (tr : Trace) where
       → Before c (after_time k) → Before (after_time k) d → AreCut k c before vs d
   cut k c before [] d last (s, h) low high =
       absurd (not_before_itself c (before_trans c (after_time k) c low (before_same (after_time k) d c high (same_places s))))
-  cut k c before (v ∷ vs) d last (s, b, f, t, rest) low high = by_order (place_order (after_time k) (ends (interval v.on)))
+  cut k c before (v ∷ vs) d last (s, b, f, t, rest) low high =
+      by_order (cut k (ends (interval v.on)) (Some v.holds) vs d last rest) (place_order (after_time k) (ends (interval v.on)))
     where
       from_to : Before (begins (interval v.on)) (tick_place k) → Verdict
       from_to l = record {
@@ -100,9 +99,10 @@ module _ (n : Subformula) (tr : Trace) where
       begun = before_same (begins (interval v.on)) (after_time k) (tick_place k) (same_before (begins (interval v.on)) c (after_time k) (same_places s) low)
           (same_places (tick_same k))
 
-      by_order : Before (after_time k) (ends (interval v.on)) ⊎ Same (after_time k) (ends (interval v.on)) ⊎ Before (ends (interval v.on)) (after_time k)
+      by_order : (Before (ends (interval v.on)) (after_time k) → Before (after_time k) d → AreCut k (ends (interval v.on)) (Some v.holds) vs d)
+          → Before (after_time k) (ends (interval v.on)) ⊎ Same (after_time k) (ends (interval v.on)) ⊎ Before (ends (interval v.on)) (after_time k)
           → AreCut k c before (v ∷ vs) d
-      by_order (inl h) = two (same_before (tick_place k) (after_time k) (ends (interval v.on)) (tick_same k) h)
+      by_order more (inl h) = two (same_before (tick_place k) (after_time k) (ends (interval v.on)) (tick_same k) h)
         where
           two : Before (tick_place k) (ends (interval v.on)) → AreCut k c before (v ∷ vs) d
           two e = record {
@@ -131,7 +131,7 @@ module _ (n : Subformula) (tr : Trace) where
               holds = refl;
             }) as_given;
           }
-      by_order (inr (inl h)) =
+      by_order more (inr (inl h)) =
           let on = lead_from (ends (interval v.on)) (after_time k) d (Some v.holds) last vs h rest in
           record {
             some = v ∷ [];
@@ -142,8 +142,8 @@ module _ (n : Subformula) (tr : Trace) where
             rest = on.1;
             parts_of = as_given;
           }
-      by_order (inr (inr h)) =
-          let on = cut k (ends (interval v.on)) (Some v.holds) vs d last rest h high in
+      by_order more (inr (inr h)) =
+          let on = more h high in
           record {
             some = v ∷ on.some;
             left = on.left;
@@ -188,10 +188,10 @@ module _ (n : Subformula) (tr : Trace) where
         let e : suc k + suc m ≡ k + suc (suc m) = omega arith in
         let some = later_order (row_at k).time (row_at (suc k)).time (rising k (omega (arith, l))) in
         let more = subst (λ j. Before (after_time (row_at (suc k)).time) (after_time (row_at j).time)) e
-            (later_order (row_at (suc k)).time (row_at (suc k + suc m)).time (later m (suc k) (omega (arith, l)))) in
+        (later_order (row_at (suc k)).time (row_at (suc k + suc m)).time (later m (suc k) (omega (arith, l)))) in
         let x = cut (row_at (suc k)).time (after_time (row_at k).time) None vs (after_time (row_at (k + suc (suc m))).time) last lead some more in
         let on = of_rows m (suc k) (omega (arith, l)) x.left x.end
-            (subst (λ j. Lead n tr (after_time (row_at (suc k)).time) None x.left (after_time (row_at j).time) x.end) (sym e) x.rest) in (
+        (subst (λ j. Lead n tr (after_time (row_at (suc k)).time) None x.left (after_time (row_at j).time) x.end) (sym e) x.rest) in (
           x.some ++ on.0,
           subst (λ rs. AreOfRows n tr (row_at k) (take (suc (suc m)) rs) (x.some ++ on.0)) (sym (drop_next rows (suc k) no_row (omega (arith, l)))) (
             x.some,

@@ -1,35 +1,38 @@
 -- An atom's truth along a block, run by run.
-use Rattle.std.proofs.Common.{◌≡◌, ◌≢◌, ◌⊎◌, inl, inr, refl, sym, ap, subst, ◌∙◌, ℕ, suc, ◌-◌, ◌<◌, ◌≤◌, Bool, true, false, not, Option, Some, None}
-use Rattle.std.proofs.Common.{List, [], ◌∷◌, ◌++◌, length, set, ℤ, pos, ◌<ℤ◌, ◌≤ℤ◌, arith, append_assoc}
+use Rattle.std.proofs.Common.{◌≡◌, ◌⊎◌, inl, inr, refl, sym, ap, subst, ◌∙◌, ℕ, ◌-◌, ◌<◌, ◌≤◌, Bool, true, false, not, Some, None}
+use Rattle.std.proofs.Common.{List, [], ◌∷◌, ◌++◌, length, get_or, set, ℤ, pos, ◌<ℤ◌, ◌≤ℤ◌, arith, append_assoc}
 use Rattle.std.proofs.lemmas.Bool.{cases_order}
 use Rattle.std.proofs.lemmas.Int.{ints}
-use Rattle.std.proofs.lemmas.List.{append-nil, get_or-set_same, get_or-set_other, length-set, set-get_or, set-set}
+use Rattle.std.specs.Bool.{beq}
+use Rattle.std.proofs.lemmas.Option.{same_Some}
+use Rattle.std.proofs.lemmas.List.{append-nil, get_or-set_same, length-set, set-get_or, set-set}
 use Rattle.rational.specs.Rational.{Rational, ◌<ʳ◌, ◌≤ʳ◌, ◌≈◌, whole}
-use Rattle.rational.specs.Places.{Place, begins, ends, After, Upto, AtMost, Before, Same}
+use Rattle.rational.specs.Places.{Place, begins, ends, AtMost, Before, Same}
 use Rattle.rational.proofs.Order.{same_refl, same_of_le, le_of_lt, le_trans, not_lt_of_le}
 use Rattle.rational.proofs.Shift.{lt_whole, le_whole}
 use Rattle.rational.proofs.PlaceLemmas.{same_places, same_trans_places, same_before, before_trans, before_at_most, before_of_at_most, after_same}
 use Rattle.frac128.specs.Cuts.{place}
 use Rattle.frac128.specs.Spans.{interval}
 use Rattle.frac128.specs.declared.cut.Cut.{Cut}
-use Rattle.stl_syntax.specs.Trace.{Row, Trace, row_time}
+use Rattle.stl_syntax.specs.Trace.{Trace, row_time}
 use Rattle.stl_syntax.specs.Formula.{Subformula, atom}
 use Rattle.stl_syntax.specs.Truth.{Truth, holds_at}
 use Rattle.stl_syntax.specs.declared.atom.Atom.{Atom}
 use Rattle.stl_syntax.specs.declared.items.Verdict.{Verdict}
 use Rattle.atom_lines.specs.Binding.{Binding, IsFor}
 use Rattle.atom_lines.specs.Growing.{IsReachAt}
-use Rattle.atom_lines.specs.Passages.{HasBlock, IsWay, TellsPassage, TurnsInside, crossing_time}
+use Rattle.atom_lines.specs.Passages.{HasBlock, IsWay, TurnsInside, crossing_time}
 use Rattle.atom_lines.specs.Rows.{row_of}
 use Rattle.atom_lines.specs.declared.passage.Passage.{Passage}
 use Rattle.atom_lines.specs.declared.passage.Passage.TheVariants.{Steady, Turns}
 use Rattle.atom_lines.specs.declared.passage.Way.{Way}
-use Rattle.online_nodes.specs.Held.{Edge, Held, HasMore, Stand, edge_at, no_edge, with_edge}
+use Rattle.online_nodes.specs.Held.{Edge, Held, HasMore, Stand, edge_at, no_edge, with_edge, with_more}
 use Rattle.online_nodes.specs.Truths.{AllAre}
 use Rattle.online_nodes.specs.Written.{Lead}
+use Rattle.online_nodes.proofs.GotLemmas.{more_given}
 use Rattle.online_nodes.proofs.Stretches.{some_verdict, stand_again, stand_given, stand_more}
 use Rattle.online_nodes.proofs.Writing.{joined, told_same, same_itself, lead_on, lead_to}
-use Rattle.online_net.specs.Stretches.{after_time, before_time, first_truth, HasMoreAt, HasPutRun, HasRun, HasTurned, HasPassed, HasGone, HasCome, HasPutStretch}
+use Rattle.online_net.specs.Stretches.{after_time, before_time, HasMoreAt, HasPutRun, HasRun, HasTurned, HasPassed, HasGone, HasCome, HasPutStretch}
 use Rattle.online_net.specs.declared.stretch.Run.{Run}
 use Rattle.online_net.specs.declared.stretch.Along.{Along}
 use Rattle.online_net.proofs.Saying.{is_test}
@@ -78,14 +81,28 @@ more_both {a} {b} {c} {i} {xs} {ys} first second = record {
     z : Edge
     z = edge_at c i
 
+-- a verdict was put as it is
+pub put_given : (old new : Held) (i : ℕ) (v : Verdict) → i < length old.edges → new.edges ≡ with_edge old i (with_more (edge_at old i) (v ∷ []))
+    → new.start ≡ old.start → HasMoreAt old new i (v ∷ [])
+put_given old new i v within is start = record {
+  here = subst (λ x. HasMore (edge_at old i) x (v ∷ [])) (sym own) (more_given (edge_at old i) (v ∷ []));
+  others = is ∙ ap (λ x. with_edge old i x) (sym own);
+  start = start;
+}
+  where
+    own : edge_at new i ≡ with_more (edge_at old i) (v ∷ [])
+    own = ap (λ es. get_or es i no_edge) is ∙ get_or-set_same old.edges i _ no_edge within
+
 -- ---- one place after another
 
 time_order : (m n : ℕ) → m < n → Before (after_time m) (before_time n)
 time_order m n l = inl (lt_whole (let h : pos m <ℤ pos n = omega (arith, ints, l) in h))
 
+-- just before a time, and just after it
 pub own_order : (n : ℕ) → Before (before_time n) (after_time n)
 own_order n = inr (same_refl (whole (pos n)), refl, refl)
 
+-- just after a time, and just after a later one
 pub later_order : (m n : ℕ) → m < n → Before (after_time m) (after_time n)
 later_order m n l = before_trans (after_time m) (before_time n) (after_time n) (time_order m n l) (own_order n)
 
@@ -94,15 +111,15 @@ at_most_order m n l t u = le_trans u (le_whole (let h : pos m ≤ℤ pos n = ome
 
 -- ---- turns
 
-module _ (i : ℕ) (old : Held) (run : Run) (at : Cut) (holds : Bool) (c : Place) (same : Same (place at) c)
-    (order : (d : Place) → Before (place at) d → Before (place run.from) d) where
+module _ (i : ℕ) (old : Held) (run : Run) where
   -- the truth goes on
-  pub turn_none : run.holds ≡ holds → HasTurned old old i run c holds run
-  turn_none e = record {
+  pub turn_none : (holds : Bool) (c : Place) → ((d : Place) → Before c d → Before (place run.from) d) → run.holds ≡ holds
+      → HasTurned old old i run c holds run
+  turn_none holds c order e = record {
     more = [];
     got = none_at_all old i;
     truth = e;
-    order = λ d b. order d (same_before (place at) c d same b);
+    order = order;
     told = λ n tr begin written h d all. record {
       last = h.last;
       lead = subst (λ l. Lead n tr begin None l (place run.from) h.last) (sym (append-nil written)) h.lead;
@@ -111,39 +128,42 @@ module _ (i : ℕ) (old : Held) (run : Run) (at : Cut) (holds : Bool) (c : Place
     };
   }
 
-  -- the run before is put
-  pub turn_put : {new : Held} → run.holds ≢ holds → HasPutRun old new i run (place at)
-      → HasTurned old new i run c holds (record { from = at; holds = holds })
-  turn_put {new} differ put = record {
+  -- it turns over
+  pub turned_over : {new : Held} (at : Cut) (c : Place) → Same (place at) c → HasPutRun old new i run (place at)
+      → HasTurned old new i run c (not run.holds) (record { from = at; holds = not run.holds; first = false })
+  turned_over {new} at c same put = record {
     more = put.verdict ∷ [];
     got = put.got;
     truth = refl;
     order = λ d b. same_before (place at) c d same b;
     told = λ n tr begin written h d all. record {
       last = Some put.verdict.holds;
-      lead = run_lead n tr begin written h (same_trans_places put.end same) put;
-      other = λ e. differ (sym put.is ∙ some_is e);
-      all = told_same holds (Truth n tr) c d (place at) d (same_places same) (same_itself d) all;
+      lead = run_lead n tr begin written h;
+      other = λ e. not_itself run.holds (sym put.is ∙ same_Some _ _ e);
+      all = told_same (not run.holds) (Truth n tr) c d (place at) d (same_places same) (same_itself d) all;
     };
   }
     where
-      some_is : {a b : Bool} → Some a ≡ Some b → a ≡ b
-      some_is {a} {b} e = ap or_true e
-        where
-          or_true : Option Bool → Bool
-          or_true None = true
-          or_true (Some x) = x
+      not_itself : (b : Bool) → b ≡ not b → ⊥
+      not_itself true e = (let x : true ≡ false = e in cc)
+      not_itself false e = (let x : false ≡ true = e in cc)
 
-      run_lead : (n : Subformula) (tr : Trace) (begin : Place) (written : List Verdict) → (h : HasRun n tr begin written run c)
-          → Same (ends (interval put.verdict.on)) c → (p : HasPutRun old new i run (place at))
+      run_lead : (n : Subformula) (tr : Trace) (begin : Place) (written : List Verdict) → HasRun n tr begin written run c
           → Lead n tr begin None (written ++ put.verdict ∷ []) (place at) (Some put.verdict.holds)
-      run_lead n tr begin written h to p =
+      run_lead n tr begin written h =
           lead_to n tr begin None (written ++ put.verdict ∷ []) (ends (interval put.verdict.on)) (place at) (Some put.verdict.holds) put.end
           (lead_on n tr begin None written (place run.from) h.last put.verdict h.lead put.begin (some_verdict put.verdict)
           (λ e. h.other (e ∙ ap Some put.is))
           (subst (λ b. AllAre b (Truth n tr) (begins (interval put.verdict.on)) (ends (interval put.verdict.on))) (sym put.is)
           (told_same run.holds (Truth n tr) (place run.from) c (begins (interval put.verdict.on)) (ends (interval put.verdict.on)) put.begin
-          (same_places to) h.all)))
+          (same_places (same_trans_places put.end same)) h.all)))
+
+-- a truth that is not the other one is that, turned over
+pub turned_is : (a b : Bool) → beq a b ≡ false → not a ≡ b
+turned_is true true e = (let x : true ≡ false = e in cc)
+turned_is true false e = refl
+turned_is false true e = refl
+turned_is false false e = (let x : true ≡ false = e in cc)
 
 -- ---- a gap
 
@@ -226,7 +246,8 @@ module _ (b : Binding) (block : Trace) (from to i : ℕ) where
             last = None;
             lead = (same_places begins_so, refl);
             other = λ e. (let x = e in cc);
-            all = λ t low high. is_test a tr t run.holds (by_place a tr for has t (after_same (place run.from) (after_time (time_at from)) t begins_so low) high);
+            all = λ t low high. is_test a tr t run.holds
+                (by_place a tr for has t (after_same (place run.from) (after_time (time_at from)) t begins_so low) high);
           }) v.passes v.there,
           v.there (row_time (row_of block w.row)) (same_refl (row_time (row_of block w.row))) ∙ sym g.truth,
         );

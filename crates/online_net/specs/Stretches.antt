@@ -18,7 +18,7 @@ use Rattle.atom_lines.specs.Passages.{HasBlock, TellsPassage, crossing_time}
 use Rattle.atom_lines.specs.Rows.{row_of}
 use Rattle.atom_lines.specs.declared.passage.Passage.{Passage}
 use Rattle.atom_lines.specs.declared.passage.Passage.TheVariants.{Steady, Turns}
-use Rattle.online_nodes.specs.Held.{Edge, Held, HasMore, Stand, edge_at, with_edge, with_number}
+use Rattle.online_nodes.specs.Held.{Edge, Held, HasMore, Stand, edge_at, with_edge}
 use Rattle.online_nodes.specs.Truths.{AllAre}
 use Rattle.online_nodes.specs.Written.{Lead}
 use Rattle.online_nodes.specs.declared.operator.Operator.{Operator}

@@ -6,11 +6,13 @@
 ghost use Rattle.std.specs.Prelude.{◌≡◌, ◌<◌, ◌+◌, ◌-◌, ◌↔◌, ◌++◌, ◌∷◌, [], List, length, IfOk, OnOk, IfSome, IfNone};
 ghost use Rattle.std.specs.Prelude.{IsTrue, MatchBool, MatchResult, Some, None, true, false, pos, option_map, ◌≢◌};
 ghost use Rattle.stl_syntax.specs.Trace.{Header};
+ghost use Rattle.stl_syntax.specs.WellFormed.{IsWellFormed};
 ghost use Rattle.stl_syntax.specs.declared.node.Node.{Node as ANode};
 ghost use Rattle.atom_lines.specs.Binding.{IsBound};
 ghost use Rattle.online_nodes.specs.Network.{Event, row as came, step as stepped, close as ended, take as taken, state, shown, node_is_atom, IsReady};
 ghost use Rattle.online_nodes.specs.Held.{JoinsAlike, held_at};
 ghost use Rattle.online_nodes.specs.Belonging.{Belongs, BelongsSomewhere};
+ghost use Rattle.online_net.specs.Nets.{Stands};
 ghost use Rattle.online_net.specs.Steps.{AreFirstOperators, AreNewEdges, IsFirstOperator, IsStep, JoinsAllButRoot, JoinsNone};
 ghost use Rattle.stl_syntax.specs.Trace.{Row as ARow, IsTrace};
 ghost use Rattle.online_nodes.specs.Driven.{rows_of};
@@ -108,6 +110,28 @@ fn joining_edges(alloc: Global, count: u32) -> Result<Edges, Memory>
     Ok(edges)
 }
 
+/// The network of a formula over edges that hold nothing.
+fn over(alloc: Global, formula: &Formula, bound: Bound, edges: Edges) -> Result<Net, Memory>
+    requires formed { IsWellFormed formula.now }
+    requires bound { (header : Header) × IsBound bound formula.now header }
+    requires edges { AreNewEdges (length formula.now.nodes) edges }
+    ensures stands { (header : Header) → IsBound bound formula.now header → IfOk result (λ net. Stands formula.now.nodes header net []) }
+    ensures nodes { IfOk result (λ net. length net.operators ≡ length formula.now.nodes) }
+    ensures bound { IfOk result (λ net. net.bound ≡ bound) }
+    ensures no_row { IfOk result (λ net. net.last ≡ None) }
+    ensures edges { IfOk result (λ net. net.edges ≡ edges) }
+{
+    let operators = operators_of(alloc, formula)?;
+    Ok(Net {
+        edges,
+        operators,
+        bound,
+        last: None,
+        closed: false,
+        stopped: false,
+    })
+}
+
 /// The time of a row, if there is one.
 fn time_of(row: &Option<Row>) -> Option<u32>
     ensures { result ≡ option_map (λ (r : ARow). r.time) row.now }
@@ -140,8 +164,9 @@ fn keep_row_of(last: &mut Option<Row>, block: &Trace, r: usize)
     ensures row { last.new ≡ Some (row_of block.now r) }
     ensures trace { IsTrace block.now }
 {
-    if let Some(kept) = last {
-        block.copy_row(r, kept);
+    match last {
+        Some(kept) => block.copy_row(r, kept),
+        None => {}
     }
 }
 
@@ -167,7 +192,7 @@ fn step_one(
 }
 
 impl Net {
-    ghost use Rattle.online_net.specs.Nets.{IsClosed, IsCloseFault, IsFed, IsFeedFault, IsNext, IsStepFault, IsStepped, Stands};
+    ghost use Rattle.online_net.specs.Nets.{IsClosed, IsCloseFault, IsFed, IsFeedFault, IsNext, IsStepFault, IsStepped};
 
     /// The network of a formula that is bound to a header's columns. It stands for the empty run. No edge of it joins.
     ///
@@ -182,16 +207,9 @@ impl Net {
         ensures no_row { IfOk result (λ net. net.last ≡ None) }
         ensures joins { IfOk result (λ net. JoinsNone net.edges) }
     {
-        let operators = operators_of(alloc, formula)?;
         let edges = Edges::new(alloc, formula.len())?;
-        Ok(Net {
-            edges,
-            operators,
-            bound,
-            last: None,
-            closed: false,
-            stopped: false,
-        })
+        let net = over(alloc, formula, bound, edges)?;
+        Ok(net)
     }
 
     /// As `new`, but each edge except the root's joins: neighbours of one truth may stand there as one verdict, as long as they are not
@@ -208,16 +226,9 @@ impl Net {
         ensures no_row { IfOk result (λ net. net.last ≡ None) }
         ensures joins { IfOk result (λ net. JoinsAllButRoot (length formula.now.nodes) net.edges) }
     {
-        let operators = operators_of(alloc, formula)?;
         let edges = joining_edges(alloc, formula.len())?;
-        Ok(Net {
-            edges,
-            operators,
-            bound,
-            last: None,
-            closed: false,
-            stopped: false,
-        })
+        let net = over(alloc, formula, bound, edges)?;
+        Ok(net)
     }
 
     /// The next row: each atom gives out its verdicts up to it.

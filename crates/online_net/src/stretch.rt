@@ -1,6 +1,6 @@
 //! What the rows of a block put onto the edges of the atoms, a stretch of one truth at a time.
 
-ghost use Rattle.std.specs.Prelude.{◌≡◌, ◌≢◌, ◌<◌, ◌≤◌, ℕ, length, slice_get, IfOk, OnOk, Some, None, pos};
+ghost use Rattle.std.specs.Prelude.{◌≡◌, ◌≢◌, ◌<◌, ◌≤◌, ℕ, length, slice_get, not, IfOk, OnOk, Some, None, pos};
 ghost use Rattle.rational.specs.Rational.{whole};
 ghost use Rattle.rational.specs.Places.{Place, Before, Same, begins, ends};
 ghost use Rattle.frac128.specs.Cuts.{place};
@@ -11,18 +11,20 @@ ghost use Rattle.atom_lines.specs.Passages.{TurnsInside, crossing_time};
 ghost use Rattle.online_net.specs.Stretches.{after_time, first_truth, HasPutRun, HasTurned, HasPassed, HasGone, HasCome};
 ghost use Rattle.online_net.specs.Stretches.{HasPutStretch, HasPutRows, HaveRows};
 
-use crate::atom::{after_tick, before_tick, note};
+use crate::atom::note;
 use atom_lines::{Bound, Crossing, Passage, standing, way_from};
 use frac128::{Cut, Frac, Memory, Span};
 use online_nodes::{Edges, Operator};
 use stl_syntax::Verdict;
 use trace_reader::Trace;
 
-/// A stretch of one truth that is not put yet: where it begins, and its truth.
+/// A stretch of one truth that is not put yet: where it begins, its truth, and whether none of the block was put before it, so that it may
+/// go on from what stands on the edge.
 #[derive(Clone, Copy)]
 pub(crate) struct Run {
     from: Cut,
     holds: bool,
+    first: bool,
 }
 
 /// How far an atom has come along a block: the row, its sum there, and the stretch that is not put yet.
@@ -33,50 +35,98 @@ pub(crate) struct Along {
     run: Run,
 }
 
-/// The times between two places.
+/// The verdict of a run that ends at a place.
 #[inline(always)]
-fn span_between(from: Cut, to: Cut) -> Span
-    requires { Before (place from) (place to) }
-    ensures begin { Same (place from) (begins (interval result)) }
-    ensures end { Same (place to) (ends (interval result)) }
+fn verdict_of(run: &Run, to: &Cut) -> Verdict
+    requires { Before (place run.now.from) (place to.now) }
+    ensures begin { Same (place run.now.from) (begins (interval result.on)) }
+    ensures end { Same (place to.now) (ends (interval result.on)) }
+    ensures holds { result.holds ≡ run.now.holds }
 {
-    Span {
-        from: from.time,
-        from_in: from.side == 0,
+    let on = Span {
+        from: run.from.time,
+        from_in: run.from.side == 0,
         to: to.time,
         to_in: to.side != 0,
-    }
+    };
+    let holds = run.holds;
+    Verdict { on, holds }
 }
 
-/// Puts a run that ends at a place.
-fn put_run(edges: &mut Edges, node: u32, run: &Run, to: Cut) -> Result<(), Memory>
+/// Puts the first run of a block, which ends at a place.
+#[inline(never)]
+fn put_first(edges: &mut Edges, node: u32, run: &Run, to: &Cut) -> Result<(), Memory>
     requires edge { node < length edges.old.edges }
-    requires some { Before (place run.now.from) (place to) }
-    ensures { OnOk result (HasPutRun edges.old edges.new node run.now (place to)) }
+    requires some { Before (place run.now.from) (place to.now) }
+    ensures { OnOk result (HasPutRun edges.old edges.new node run.now (place to.now)) }
 {
-    let on = span_between(run.from, to);
-    let holds = run.holds;
-    edges.extend(node, Verdict { on, holds })?;
+    edges.extend(node, verdict_of(run, to))?;
     Ok(())
 }
 
-/// From a place on an atom has this truth: where it had the other one up to there, that run is put.
-#[inline(always)]
-fn turn(edges: &mut Edges, node: u32, run: Run, at: Cut, holds: bool) -> Result<Run, Memory>
+/// Puts a run that ends at a place. One that is not the first goes on from the one before it with the other truth, so it joins none.
+#[inline(never)]
+fn put_run(edges: &mut Edges, node: u32, run: &Run, to: &Cut) -> Result<(), Memory>
     requires edge { node < length edges.old.edges }
-    requires order { (c : Place) → Before (place at) c → Before (place run.from) c }
-    requires some { run.holds ≢ holds → Before (place run.from) (place at) }
-    ensures { (c : Place) → Same (place at) c → IfOk result (HasTurned edges.old edges.new node run c holds) }
+    requires some { Before (place run.now.from) (place to.now) }
+    ensures { OnOk result (HasPutRun edges.old edges.new node run.now (place to.now)) }
 {
-    let before = run.holds;
-    if before == holds {
-        return Ok(run);
+    if run.first {
+        return put_first(edges, node, run, to);
     }
-    put_run(edges, node, &run, at)?;
-    Ok(Run { from: at, holds })
+    edges.put(node, verdict_of(run, to))?;
+    Ok(())
+}
+
+/// The truth turns over at a place: the run before is put, and another one begins.
+#[inline(always)]
+fn turn_over(edges: &mut Edges, node: u32, run: &mut Run, at: Cut) -> Result<(), Memory>
+    requires edge { node < length edges.old.edges }
+    requires some { Before (place run.old.from) (place at) }
+    ensures { (c : Place) → Same (place at) c → OnOk result (HasTurned edges.old edges.new node run.old c (not run.old.holds) run.new) }
+{
+    put_run(edges, node, run, &at)?;
+    run.from = at;
+    run.holds = !run.holds;
+    run.first = false;
+    Ok(())
+}
+
+/// Just before a time in ticks, or just after it.
+#[inline(always)]
+fn tick_cut(time: u32, after: bool) -> Cut
+    ensures { Same (place result) (record { at = whole (pos time); after = after }) }
+{
+    Cut {
+        time: Frac::of(i64::from(time)),
+        side: u64::from(after),
+    }
+}
+
+/// From just before the row at `time`, or just after it, an atom has this truth: where it had the other one, it turns over there.
+#[inline(always)]
+fn turn_at_row(
+    edges: &mut Edges,
+    node: u32,
+    run: &mut Run,
+    time: u32,
+    after: bool,
+    holds: bool,
+) -> Result<(), Memory>
+    requires edge { node < length edges.old.edges }
+    requires order { (d : Place) → Before (record { at = whole (pos time); after = after }) d → Before (place run.old.from) d }
+    requires some { run.old.holds ≢ holds → Before (place run.old.from) (record { at = whole (pos time); after = after }) }
+    ensures { OnOk result (HasTurned edges.old edges.new node run.old (record { at = whole (pos time); after = after }) holds run.new) }
+{
+    if run.holds == holds {
+        return Ok(());
+    }
+    turn_over(edges, node, run, tick_cut(time, after))?;
+    Ok(())
 }
 
 /// Just before a crossing, or just after it.
+#[inline(always)]
 fn crossing_cut(at: &Crossing, after: bool) -> Cut
     ensures { Same (place result) (record { at = crossing_time at.now; after = after }) }
 {
@@ -86,48 +136,63 @@ fn crossing_cut(at: &Crossing, after: bool) -> Cut
     }
 }
 
+/// The truth with which a passage begins.
+#[inline(always)]
+fn truth_at_first(passage: &Passage) -> bool
+    ensures { result ≡ first_truth passage.now }
+{
+    match passage {
+        Passage::Steady(holds) => *holds,
+        Passage::Turns { before, .. } => *before,
+    }
+}
+
 /// Goes on from the row at `first` over the gap behind it.
-fn pass(edges: &mut Edges, node: u32, run: Run, first: u32, passage: &Passage) -> Result<Run, Memory>
+#[inline(always)]
+fn pass(
+    edges: &mut Edges,
+    node: u32,
+    run: &mut Run,
+    first: u32,
+    passage: &Passage,
+) -> Result<(), Memory>
     requires edge { node < length edges.old.edges }
     requires inside { (to : ℕ) × TurnsInside (whole (pos first)) (whole (pos to)) passage.now }
-    requires order { (c : Place) → Before (after_time first) c → Before (place run.from) c }
-    requires some { run.holds ≢ first_truth passage.now → Before (place run.from) (after_time first) }
-    ensures { IfOk result (HasPassed edges.old edges.new node run first passage.now) }
+    requires order { (c : Place) → Before (after_time first) c → Before (place run.old.from) c }
+    requires some { run.old.holds ≢ first_truth passage.now → Before (place run.old.from) (after_time first) }
+    ensures { OnOk result (HasPassed edges.old edges.new node run.old first passage.now run.new) }
 {
-    let start = after_tick(first);
+    turn_at_row(edges, node, run, first, true, truth_at_first(passage))?;
     match passage {
-        Passage::Steady(holds) => {
-            let passed = turn(edges, node, run, start, *holds)?;
-            Ok(passed)
-        }
-        Passage::Turns { before, at, after } => {
-            let begun = turn(edges, node, run, start, *before)?;
-            let passed = turn(edges, node, begun, crossing_cut(at, *after), !*before)?;
-            Ok(passed)
+        Passage::Steady(_) => Ok(()),
+        Passage::Turns { at, after, .. } => {
+            turn_over(edges, node, run, crossing_cut(at, *after))?;
+            Ok(())
         }
     }
 }
 
 /// Goes on from the row at `first` over the gap behind it, to the row at `second`.
+#[inline(always)]
 fn go_along(
     edges: &mut Edges,
     node: u32,
-    run: Run,
+    run: &mut Run,
     first: u32,
     second: u32,
     passage: &Passage,
     last: bool,
-) -> Result<Run, Memory>
+) -> Result<(), Memory>
     requires edge { node < length edges.old.edges }
     requires later { first < second }
     requires inside { TurnsInside (whole (pos first)) (whole (pos second)) passage.now }
-    requires order { (c : Place) → Before (after_time first) c → Before (place run.from) c }
-    requires some { run.holds ≢ first_truth passage.now → Before (place run.from) (after_time first) }
-    ensures { IfOk result (HasGone edges.old edges.new node run first second passage.now last) }
+    requires order { (c : Place) → Before (after_time first) c → Before (place run.old.from) c }
+    requires some { run.old.holds ≢ first_truth passage.now → Before (place run.old.from) (after_time first) }
+    ensures { OnOk result (HasGone edges.old edges.new node run.old first second passage.now last run.new) }
 {
-    let passed = pass(edges, node, run, first, passage)?;
-    let gone = turn(edges, node, passed, before_tick(second), last)?;
-    Ok(gone)
+    pass(edges, node, run, first, passage)?;
+    turn_at_row(edges, node, run, second, false, last)?;
+    Ok(())
 }
 
 /// The truth right behind the row at `begin`, where the atom is `holds`: that, where it stays so up to a later row, or that of the passage
@@ -139,13 +204,11 @@ fn truth_behind(passage: &Passage, begin: u32, first: u32, holds: bool) -> bool
     if begin < first {
         return holds;
     }
-    match passage {
-        Passage::Steady(after) => *after,
-        Passage::Turns { before, .. } => *before,
-    }
+    truth_at_first(passage)
 }
 
 /// Begins to go along a block at row `from`, with its first way.
+#[inline(never)]
 fn begin_along(
     edges: &mut Edges,
     bound: &Bound,
@@ -166,45 +229,54 @@ fn begin_along(
     let begin = block.time(from);
     let first = block.time(way.row - 1);
     let second = block.time(way.row);
-    let run = Run {
-        from: after_tick(begin),
+    let mut run = Run {
+        from: tick_cut(begin, true),
         holds: truth_behind(&way.passage, begin, first, holds),
+        first: true,
     };
-    let gone = go_along(edges, node, run, first, second, &way.passage, way.last)?;
+    go_along(edges, node, &mut run, first, second, &way.passage, way.last)?;
     Ok(Along {
         at: way.row,
         sum: way.sum,
-        run: gone,
+        run,
     })
 }
 
 /// Goes along a block by one way more.
+#[inline(always)]
 fn go_on(
     edges: &mut Edges,
     bound: &Bound,
     node: u32,
     block: &Trace,
     to: usize,
-    along: Along,
-) -> Result<Along, Memory>
+    along: &mut Along,
+) -> Result<(), Memory>
     requires edge { node < length edges.old.edges }
     requires atom { IsAtomNode bound.now node }
     requires columns { length block.now.header.columns ≡ bound.now.width }
     requires within { to < length block.now.rows }
-    requires before { along.at < to }
-    requires come { (from : ℕ) × (e : Held) × HasCome bound.now block.now from to node e edges.old along }
-    ensures { (from : ℕ) (e : Held) → HasCome bound.now block.now from to node e edges.old along
-        → IfOk result (HasCome bound.now block.now from to node e edges.new) }
+    requires before { along.old.at < to }
+    requires come { (from : ℕ) × (e : Held) × HasCome bound.now block.now from to node e edges.old along.old }
+    ensures on { OnOk result (along.old.at < along.new.at) }
+    ensures come { (from : ℕ) (e : Held) → HasCome bound.now block.now from to node e edges.old along.old
+        → OnOk result (HasCome bound.now block.now from to node e edges.new along.new) }
 {
     let way = way_from(bound, node, block, along.at, to, along.sum);
     let first = block.time(way.row - 1);
     let second = block.time(way.row);
-    let gone = go_along(edges, node, along.run, first, second, &way.passage, way.last)?;
-    Ok(Along {
-        at: way.row,
-        sum: way.sum,
-        run: gone,
-    })
+    go_along(
+        edges,
+        node,
+        &mut along.run,
+        first,
+        second,
+        &way.passage,
+        way.last,
+    )?;
+    along.at = way.row;
+    along.sum = way.sum;
+    Ok(())
 }
 
 /// Puts the verdicts of an atom behind row `from` of a block, up to row `to`, onto its edge.
@@ -225,9 +297,10 @@ fn put_stretch(
 {
     let mut along = begin_along(edges, bound, node, block, from, to)?;
     while along.at < to {
-        along = go_on(edges, bound, node, block, to, along)?;
+        go_on(edges, bound, node, block, to, &mut along)?;
     }
-    put_run(edges, node, &along.run, after_tick(block.time(to)))?;
+    let end = tick_cut(block.time(to), true);
+    put_run(edges, node, &along.run, &end)?;
     Ok(())
 }
 

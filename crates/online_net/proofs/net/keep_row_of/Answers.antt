@@ -1,4 +1,4 @@
-use Rattle.std.proofs.Common.{Some, [], ap, sym, subst, ◌∙◌, ◌≡◌, length}
+use Rattle.std.proofs.Common.{Some, [], ap, subst, ◌≡◌, length}
 use Rattle.std.specs.Prelude.{IfSome}
 use Rattle.stl_syntax.specs.Trace.{Row}
 use Rattle.online_net.proofs.net.keep_row_of.Goals as goal

@@ -1,4 +1,4 @@
-use Rattle.std.proofs.Common.{◌≡◌, ◌<◌, ◌-◌, inl, inr, [], pos, sym, subst, arith}
+use Rattle.std.proofs.Common.{◌-◌, inl, inr, [], true, pos, sym, subst, arith}
 use Rattle.std.proofs.lemmas.Bool.{cases_lt}
 use Rattle.rational.specs.Rational.{whole}
 use Rattle.rational.specs.Places.{Before, Same}
@@ -18,8 +18,8 @@ abbrev none : Row
 none = record { time = 0; values = [] }
 
 -- the run begins just after the row
-begins : (c : After-truth_behind) → Same (place c.after_tick.result) (after_time (row_of c.args.block.now c.args.from).time)
-begins c = subst (λ n. Same (place c.after_tick.result) (after_time n)) (c.time-begin.ensures none) c.after_tick.ensures
+begins : (c : After-truth_behind) → Same (place c.tick_cut.result) (after_time (row_of c.args.block.now c.args.from).time)
+begins c = subst (λ n. Same (place c.tick_cut.result) (after_time n)) (c.time-begin.ensures none) c.tick_cut.ensures
 
 pub go_along-requires-clause-later : goal.go_along-requires-clause-later
 go_along-requires-clause-later c =
@@ -38,7 +38,7 @@ go_along-requires-clause-inside c =
 pub go_along-requires-clause-order : goal.go_along-requires-clause-order
 go_along-requires-clause-order c = λ d h.
     first_order c.args.bound.now c.args.block.now c.args.from c.args.to c.args.node
-    (record { from = c.after_tick.result; holds = c.truth_behind.result }) c.way_from-way.result c.way_from-way.ensures.way
+    (record { from = c.tick_cut.result; holds = c.truth_behind.result; first = true }) c.way_from-way.result c.way_from-way.ensures.way
     (begins (goal.at.go_along-requires-clause-order c).After-truth_behind) d
     (subst (λ n. Before (after_time n) d) (c.time-first.ensures none) h)
 
@@ -46,7 +46,7 @@ pub go_along-requires-clause-some : goal.go_along-requires-clause-some
 go_along-requires-clause-some c = λ differ.
     elim (cases_lt c.time-begin.result c.time-first.result) [
       | inl l ↦
-          same_before (place c.after_tick.result) (after_time (row_of c.args.block.now c.args.from).time) (after_time c.time-first.result)
+          same_before (place c.tick_cut.result) (after_time (row_of c.args.block.now c.args.from).time) (after_time c.time-first.result)
           (begins (goal.at.go_along-requires-clause-some c).After-truth_behind)
           (later_order (row_of c.args.block.now c.args.from).time c.time-first.result (let e = c.time-begin.ensures none in omega (arith, l, e)))
       | inr h ↦ absurd (differ (c.truth_behind.ensures.turns h))
@@ -62,7 +62,7 @@ returns c =
     (begins (goal.at.returns c).After-truth_behind)
     (λ l. c.truth_behind.ensures.stays (let e = c.time-begin.ensures none in let f = c.time-first.ensures none in omega (arith, l, e, f)))
     (subst (IsReachAt b c.args.node block w.row) (sym (sum_read b c.args.node block w.row w.sum c.requires.atom way.sum)) way.sum)
-    (subst (λ n. HasGone c.args.edges.now c.go_along.new.edges c.args.node (record { from = c.after_tick.result; holds = c.truth_behind.result }) n
-    (row_of block w.row).time w.passage w.last c.in_ok-gone.gone) (c.time-first.ensures none)
-    (subst (λ n. HasGone c.args.edges.now c.go_along.new.edges c.args.node (record { from = c.after_tick.result; holds = c.truth_behind.result })
-    c.time-first.result n w.passage w.last c.in_ok-gone.gone) (c.time-second.ensures none) c.in_ok-gone.ensures))
+    (subst (λ n. HasGone c.args.edges.now c.go_along.new.edges c.args.node (record { from = c.tick_cut.result; holds = c.truth_behind.result; first = true }) n
+    (row_of block w.row).time w.passage w.last c.go_along.new.run) (c.time-first.ensures none)
+    (subst (λ n. HasGone c.args.edges.now c.go_along.new.edges c.args.node (record { from = c.tick_cut.result; holds = c.truth_behind.result; first = true })
+    c.time-first.result n w.passage w.last c.go_along.new.run) (c.time-second.ensures none) c.in_ok-go_along.ensures))

@@ -1,4 +1,4 @@
-use Rattle.std.proofs.Common.{◌≡◌, ◌<◌, ◌-◌, [], pos, sym, subst, arith}
+use Rattle.std.proofs.Common.{◌-◌, [], pos, sym, subst, arith}
 use Rattle.rational.specs.Rational.{whole}
 use Rattle.rational.specs.Places.{Before}
 use Rattle.rational.proofs.PlaceLemmas.{before_trans}
@@ -20,7 +20,7 @@ way_from-way-requires-clause-from c =
     let b = c.args.bound.now in
     let block = c.args.block.now in
     let h = c.requires.come.2.sum in
-    subst (IsReachAt b c.args.node block c.args.along.at) (sym (sum_read b c.args.node block c.args.along.at c.args.along.sum c.requires.atom h)) h
+    subst (IsReachAt b c.args.node block c.args.along.now.at) (sym (sum_read b c.args.node block c.args.along.now.at c.args.along.now.sum c.requires.atom h)) h
 
 pub go_along-requires-clause-later : goal.go_along-requires-clause-later
 go_along-requires-clause-later c =
@@ -39,25 +39,28 @@ go_along-requires-clause-inside c =
 pub go_along-requires-clause-order : goal.go_along-requires-clause-order
 go_along-requires-clause-order c = λ d h.
     let w = c.way_from-way.result in
-    before_trans (place c.args.along.run.from) (after_time (row_of c.args.block.now (w.row - 1)).time) d
-    (goes_some c.args.bound.now c.args.block.now c.requires.come.0 c.args.to c.args.node c.args.along w c.requires.come.2 c.way_from-way.ensures.way)
+    before_trans (place c.args.along.now.run.from) (after_time (row_of c.args.block.now (w.row - 1)).time) d
+    (goes_some c.args.bound.now c.args.block.now c.requires.come.0 c.args.to c.args.node c.args.along.now w c.requires.come.2 c.way_from-way.ensures.way)
     (subst (λ n. Before (after_time n) d) (c.time-first.ensures none) h)
 
 pub go_along-requires-clause-some : goal.go_along-requires-clause-some
 go_along-requires-clause-some c = λ differ.
-    subst (λ n. Before (place c.args.along.run.from) (after_time n)) (sym (c.time-first.ensures none))
-    (goes_some c.args.bound.now c.args.block.now c.requires.come.0 c.args.to c.args.node c.args.along c.way_from-way.result c.requires.come.2
+    subst (λ n. Before (place c.args.along.now.run.from) (after_time n)) (sym (c.time-first.ensures none))
+    (goes_some c.args.bound.now c.args.block.now c.requires.come.0 c.args.to c.args.node c.args.along.now c.way_from-way.result c.requires.come.2
     c.way_from-way.ensures.way)
 
-pub returns : goal.returns
-returns c = λ from e come.
+pub returns-clause-on : goal.returns-clause-on
+returns-clause-on c = c.way_from-way.ensures.way.later
+
+pub returns-clause-come : goal.returns-clause-come
+returns-clause-come c = λ from e come.
     let b = c.args.bound.now in
     let block = c.args.block.now in
     let w = c.way_from-way.result in
     let way = c.way_from-way.ensures.way in
-    come_on b block from c.args.to c.args.node c.args.along c.in_ok-gone.gone w _ come way c.way_from-way.ensures.last
+    come_on b block from c.args.to c.args.node c.args.along.now c.go_along.new.run w _ come way c.way_from-way.ensures.last
     (subst (IsReachAt b c.args.node block w.row) (sym (sum_read b c.args.node block w.row w.sum c.requires.atom way.sum)) way.sum)
-    (subst (λ n. HasGone c.args.edges.now c.go_along.new.edges c.args.node c.args.along.run n (row_of block w.row).time w.passage w.last c.in_ok-gone.gone)
+    (subst (λ n. HasGone c.args.edges.now c.go_along.new.edges c.args.node c.args.along.now.run n (row_of block w.row).time w.passage w.last c.go_along.new.run)
     (c.time-first.ensures none)
-    (subst (λ n. HasGone c.args.edges.now c.go_along.new.edges c.args.node c.args.along.run c.time-first.result n w.passage w.last c.in_ok-gone.gone)
-    (c.time-second.ensures none) c.in_ok-gone.ensures))
+    (subst (λ n. HasGone c.args.edges.now c.go_along.new.edges c.args.node c.args.along.now.run c.time-first.result n w.passage w.last c.go_along.new.run)
+    (c.time-second.ensures none) c.in_ok-go_along.ensures))

@@ -1,4 +1,4 @@
-use Rattle.std.proofs.Common.{◌≡◌, ◌+◌, ◌<◌, [], length, not, refl, sym, ap, subst, pos, ◌∙◌, arith}
+use Rattle.std.proofs.Common.{◌≡◌, ◌+◌, [], length, not, refl, sym, ap, subst, pos, ◌∙◌, arith}
 use Rattle.stl_syntax.specs.Trace.{Row}
 use Rattle.online_nodes.specs.Held.{Held, edge_at, with_edge, with_number}
 use Rattle.online_net.specs.Stretches.{HaveRows}
@@ -43,7 +43,8 @@ loop-i-preserved c =
           (omega (arith, c.requires.edges, c.loop-i.invariant.count, c.loop-i-test.true)) c.loop-i.invariant w.in_ok-put_verdicts.ensures
           (record {
             edges = ap (λ (e : Held). e.edges) w.note.ensures
-                ∙ ap (λ n. with_edge w.put_verdicts.new.edges c.loop-i.i (with_number (edge_at w.put_verdicts.new.edges c.loop-i.i) (pos n))) (w.time.ensures none);
+                ∙ ap (λ n. with_edge w.put_verdicts.new.edges c.loop-i.i (with_number (edge_at w.put_verdicts.new.edges c.loop-i.i) (pos n)))
+                (w.time.ensures none);
             start = ap (λ (e : Held). e.start) w.note.ensures;
           }))
       | else-is_none w ↦ subst (λ e. HaveRows c.args.bound.now c.args.block.now c.args.from c.args.to c.args.operators.now (c.loop-i.i + 1)

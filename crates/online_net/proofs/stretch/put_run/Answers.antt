@@ -1,12 +1,12 @@
-use Rattle.std.proofs.Common.{refl}
 use Rattle.rational.proofs.PlaceLemmas.{same_places}
+use Rattle.online_net.proofs.Running.{put_given}
 use Rattle.online_net.proofs.stretch.put_run.Goals as goal
 
 pub returns : goal.returns
 returns c = record {
-  verdict = record { on = c.span_between-on.result; holds = c.args.run.now.holds };
-  got = record { here = c.in_ok-extend.ensures.put; others = c.in_ok-extend.ensures.others; start = c.in_ok-extend.ensures.start };
-  begin = c.span_between-on.ensures.begin;
-  end = same_places c.span_between-on.ensures.end;
-  is = refl;
+  verdict = c.verdict_of.result;
+  got = put_given c.args.edges.now c.put.new.self c.args.node c.verdict_of.result c.requires.edge c.in_ok-put.ensures.put c.in_ok-put.ensures.start;
+  begin = c.verdict_of.ensures.begin;
+  end = same_places c.verdict_of.ensures.end;
+  is = c.verdict_of.ensures.holds;
 }

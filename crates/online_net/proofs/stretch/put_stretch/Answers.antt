@@ -4,10 +4,10 @@ use Rattle.rational.proofs.PlaceLemmas.{before_same, same_places}
 use Rattle.frac128.specs.Cuts.{place}
 use Rattle.stl_syntax.specs.Trace.{Row}
 use Rattle.atom_lines.specs.Rows.{row_of}
-use Rattle.online_net.specs.Stretches.{after_time, HasPutRun}
+use Rattle.online_net.specs.Stretches.{after_time}
 use Rattle.online_net.proofs.Running.{more_count, put_run_to, stretch_put}
 use Rattle.online_net.proofs.stretch.put_stretch.Goals as goal
-use Rattle.online_net.proofs.stretch.put_stretch.Goals.{After-after_tick}
+use Rattle.online_net.proofs.stretch.put_stretch.Goals.{After-tick_cut-end}
 
 abbrev none : Row
 none = record { time = 0; values = [] }
@@ -22,27 +22,30 @@ pub go_on-requires-clause-come : goal.go_on-requires-clause-come
 go_on-requires-clause-come c = (c.args.from, c.args.edges.now, c.loop-along.invariant)
 
 pub loop-along-preserved : goal.loop-along-preserved
-loop-along-preserved c = c.in_ok-along-in-loop-along.ensures c.args.from c.args.edges.now c.loop-along.invariant
+loop-along-preserved c = c.in_ok-go_on.ensures.come c.args.from c.args.edges.now c.loop-along.invariant
+
+pub loop-along-smaller : goal.loop-along-smaller
+loop-along-smaller c = let on = c.in_ok-go_on.ensures.on in omega (arith, on, c.loop-along-test.true)
 
 -- the loop ends at the last row
-here : (c : After-after_tick) → c.loop-along.along.at ≡ c.args.to
+here : (c : After-tick_cut-end) → c.loop-along.along.at ≡ c.args.to
 here c = let h = c.loop-along.invariant.within in omega (arith, h, c.loop-along-test.false)
 
-until : (c : After-after_tick) → Same (place c.after_tick.result) (after_time (row_of c.args.block.now c.args.to).time)
-until c = subst (λ n. Same (place c.after_tick.result) (after_time n)) (c.time.ensures none) c.after_tick.ensures
+until : (c : After-tick_cut-end) → Same (place c.tick_cut-end.result) (after_time (row_of c.args.block.now c.args.to).time)
+until c = subst (λ n. Same (place c.tick_cut-end.result) (after_time n)) (c.time.ensures none) c.tick_cut-end.ensures
 
 pub put_run-requires-clause-edge : goal.put_run-requires-clause-edge
 put_run-requires-clause-edge c = subst (λ n. c.args.node < n) (sym (more_count c.loop-along.invariant.got)) c.requires.edge
 
 pub put_run-requires-clause-some : goal.put_run-requires-clause-some
 put_run-requires-clause-some c =
-    let d = (goal.at.put_run-requires-clause-some c).After-after_tick in
-    before_same (place c.loop-along.along.run.from) (after_time (row_of c.args.block.now c.args.to).time) (place c.after_tick.result)
+    let d = (goal.at.put_run-requires-clause-some c).After-tick_cut-end in
+    before_same (place c.loop-along.along.run.from) (after_time (row_of c.args.block.now c.args.to).time) (place c.tick_cut-end.result)
     (subst (λ k. Before (place c.loop-along.along.run.from) (after_time (row_of c.args.block.now k).time)) (here d) c.loop-along.invariant.some)
     (same_places (until d))
 
 pub returns : goal.returns
 returns c =
-    let d = (goal.at.returns c).After-after_tick in
+    let d = (goal.at.returns c).After-tick_cut-end in
     stretch_put c.args.bound.now c.args.block.now c.args.from c.args.to c.args.node c.loop-along.along c.loop-along.invariant (here d)
     (put_run_to (until d) c.in_ok-put_run.ensures)

@@ -1,6 +1,6 @@
-use Rattle.std.proofs.Common.{◌≡◌, ◌≢◌, ◌<◌, Option, Some, None, List, [], ◌∷◌, ◌++◌, length, sym, ap, subst, ◌∙◌}
+use Rattle.std.proofs.Common.{◌≡◌, Option, Some, None, List, ◌++◌, length, sym, ap, subst, ◌∙◌}
 use Rattle.std.specs.Prelude.{slice_get, IfSome}
-use Rattle.stl_syntax.specs.Trace.{Header, Row, IsTrace}
+use Rattle.stl_syntax.specs.Trace.{Header, Row}
 use Rattle.stl_syntax.specs.declared.node.Node.{Node}
 use Rattle.atom_lines.specs.Rows.{row_of}
 use Rattle.online_nodes.specs.Driven.{rows_of}
@@ -54,11 +54,14 @@ fed c nodes header events st =
     (subst (λ l. HaveRows net.bound block c.args.from c.args.to l (length l) net.edges c.put_rows.new.edges) c.deref.ensures.value c.in-Ok.ensures)
     c.if-self-2.false (ap (λ (p : Parts). p.last) c.self.view_is ∙ c.requires.last))
 
-pub invariant_of-self-in-Ok : goal.invariant_of-self-in-Ok
-invariant_of-self-in-Ok c running =
-    let w = c.self.invariant c.if-self.false in
-    (w.0, w.1, w.2 ++ rows_of (rows_between c.args.block.now c.args.from c.args.to),
-    fed (goal.at.invariant_of-self-in-Ok c).After-keep_row_of w.0 w.1 w.2 w.3)
+pub invariant_of-self-2 : goal.invariant_of-self-2
+invariant_of-self-2 c running =
+    let w = c.self.invariant c.if-self.false in (
+      w.0,
+      w.1,
+      w.2 ++ rows_of (rows_between c.args.block.now c.args.from c.args.to),
+      fed (goal.at.invariant_of-self-2 c).After-keep_row_of w.0 w.1 w.2 w.3,
+    )
 
 pub returns-clause-stands : goal.returns-clause-stands
 returns-clause-stands c nodes header events st =

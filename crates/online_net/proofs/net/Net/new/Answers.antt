@@ -1,40 +1,14 @@
-use Rattle.std.proofs.Common.{false, None, [], refl, ap, subst}
-use Rattle.stl_syntax.specs.Trace.{Header}
-use Rattle.atom_lines.specs.Binding.{IsBound}
-use Rattle.online_nodes.specs.Held.{Edge}
-use Rattle.online_net.specs.Nets.{Stands}
+use Rattle.std.proofs.Common.{ap, subst, ◌∙◌}
+use Rattle.online_nodes.specs.Held.{Edge, edge_at}
 use Rattle.online_net.specs.Steps.{AreNewEdges}
-use Rattle.online_net.proofs.Fresh.{empty_edge, new_stands, plain_edges}
+use Rattle.online_net.proofs.Fresh.{empty_edge, plain_edges}
 use Rattle.online_net.proofs.net.Net.new.Goals as goal
-use Rattle.online_net.proofs.net.Net.new.Goals.{In_ok-edges}
 
--- the new network stands for the empty run
-fresh : (c : In_ok-edges) (header : Header) → IsBound c.args.bound c.args.formula.now header
-    → Stands c.args.formula.now.nodes header (record {
-      edges = c.in_ok-edges.edges;
-      operators = c.in_ok-operators.operators.items;
-      bound = c.args.bound;
-      last = None;
-      closed = false;
-      stopped = false;
-    }) []
-fresh c header bound = new_stands c.args.formula.now.nodes header c.len.ensures.well_formed.nodes c.len.ensures.well_formed.root c.args.formula.now.scale
-    (record {
-      edges = c.in_ok-edges.edges;
-      operators = c.in_ok-operators.operators.items;
-      bound = c.args.bound;
-      last = None;
-      closed = false;
-      stopped = false;
-    })
-    bound (subst (λ n. AreNewEdges n c.in_ok-edges.edges) c.len.ensures.count
-    (plain_edges c.len.result c.in_ok-edges.edges c.in_ok-edges.ensures.edges c.in_ok-edges.ensures.start)) c.in_ok-operators.ensures refl refl refl
-
-pub invariant_of-result : goal.invariant_of-result
-invariant_of-result c running = (c.args.formula.now.nodes, c.requires.0, [], fresh c c.requires.0 c.requires.1)
-
-pub returns-clause-stands : goal.returns-clause-stands
-returns-clause-stands c header bound = fresh c header bound
+pub over-requires-clause-edges : goal.over-requires-clause-edges
+over-requires-clause-edges c = subst (λ n. AreNewEdges n c.in_ok-edges.edges) c.len.ensures.count
+    (plain_edges c.len.result c.in_ok-edges.edges c.in_ok-edges.ensures.edges c.in_ok-edges.ensures.start)
 
 pub returns-clause-joins : goal.returns-clause-joins
-returns-clause-joins c = λ i. ap (λ (x : Edge). x.joins) (empty_edge c.len.result c.in_ok-edges.edges c.in_ok-edges.ensures.edges i)
+returns-clause-joins c = λ i.
+    ap (λ e. (edge_at e i).joins) c.in_ok-net.ensures.edges
+    ∙ ap (λ (x : Edge). x.joins) (empty_edge c.len.result c.in_ok-edges.edges c.in_ok-edges.ensures.edges i)
