@@ -6,7 +6,7 @@ use Rattle.std.proofs.lemmas.Int.{ints}
 use Rattle.std.specs.Bool.{beq}
 use Rattle.std.proofs.lemmas.Option.{same_Some}
 use Rattle.std.proofs.lemmas.List.{append-nil, get_or-set_same, length-set, set-get_or, set-set}
-use Rattle.rational.specs.Rational.{Rational, ◌<ʳ◌, ◌≤ʳ◌, ◌≈◌, whole}
+use Rattle.rational.specs.Rational.{Rational, ◌<ʳ◌, ◌≤ʳ◌, whole}
 use Rattle.rational.specs.Places.{Place, begins, ends, AtMost, Before, Same}
 use Rattle.rational.proofs.Order.{same_refl, same_of_le, le_of_lt, le_trans, not_lt_of_le}
 use Rattle.rational.proofs.Shift.{lt_whole, le_whole}
@@ -228,12 +228,13 @@ module _ (b : Binding) (block : Trace) (from to i : ℕ) where
   time_at k = (row_of block k).time
 
   -- the first way
-  pub come_first : {old new : Held} {run after : Run} (w : Way) (holds : Bool) (sum : ℤ) → IsWay b i block from w → w.row ≤ to
-      → ((a : Atom) (tr : Trace) (t : Rational) → IsFor b i a tr → HasBlock tr block → t ≈ row_time (row_of block from) → holds_at a tr t ≡ holds)
-      → Same (place run.from) (after_time (time_at from)) → (time_at from < time_at (w.row - 1) → run.holds ≡ holds) → IsReachAt b i block w.row sum
+  pub come_first : {old new : Held} {run after : Run} (w : Way) (sum : ℤ) → IsWay b i block from w → w.row ≤ to
+      → (time_at from < time_at (w.row - 1) → (a : Atom) (tr : Trace) → IsFor b i a tr → HasBlock tr block
+      → holds_at a tr (row_time (row_of block from)) ≡ run.holds)
+      → Same (place run.from) (after_time (time_at from)) → IsReachAt b i block w.row sum
       → HasGone old new i run (time_at (w.row - 1)) (time_at w.row) w.passage w.last after
       → HasCome b block from to i old new (record { at = w.row; sum = sum; run = after })
-  come_first {old} {new} {run} {after} w holds sum way within stands begins_so stays reaches g = record {
+  come_first {old} {new} {run} {after} w sum way within stands begins_so reaches g = record {
     more = g.more;
     got = g.got;
     later = way.later;
@@ -261,8 +262,7 @@ module _ (b : Binding) (block : Trace) (from to i : ℕ) where
               → holds_at a tr t ≡ run.holds
           by_order (inl e) = absurd (not_lt_of_le (subst (λ m. t ≤ʳ whole (pos m)) (sym e) high) low)
           by_order (inr (inl l)) =
-              (way.tells a tr for has).stays t (le_of_lt low) high
-              ∙ stands a tr (row_time (row_of block from)) for has (same_refl (row_time (row_of block from))) ∙ sym (stays l)
+              (way.tells a tr for has).stays t (le_of_lt low) high ∙ stands l a tr for has
           by_order (inr (inr l)) = absurd (let o = way.order in omega (arith, l, o))
 
   -- one way more

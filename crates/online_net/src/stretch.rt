@@ -1,12 +1,13 @@
 //! What the rows of a block put onto the edges of the atoms, a stretch of one truth at a time.
 
-ghost use Rattle.std.specs.Prelude.{◌≡◌, ◌≢◌, ◌<◌, ◌≤◌, ℕ, length, slice_get, not, IfOk, OnOk, Some, None, pos};
+ghost use Rattle.std.specs.Prelude.{◌≡◌, ◌≢◌, ◌+◌, ◌<◌, ◌≤◌, ℕ, length, slice_get, not, IfOk, OnOk, Some, None, pos};
 ghost use Rattle.rational.specs.Rational.{whole};
 ghost use Rattle.rational.specs.Places.{Place, Before, Same, begins, ends};
 ghost use Rattle.frac128.specs.Cuts.{place};
 ghost use Rattle.frac128.specs.Spans.{interval};
 ghost use Rattle.online_nodes.specs.Held.{Held, edge_at};
 ghost use Rattle.atom_lines.specs.Binding.{IsAtomNode};
+ghost use Rattle.atom_lines.specs.Growing.{IsReachAt};
 ghost use Rattle.atom_lines.specs.Passages.{TurnsInside, crossing_time};
 ghost use Rattle.online_net.specs.Stretches.{after_time, first_truth, HasPutRun, HasTurned, HasPassed, HasGone, HasCome};
 ghost use Rattle.online_net.specs.Stretches.{HasPutStretch, HasPutRows, HaveRows};
@@ -304,7 +305,42 @@ fn put_stretch(
     Ok(())
 }
 
-/// Puts the verdicts of an atom over the rows of a block as `put_stretch` does, with the row before each of them as the last one.
+/// Puts the verdicts of an atom behind row `r` of a block, where its sum is `sum`, up to the row `next` right after it, and answers its sum
+/// there.
+#[inline(always)]
+fn put_behind(
+    edges: &mut Edges,
+    bound: &Bound,
+    node: u32,
+    block: &Trace,
+    r: usize,
+    next: usize,
+    sum: i64,
+) -> Result<i64, Memory>
+    requires edge { node < length edges.old.edges }
+    requires atom { IsAtomNode bound.now node }
+    requires columns { length block.now.header.columns ≡ bound.now.width }
+    requires next { next ≡ r + 1 }
+    requires within { next < length block.now.rows }
+    requires from { IsReachAt bound.now node block.now r sum }
+    ensures put { OnOk result (HasPutStretch bound.now block.now r next node edges.old edges.new) }
+    ensures sum { IfOk result (IsReachAt bound.now node block.now next) }
+{
+    let way = way_from(bound, node, block, r, next, sum);
+    let first = block.time(way.row - 1);
+    let second = block.time(way.row);
+    let mut run = Run {
+        from: tick_cut(first, true),
+        holds: truth_at_first(&way.passage),
+        first: false,
+    };
+    go_along(edges, node, &mut run, first, second, &way.passage, way.last)?;
+    let end = tick_cut(second, true);
+    put_run(edges, node, &run, &end)?;
+    Ok(way.sum)
+}
+
+/// Puts the verdicts of an atom over the rows of a block, those of each row by itself.
 #[inline(never)]
 fn put_each(
     edges: &mut Edges,
@@ -321,8 +357,10 @@ fn put_each(
     requires within { to < length block.now.rows }
     ensures { OnOk result (HasPutRows bound.now block.now from to node edges.old edges.new) }
 {
+    let (start, _) = standing(bound, node, block, from);
+    let mut sum = start;
     for r in from..to {
-        put_stretch(edges, bound, node, block, r, r + 1)?;
+        sum = put_behind(edges, bound, node, block, r, r + 1, sum)?;
     }
     Ok(())
 }

@@ -19,8 +19,8 @@ made c = record {
 
 -- it stands for the empty run
 fresh : (c : In_ok-operators) (header : Header) → IsBound c.args.bound c.args.formula.now header → Stands c.args.formula.now.nodes header (made c) []
-fresh c header bound = new_stands c.args.formula.now.nodes header c.requires.formed.nodes c.requires.formed.root c.args.formula.now.scale (made c) bound c.requires.edges
-    c.in_ok-operators.ensures refl refl refl
+fresh c header bound = new_stands c.args.formula.now.nodes header c.requires.formed.nodes c.requires.formed.root c.args.formula.now.scale (made c)
+    bound c.requires.edges c.in_ok-operators.ensures refl refl refl
 
 pub invariant_of-result : goal.invariant_of-result
 invariant_of-result c running = (c.args.formula.now.nodes, c.requires.bound.0, [], fresh c c.requires.bound.0 c.requires.bound.1)

@@ -1,10 +1,11 @@
-use Rattle.std.proofs.Common.{◌-◌, inl, inr, [], true, pos, sym, subst, arith}
+use Rattle.std.proofs.Common.{◌∙◌, ◌-◌, inl, inr, [], true, pos, sym, subst, arith}
 use Rattle.std.proofs.lemmas.Bool.{cases_lt}
 use Rattle.rational.specs.Rational.{whole}
 use Rattle.rational.specs.Places.{Before, Same}
 use Rattle.rational.proofs.PlaceLemmas.{same_before}
 use Rattle.frac128.specs.Cuts.{place}
-use Rattle.stl_syntax.specs.Trace.{Row}
+use Rattle.rational.proofs.Order.{same_refl}
+use Rattle.stl_syntax.specs.Trace.{Row, row_time}
 use Rattle.atom_lines.specs.Growing.{IsReachAt}
 use Rattle.atom_lines.specs.Passages.{TurnsInside}
 use Rattle.atom_lines.specs.Rows.{row_of}
@@ -58,9 +59,11 @@ returns c =
     let block = c.args.block.now in
     let w = c.way_from-way.result in
     let way = c.way_from-way.ensures.way in
-    come_first b block c.args.from c.args.to c.args.node w c.standing-sum.result.1 _ way c.way_from-way.ensures.last c.standing-sum.ensures.holds
+    come_first b block c.args.from c.args.to c.args.node w _ way c.way_from-way.ensures.last
+    (λ l a tr for has.
+    c.standing-sum.ensures.holds a tr (row_time (row_of block c.args.from)) for has (same_refl (row_time (row_of block c.args.from)))
+    ∙ sym (c.truth_behind.ensures.stays (let e = c.time-begin.ensures none in let f = c.time-first.ensures none in omega (arith, l, e, f))))
     (begins (goal.at.returns c).After-truth_behind)
-    (λ l. c.truth_behind.ensures.stays (let e = c.time-begin.ensures none in let f = c.time-first.ensures none in omega (arith, l, e, f)))
     (subst (IsReachAt b c.args.node block w.row) (sym (sum_read b c.args.node block w.row w.sum c.requires.atom way.sum)) way.sum)
     (subst (λ n. HasGone c.args.edges.now c.go_along.new.edges c.args.node (record { from = c.tick_cut.result; holds = c.truth_behind.result; first = true }) n
     (row_of block w.row).time w.passage w.last c.go_along.new.run) (c.time-first.ensures none)
