@@ -25,12 +25,12 @@ use Rattle.online_nodes.proofs.RowsLaw.{goes_on_itself}
 use Rattle.online_nodes.proofs.FrontsLaw.{fronts_are_times}
 use Rattle.online_nodes.proofs.EmittedLaw.{emitted_tiles}
 use Rattle.online_nodes.proofs.Stretches.{stand_stretches, stretches_whole}
-use Rattle.verdict_stream.proofs.Passes.{state_after, emitted_alike, taken_once}
+use Rattle.verdict_stream.proofs.Passes.{state_after, run_split, emitted_alike, taken_once}
 use Rattle.verdict_stream.proofs.Watched.{no_row, show, shown_by, IsAfter, rows_at, driven_at, driven_emptied, none_driven}
 use Rattle.row_runs.specs.RowByRow.{AreMerged, IsRowByRow, nothing, by_row, by_end, IsEdgeMerged, RunsStandForRows, WatchesStandForRows}
 use Rattle.row_runs.proofs.Merging.{merged_stretches, needed_of}
 use Rattle.row_runs.proofs.Once.{quiet_steps, once_steps, once_rows, once_pass}
-use Rattle.row_runs.proofs.Stepping.{run_split, GivesMerged, merged_on}
+use Rattle.row_runs.proofs.Stepping.{GivesMerged, merged_on}
 use Rattle.row_runs.proofs.Building.{row_width, driven_by_rows, is_trace, is_given, HasPassed, pass_follows}
 
 module _ (nodes : List Node) (header : Header) (order : IsPostOrder nodes) (one : HasOneRoot nodes) where
@@ -395,8 +395,8 @@ watches_stand_for_rows v c ended w =
     record {
       stands = stands;
       numbers = λ i l. w.stands.shows.fronts i l ∙ sym (stands.numbers i l);
-      edges = λ i l. stands.edges i (omega (arith, l)) (edge_at v.network.net.edges i).joins (held_at v.network.net.edges i)
+      edges = λ i l. stands.edges i (omega (arith, l)) (edge_at v.watcher.network.net.edges i).joins (held_at v.watcher.network.net.edges i)
           (w.stands.shows.edges i l);
-      root = root_edge nodes header w.events stands.each (held_at v.network.net.edges (length nodes - 1)) w.stands.shows.root
+      root = root_edge nodes header w.events stands.each (held_at v.watcher.network.net.edges (length nodes - 1)) w.stands.shows.root
           (driven_emptied nodes header w.driven) (driven_emptied nodes header (driven_by_rows nodes header stands.by_rows));
     }

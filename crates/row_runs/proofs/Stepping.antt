@@ -15,7 +15,7 @@ use Rattle.online_nodes.proofs.RowsLaw.{rows_of, trace_so_far, goes_on_itself}
 use Rattle.online_nodes.proofs.StayLaw.{shown_is, rows_grow, emitted_stays}
 use Rattle.online_nodes.proofs.EmittedLaw.{emitted_tiles, tiles_append}
 use Rattle.online_nodes.proofs.Writing.{same_itself}
-use Rattle.verdict_stream.proofs.Passes.{state_after, Parted, parted}
+use Rattle.verdict_stream.proofs.Passes.{state_after, run_split, Parted, parted}
 use Rattle.agreeing.proofs.JoinLaw.{joined}
 use Rattle.row_runs.specs.RowByRow.{AreMerged}
 use Rattle.row_runs.proofs.Merging.{merged_of_joined, merged_append}
@@ -36,12 +36,6 @@ module _ (nodes : List Node) (header : Header) where
       → IsRunFrom nodes header s (a ++ b)
   run_append s [] b h k = k
   run_append s (e ∷ a) b h k = (h.0, run_append (after_event nodes s e) a b h.1 k)
-
-  -- and the other way round
-  pub run_split : (s : State) (a b : List Event) → IsRunFrom nodes header s (a ++ b)
-      → IsRunFrom nodes header s a × IsRunFrom nodes header (state_from nodes s a) b
-  run_split s [] b h = (tt, h)
-  run_split s (e ∷ a) b h = let x = run_split (after_event nodes s e) a b h.1 in ((h.0, x.0), x.1)
 
   -- what node i gives out in the one run is what it gives out in the other, of which neighbours of one truth are merged
   abbrev pub GivesMerged : ℕ → List Event → List Event → Type 0

@@ -80,11 +80,11 @@ RunsStandForRows =
 -- that run's does, of which neighbours of one truth may be merged; and the root's, of which all was taken, is that run's
 pub record HoldsRowByRow (v : Verdicts) (c : Case) (ended : Bool) (events : List Event) : Type 0 where
   pub stands : StandsForRows c.formula.nodes c.trace.header c.trace.rows ended events
-  pub numbers : (i : ℕ) → i < length c.formula.nodes → number_at v.network.net.edges i ≡ (state c.formula.nodes stands.each).fronts i
+  pub numbers : (i : ℕ) → i < length c.formula.nodes → number_at v.watcher.network.net.edges i ≡ (state c.formula.nodes stands.each).fronts i
   pub edges : (i : ℕ) → suc i < length c.formula.nodes
-      → IsEdgeMerged c.formula.nodes c.trace.header stands.each i (held_at v.network.net.edges i)
-  pub root : IsRootEdge c.formula.nodes c.trace.header stands.each (held_at v.network.net.edges (length c.formula.nodes - 1))
+      → IsEdgeMerged c.formula.nodes c.trace.header stands.each i (held_at v.watcher.network.net.edges i)
+  pub root : IsRootEdge c.formula.nodes c.trace.header stands.each (held_at v.watcher.network.net.edges (length c.formula.nodes - 1))
 
 -- a watch whose network has stepped stands for the run row by row
 abbrev pub WatchesStandForRows : Type 0
-WatchesStandForRows = (v : Verdicts) (c : Case) (ended : Bool) → (w : IsWatched ended v c) → HoldsRowByRow v c ended w.events
+WatchesStandForRows = (v : Verdicts) (c : Case) (ended : Bool) → (w : IsWatched ended v.watcher c) → HoldsRowByRow v c ended w.events

@@ -1,5 +1,5 @@
 -- What the rows of a piece answer, cut row by row out of what the root gave out for all of them: it is the text of the rows in turn.
-use Rattle.std.proofs.Common.{◌≡◌, ◌⊎◌, inl, inr, ℕ, ◌+◌, ◌-◌, ◌<◌, ◌≤◌, Bool, true, false, List}
+use Rattle.std.proofs.Common.{◌≡◌, ◌⊎◌, inl, inr, ℕ, ◌-◌, ◌<◌, ◌≤◌, Bool, true, false, List}
 use Rattle.std.proofs.Common.{[], ◌∷◌, ◌++◌, length, map, refl, sym, ap, ◌∙◌, subst, arith}
 use Rattle.std.proofs.Common.{append-nil, append_assoc, Some, None, ℤ, pos, ◌+ℤ◌, ◌-ℤ◌, ◌<ℤ◌, ◌≤ℤ◌}
 use Rattle.std.specs.Prelude.{cond, int_lt, MatchBool}
@@ -19,7 +19,7 @@ use Rattle.stl_syntax.specs.Stream.{answered_by, IsStretchText, IsNewText, IsRow
 use Rattle.stl_syntax.specs.declared.items.Verdict.{Verdict}
 use Rattle.stl_syntax.proofs.LawProofs.{answers_stay}
 use Rattle.stl_syntax.proofs.RowsLemmas.{last_from}
-use Rattle.rational.specs.Places.{Place, begins, After, Before, Same}
+use Rattle.rational.specs.Places.{Place, After, Before, Same}
 use Rattle.rational.proofs.Tests.{int_order, int_below, int_not_below}
 use Rattle.online_nodes.specs.Network.{Front}
 use Rattle.online_nodes.specs.Laws.{answered_to}

@@ -2,7 +2,9 @@ pub mod Passes
 pub mod Cutting
 pub mod Taking
 pub mod Watched
+pub mod RowsTogether
 pub mod WatchedRows
 pub mod CutRows
 pub mod Owing
 pub mod Opening
+pub mod Blocks

@@ -1,10 +1,9 @@
 -- Rows whose text is owed: the network takes them without a step. Then a step of every node gives out what all of them answer, and cut row
 -- by row that is their text.
-use Rattle.std.proofs.Common.{◌≡◌, ℕ, ◌+◌, ◌-◌, ◌<◌, Bool, true, false, List, [], ◌∷◌, ◌++◌, length, map, take, drop, refl}
+use Rattle.std.proofs.Common.{◌≡◌, ℕ, ◌+◌, ◌-◌, ◌<◌, ◌≤◌, Bool, true, false, List, [], ◌∷◌, ◌++◌, length, map, take, drop, refl}
 use Rattle.std.proofs.Common.{sym, ap, ◌∙◌, subst, arith, append-nil, append_assoc, length-append, Some, None, pos}
-use Rattle.std.specs.Prelude.{◌≢◌, cond, MatchBool}
-use Rattle.std.proofs.lemmas.List.{length-map}
-use Rattle.std.proofs.lemmas.List.Elements.{All-nil, All-cons}
+use Rattle.std.specs.Prelude.{cond, MatchBool}
+use Rattle.std.proofs.lemmas.List.{length-map, map-append}
 use Rattle.std.proofs.Math.Seq.{drop-append_seam, take-length, take-append_seam}
 use Rattle.rational.specs.Rational.{whole}
 use Rattle.rational.specs.Time.{closed, left_open}
@@ -17,7 +16,7 @@ use Rattle.stl_syntax.specs.declared.node.Node.{Node}
 use Rattle.stl_syntax.specs.declared.scale.Scale.{Scale}
 use Rattle.stl_syntax.proofs.WellFormedLemmas.{root_some}
 use Rattle.stl_syntax.proofs.VerdictsLaw.{alike_length, alike_sym}
-use Rattle.online_nodes.specs.Network.{Event, row, take as taken, node_is_atom, initial, after_event}
+use Rattle.online_nodes.specs.Network.{Event, row, node_is_atom, initial, after_event}
 use Rattle.online_nodes.specs.Network.{state_from, state, State, Front, shown, same_front, answered, Emitted}
 use Rattle.online_nodes.specs.Driven.{rows_of, steps_of, takes, pass_of, most_rows, IsEmptied, IsDriven, by_rows}
 use Rattle.online_nodes.specs.Needed.{IsTaken}
@@ -28,18 +27,19 @@ use Rattle.online_nodes.proofs.RowsLaw.{rows_of as rows_came, AreRowsSoFar}
 use Rattle.online_nodes.proofs.Writing.{same_itself}
 use Rattle.online_net.specs.Nets.{Parts, Stands}
 use Rattle.trace_stream.specs.Streams.{verdicts, StreamText}
-use Rattle.trace_stream.specs.Cases.{with_row}
+use Rattle.trace_stream.specs.Kept.{with_rows}
 use Rattle.trace_stream.specs.Following.{Follows, IsFollowedOn}
 use Rattle.verdict_stream.specs.Pendings.{IsTextOfRows}
 use Rattle.verdict_stream.specs.Watching.{first_truth, Pass, IsWatched, IsOwing, CanTake, HasGivenAll}
 use Rattle.trace_stream.specs.declared.case.Case.{Case}
-use Rattle.verdict_stream.specs.declared.verdicts.Network.{Network}
-use Rattle.verdict_stream.specs.declared.verdicts.Verdicts.{Verdicts}
+use Rattle.verdict_stream.specs.declared.watcher.Network.{Network}
+use Rattle.verdict_stream.specs.declared.watcher.Watcher.{Watcher}
 use Rattle.verdict_stream.proofs.Passes.{state_after, parted, emitted_alike, Gives, AreQuiet, quiet_shown, quiet_gives, pass_gives}
 use Rattle.verdict_stream.proofs.Taking.{first_alike, emitted_takes}
-use Rattle.verdict_stream.proofs.Watched.{no_row, shown_by, AreOthers, taken_on, rows_at}
+use Rattle.verdict_stream.proofs.Watched.{no_row, shown_by, rows_others, taken_on, rows_at}
 use Rattle.verdict_stream.proofs.Watched.{driven_at, driven_emptied, none_driven, after_pass, Passing}
 use Rattle.verdict_stream.proofs.Watched.{passing_of, pass_before, front_after, shown_after, rows_told}
+use Rattle.verdict_stream.proofs.RowsTogether.{HasLast, last_of, rows_of_both, rows_of_more}
 use Rattle.verdict_stream.proofs.Cutting.{Leads, describes_leads, leads_alike}
 use Rattle.verdict_stream.proofs.CutRows.{LeftTo, rows_cut}
 
@@ -47,11 +47,6 @@ module _ (nodes : List Node) (header : Header) where
   -- the root's place
   abbrev Top : ℕ
   Top = length nodes - 1
-
-  -- rows are no takes
-  rows_others : (more : List Row) → AreOthers (rows_of more)
-  rows_others [] = All-nil (λ (e : Event). e ≢ taken)
-  rows_others (r ∷ more) = All-cons (λ (e : Event). e ≢ taken) (row r) (rows_of more) (λ e. let k = e in cc) (rows_others more)
 
   -- before the first row the root has no number
   abbrev OpensEmpty : State → Type 0
@@ -110,7 +105,7 @@ module _ (nodes : List Node) (header : Header) where
       record {
         emptied = record {
           taken = x.taken;
-          is_taken = taken_on nodes header base (rows_of more) x.taken (rows_others more) x.is_taken;
+          is_taken = taken_on nodes header base (rows_of more) x.taken (rows_others nodes header more) x.is_taken;
           emitted = all;
           is_emitted = given;
           all = x.all ∙ alike_length x.emitted p.first (emitted_alike nodes header Top base x.emitted p.first x.is_emitted p.first_is) ∙ ap length (sym is);
@@ -138,8 +133,9 @@ module _ (nodes : List Node) (header : Header) where
     pub pending : new ≡ old ++ put
 
   -- a pass of the nodes gives out what the rows answer
-  pub given_out : (events : List Event) (e : Event) (emitted : List Verdict) (x : Passing nodes header events e emitted) (v : Network) (old new : List Verdict)
-      → HasGivenAll (pass_before nodes header events e x.first x.beyond) v old new → HasGivenOut events e (x.first ++ x.beyond) x.beyond v old new
+  pub given_out : (events : List Event) (e : Event) (emitted : List Verdict) (x : Passing nodes header events (e ∷ []) emitted) (v : Network)
+      (old new : List Verdict)
+      → HasGivenAll (pass_before nodes header events (e ∷ []) x.first x.beyond) v old new → HasGivenOut events e (x.first ++ x.beyond) x.beyond v old new
   given_out events e emitted x v old new (n, h, all) =
       let path : ((events ++ e ∷ []) ++ steps_of 0 nodes) ++ takes n ≡ events ++ pass_of e nodes n =
       append_assoc (events ++ e ∷ []) (steps_of 0 nodes) (takes n) ∙ append_assoc events (e ∷ []) (steps_of 0 nodes ++ takes n) in
@@ -201,7 +197,7 @@ module _ (nodes : List Node) (header : Header) where
   module _ (order : IsPostOrder nodes) (some : 0 < length nodes) where
     -- what the pass after the last of some rows gives out is what is left for these rows to answer
     pub left_of_pass : {before : List Row} {base : List Event} {last : Row} {emitted : List Verdict} (more : List Row) (n : ℕ) (put : List Verdict)
-        (x : Passing nodes header (base ++ rows_of more) (row last) emitted) → node_is_atom nodes Top ≡ false → IsDriven nodes header before false base
+        (x : Passing nodes header (base ++ rows_of more) (row last ∷ []) emitted) → node_is_atom nodes Top ≡ false → IsDriven nodes header before false base
         → IsDriven nodes header ((before ++ more) ++ last ∷ []) false ((base ++ rows_of more) ++ pass_of (row last) nodes n)
         → (all : List Row) (are : AreRows (length header.columns) all) → all ≡ (before ++ more) ++ last ∷ [] → AreAlike put x.beyond
         → LeftTo (root nodes) header all are (front_after (root nodes) before) (front_after (root nodes) all) put
@@ -240,21 +236,10 @@ module _ (nodes : List Node) (header : Header) where
         new_is : shown end Top ≡ front_after (root nodes) ((before ++ more) ++ last ∷ [])
         new_is = ap (λ (z : State). shown z Top) (sym (after_pass nodes header (base ++ rows_of more) (row last) n)) ∙ shown_after nodes header order some d'
 
--- ---- a row more, whose text is owed
-
-rows_of_more : (base : List Event) (more : List Row) (r : Row) → base ++ rows_of (more ++ r ∷ []) ≡ (base ++ rows_of more) ++ row r ∷ []
-rows_of_more base more r = ap (λ l. base ++ l) (on more) ∙ sym (append_assoc base (rows_of more) (row r ∷ []))
-  where
-    on : (more : List Row) → rows_of (more ++ r ∷ []) ≡ rows_of more ++ row r ∷ []
-    on [] = refl
-    on (q ∷ more) = ap (λ l. row q ∷ l) (on more)
-
-times_more : (rows : List Row) (r : Row) → map (λ (q : Row). q.time) (rows ++ r ∷ []) ≡ map (λ (q : Row). q.time) rows ++ r.time ∷ []
-times_more [] r = refl
-times_more (q ∷ rows) r = ap (λ l. q.time ∷ l) (times_more rows r)
+-- ---- rows more, whose text is owed
 
 -- once the text that was owed is made, the network is that which the takes left, and no time or verdict waits
-pub record OwesNoMore (v : Verdicts) (given : Network) (after : Verdicts) : Type 0 where
+pub record OwesNoMore (v : Watcher) (given : Network) (after : Watcher) : Type 0 where
   -- the network is the one that the takes left
   pub network : after.network ≡ given
   -- of the formula of before
@@ -266,77 +251,100 @@ pub record OwesNoMore (v : Verdicts) (given : Network) (after : Verdicts) : Type
   -- and no verdict
   pub pending : after.pending ≡ []
 
--- beside the network's parts, what a row whose text is owed changes: its time is kept
-pub record KeepsTime (v after : Verdicts) (r : Row) : Type 0 where
+-- beside the network's parts, what rows whose text is owed change: their times are kept
+pub record KeepsTimes (v after : Watcher) (rows : List Row) : Type 0 where
   -- the formula of before
   pub formula : after.network.formula ≡ v.network.formula
   -- the start of before
   pub start : after.network.start ≡ v.network.start
   -- the horizon of before
   pub horizon : after.horizon ≡ v.horizon
-  -- the row's time waits behind the others
-  pub times : after.times.items ≡ v.times.items ++ r.time ∷ []
+  -- the times of the rows wait behind the others
+  pub times : after.times.items ≡ v.times.items ++ map (λ (r : Row). r.time) rows
   -- the verdicts that waited
   pub pending : after.pending ≡ v.pending
 
--- the first row whose text is owed
-pub owes_first : (v after : Verdicts) (c : Case) (made : List ℕ) (r : Row) → (k : Follows (λ case text. IsWatched false v case) verdicts c made)
-    → node_is_atom c.formula.nodes (length c.formula.nodes - 1) ≡ false
-    → Stands c.formula.nodes c.trace.header after.network.net (k.stands.events ++ row r ∷ []) → KeepsTime v after r → IsOwing after (with_row r c) made
-owes_first v after c made r k no_atom stands by =
-    let w = k.stands in
-    record {
-      fits = (k.fits.0, record { formula = k.fits.1.formula; bound = k.fits.1.bound });
-      formula = by.formula ∙ w.formula;
-      horizon = by.horizon ∙ w.horizon;
-      no_atom = no_atom;
-      before = c.trace.rows;
-      more = [];
-      last = r;
-      rows = ap (λ l. l ++ r ∷ []) (sym (append-nil c.trace.rows));
-      few = omega arith;
-      events = w.events ++ row r ∷ [];
-      fed = record { base = w.events; driven = w.driven; is = ap (λ l. l ++ row r ∷ []) (sym (append-nil w.events)) };
-      stands = stands;
-      emitted = w.emitted;
-      is_emitted = w.is_emitted;
-      start = by.start ∙ w.start;
-      times = by.times ∙ ap (λ l. l ++ r.time ∷ []) w.no_times;
-      none_pending = by.pending ∙ w.none_pending;
-      told = k.told;
-    }
+module _ (v after : Watcher) (c : Case) (made : List ℕ) (rows : List Row) (some : 0 < length rows) (by : KeepsTimes v after rows) where
+  parts : HasLast rows
+  parts = last_of rows some
 
--- and one more
-pub owes_more : (v after : Verdicts) (c : Case) (made : List ℕ) (r : Row) → (o : IsOwing v c made) → length v.times.items < most_rows
-    → Stands c.formula.nodes c.trace.header after.network.net (o.events ++ row r ∷ []) → KeepsTime v after r → IsOwing after (with_row r c) made
-owes_more v after c made r o room stands by = record {
-  fits = (o.fits.0, record { formula = o.fits.1.formula; bound = o.fits.1.bound });
-  formula = by.formula ∙ o.formula;
-  horizon = by.horizon ∙ o.horizon;
-  no_atom = o.no_atom;
-  before = o.before;
-  more = o.more ++ o.last ∷ [];
-  last = r;
-  rows = ap (λ l. l ++ r ∷ []) (o.rows ∙ append_assoc o.before o.more (o.last ∷ []));
-  few = omega (arith, room, ap length o.times, length-map (o.more ++ o.last ∷ []) (λ (q : Row). q.time));
-  events = o.events ++ row r ∷ [];
-  fed = record {
-    base = o.fed.base;
-    driven = o.fed.driven;
-    is = ap (λ l. l ++ row r ∷ []) (o.fed.is ∙ sym (rows_of_more o.fed.base o.more o.last));
-  };
-  stands = stands;
-  emitted = o.emitted;
-  is_emitted = o.is_emitted;
-  start = by.start ∙ o.start;
-  times = by.times ∙ ap (λ l. l ++ r.time ∷ []) o.times ∙ sym (times_more (o.more ++ o.last ∷ []) r);
-  none_pending = by.pending ∙ o.none_pending;
-  told = o.told;
-}
+  -- the first rows whose text is owed
+  pub owes_first : (k : Follows (λ case text. IsWatched false v case) verdicts c made) → node_is_atom c.formula.nodes (length c.formula.nodes - 1) ≡ false
+      → length rows ≤ most_rows → Stands c.formula.nodes c.trace.header after.network.net (k.stands.events ++ rows_of rows)
+      → IsOwing after (with_rows rows c) made
+  owes_first k no_atom few stands =
+      let w = k.stands in
+      record {
+        fits = (k.fits.0, record { formula = k.fits.1.formula; bound = k.fits.1.bound });
+        formula = by.formula ∙ w.formula;
+        horizon = by.horizon ∙ w.horizon;
+        no_atom = no_atom;
+        before = c.trace.rows;
+        more = parts.front;
+        last = parts.last;
+        rows = ap (λ l. c.trace.rows ++ l) parts.is ∙ sym (append_assoc c.trace.rows parts.front (parts.last ∷ []));
+        few = omega (arith, few, ap length parts.is, length-append parts.front (parts.last ∷ []));
+        events = w.events ++ rows_of rows;
+        fed = record {
+          base = w.events;
+          driven = w.driven;
+          is = ap (λ l. w.events ++ rows_of l) parts.is ∙ rows_of_more w.events parts.front parts.last;
+        };
+        stands = stands;
+        emitted = w.emitted;
+        is_emitted = w.is_emitted;
+        start = by.start ∙ w.start;
+        times = by.times ∙ ap (λ l. l ++ map (λ (r : Row). r.time) rows) w.no_times ∙ ap (map (λ (r : Row). r.time)) parts.is;
+        none_pending = by.pending ∙ w.none_pending;
+        told = k.told;
+      }
+
+  -- and further ones
+  pub owes_more : (o : IsOwing v c made) → length v.times.items + length rows ≤ most_rows
+      → Stands c.formula.nodes c.trace.header after.network.net (o.events ++ rows_of rows) → IsOwing after (with_rows rows c) made
+  owes_more o few stands =
+      let waiting : List Row = o.more ++ o.last ∷ [] in
+      let all : waiting ++ rows ≡ (waiting ++ parts.front) ++ parts.last ∷ [] =
+      ap (λ l. waiting ++ l) parts.is ∙ sym (append_assoc waiting parts.front (parts.last ∷ [])) in
+      record {
+        fits = (o.fits.0, record { formula = o.fits.1.formula; bound = o.fits.1.bound });
+        formula = by.formula ∙ o.formula;
+        horizon = by.horizon ∙ o.horizon;
+        no_atom = o.no_atom;
+        before = o.before;
+        more = waiting ++ parts.front;
+        last = parts.last;
+        rows = ap (λ l. l ++ rows) (o.rows ∙ append_assoc o.before o.more (o.last ∷ [])) ∙ append_assoc o.before waiting rows ∙ ap (λ l. o.before ++ l) all
+            ∙ sym (append_assoc o.before (waiting ++ parts.front) (parts.last ∷ []));
+        few = omega (
+          arith,
+          few,
+          ap length o.times,
+          length-map waiting (λ (r : Row). r.time),
+          ap length all,
+          length-append waiting rows,
+          length-append (waiting ++ parts.front) (parts.last ∷ []),
+        );
+        events = o.events ++ rows_of rows;
+        fed = record {
+          base = o.fed.base;
+          driven = o.fed.driven;
+          is = ap (λ l. l ++ rows_of rows) (o.fed.is ∙ sym (rows_of_more o.fed.base o.more o.last)) ∙ append_assoc o.fed.base (rows_of waiting) (rows_of rows)
+              ∙ ap (λ l. o.fed.base ++ l) (sym (rows_of_both waiting rows) ∙ ap rows_of all) ∙ rows_of_more o.fed.base (waiting ++ parts.front) parts.last;
+        };
+        stands = stands;
+        emitted = o.emitted;
+        is_emitted = o.is_emitted;
+        start = by.start ∙ o.start;
+        times = by.times ∙ ap (λ l. l ++ map (λ (r : Row). r.time) rows) o.times ∙ sym (map-append (λ (r : Row). r.time) waiting rows)
+            ∙ ap (map (λ (r : Row). r.time)) all;
+        none_pending = by.pending ∙ o.none_pending;
+        told = o.told;
+      }
 
 -- ---- the text of what is owed
 
-module _ (v : Verdicts) (c : Case) (made : List ℕ) (o : IsOwing v c made) where
+module _ (v : Watcher) (c : Case) (made : List ℕ) (o : IsOwing v c made) where
   abbrev pub fed_by : List Event
   fed_by = o.fed.base ++ rows_of o.more
 
@@ -369,16 +377,17 @@ module _ (v : Verdicts) (c : Case) (made : List ℕ) (o : IsOwing v c made) wher
 
   -- what the root gives out at the last row and the steps
   pub owing_passing : (net : Parts) → Stands c.formula.nodes c.trace.header net ((fed_by ++ row o.last ∷ []) ++ steps_of 0 c.formula.nodes)
-      → Passing c.formula.nodes c.trace.header fed_by (row o.last) fed.emptied.emitted
+      → Passing c.formula.nodes c.trace.header fed_by (row o.last ∷ []) fed.emptied.emitted
   owing_passing net st =
-      passing_of c.formula.nodes c.trace.header (row o.last) fed.emptied.emitted st.shows.root.emitted (λ e. let k = e in cc) fed.emptied
+      passing_of c.formula.nodes c.trace.header (row o.last ∷ []) fed.emptied.emitted st.shows.root.emitted
+      (rows_others c.formula.nodes c.trace.header (o.last ∷ [])) fed.emptied
       fed.emptied.is_emitted st.shows.root.is_emitted
 
-  abbrev pub Before : Passing c.formula.nodes c.trace.header fed_by (row o.last) fed.emptied.emitted → Pass
-  Before x = pass_before c.formula.nodes c.trace.header fed_by (row o.last) x.first x.beyond
+  abbrev pub Before : Passing c.formula.nodes c.trace.header fed_by (row o.last ∷ []) fed.emptied.emitted → Pass
+  Before x = pass_before c.formula.nodes c.trace.header fed_by (row o.last ∷ []) x.first x.beyond
 
   -- so it can be taken
-  pub owing_can : (x : Passing c.formula.nodes c.trace.header fed_by (row o.last) fed.emptied.emitted) (mid : Network)
+  pub owing_can : (x : Passing c.formula.nodes c.trace.header fed_by (row o.last ∷ []) fed.emptied.emitted) (mid : Network)
       → Stands c.formula.nodes c.trace.header mid.net ((fed_by ++ row o.last ∷ []) ++ steps_of 0 c.formula.nodes) → mid.start ≡ v.network.start
       → CanTake (Before x) mid
   owing_can x mid st same = record {
@@ -406,8 +415,8 @@ module _ (v : Verdicts) (c : Case) (made : List ℕ) (o : IsOwing v c made) wher
       by_rows (q ∷ l) e k = k
 
   -- once its lines were put, the text is that of all rows
-  pub owing_followed : {given : Network} {after : Verdicts} → OwesNoMore v given after
-      → (x : Passing c.formula.nodes c.trace.header fed_by (row o.last) fed.emptied.emitted) (pending rest : List Verdict) (old new grown : List ℕ)
+  pub owing_followed : {given : Network} {after : Watcher} → OwesNoMore v given after
+      → (x : Passing c.formula.nodes c.trace.header fed_by (row o.last ∷ []) fed.emptied.emitted) (pending rest : List Verdict) (old new grown : List ℕ)
       → HasGivenAll (Before x) given v.pending pending
       → IsTextOfRows given.formula.scale v.horizon v.times.items pending grown rest → new ≡ old ++ grown
       → IsFollowedOn (λ case text. IsWatched false after case) verdicts c old new made

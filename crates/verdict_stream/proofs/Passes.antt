@@ -20,7 +20,7 @@ use Rattle.stl_syntax.specs.declared.items.Verdict.{Verdict}
 use Rattle.stl_syntax.specs.declared.node.Node.{Node}
 use Rattle.stl_syntax.specs.declared.node.Node.TheVariants.{Const}
 use Rattle.online_nodes.specs.Network.{Event, step, take as taken, initial, Emitted, Front, State, shown, same_front, is_atom}
-use Rattle.online_nodes.specs.Network.{node_is_atom, allowed_at, answered, after_event, state_from, EmittedAt, EmittedFrom}
+use Rattle.online_nodes.specs.Network.{node_is_atom, allowed_at, answered, after_event, state_from, IsRunFrom, EmittedAt, EmittedFrom}
 use Rattle.online_nodes.specs.Driven.{steps_of}
 use Rattle.online_nodes.specs.Needed.{IsTaken, none as none_taken, other, next, nothing_left}
 
@@ -55,6 +55,12 @@ module _ (nodes : List Node) (header : Header) where
         beyond_is = p.beyond_is;
         is = eq ∙ ap (λ l. here ++ l) p.is ∙ sym (append_assoc here p.first p.beyond);
       }
+
+  -- a run goes on from the state that a part of it leaves
+  pub run_split : (s : State) (a b : List Event) → IsRunFrom nodes header s (a ++ b)
+      → IsRunFrom nodes header s a × IsRunFrom nodes header (state_from nodes s a) b
+  run_split s [] b h = (tt, h)
+  run_split s (e ∷ a) b h = let x = run_split (after_event nodes s e) a b h.1 in ((h.0, x.0), x.1)
 
   -- steps of some nodes, and of others after them
   pub steps_append : (i : ℕ) (a b : List Node) → steps_of i (a ++ b) ≡ steps_of i a ++ steps_of (i + length a) b
@@ -183,6 +189,16 @@ module _ (nodes : List Node) (header : Header) where
             at = subst (λ j. slice_index_or nodes j (Const false) ≡ n) size
                 (subst (λ l. slice_index_or l (length (take k nodes)) (Const false) ≡ n) (sym parts) (get_or-append_seam (take k nodes) n [] (Const false)));
           }
+
+  -- the steps of all nodes are quiet at a root that is an atom
+  pub atom_steps : 0 < length nodes → node_is_atom nodes (length nodes - 1) ≡ true → (s : State) → AreQuiet (length nodes - 1) s (steps_of 0 nodes)
+  atom_steps some atom s =
+      subst (λ es. AreQuiet (length nodes - 1) s es) (sym (ap (steps_of 0) l.parts ∙ steps_append 0 l.init (l.last ∷ [])
+      ∙ ap (λ t. steps_of 0 l.init ++ cond t [] (step (0 + length l.init) ∷ [])) (sym (ap is_atom l.at) ∙ atom) ∙ append-nil (steps_of 0 l.init)))
+      (steps_quiet (length nodes - 1) 0 l.init s (omega (arith, l.size)))
+    where
+      l : Last
+      l = last_node some
 
   -- an event that leaves what the root shows, unless it is an atom
   abbrev pub LeavesRoot : State → Event → Type 0

@@ -24,7 +24,7 @@ use Rattle.stl_syntax.specs.declared.items.Verdict.{Verdict}
 use Rattle.stl_syntax.specs.declared.node.Node.{Node}
 use Rattle.stl_syntax.proofs.RowsLemmas.{last_time-push}
 use Rattle.stl_syntax.proofs.VerdictsLaw.{alike_length}
-use Rattle.online_nodes.specs.Network.{Event, row, step, close, take as taken, is_atom, node_is_atom, initial}
+use Rattle.online_nodes.specs.Network.{Event, row, step, close, take as taken, is_atom, initial}
 use Rattle.online_nodes.specs.Network.{after_event, state_from, state, State, Front, shown, IsRun, Emitted, EmittedFrom}
 use Rattle.rational.specs.Places.{begins, ends, Before, Same}
 use Rattle.rational.proofs.Tests.{int_not_below}
@@ -40,8 +40,8 @@ use Rattle.online_nodes.proofs.StayLaw.{emitted_stays}
 use Rattle.online_net.specs.Nets.{Stands}
 use Rattle.report.specs.Appended.{Grew}
 use Rattle.verdict_stream.specs.Watching.{first_truth, Pass, HasTakenAll}
-use Rattle.verdict_stream.specs.declared.verdicts.Network.{Network}
-use Rattle.verdict_stream.proofs.Passes.{state_after, parted, rows_stay, emitted_alike, Gives, LeavesRoot, pass_gives, text_of_given}
+use Rattle.verdict_stream.specs.declared.watcher.Network.{Network}
+use Rattle.verdict_stream.proofs.Passes.{state_after, parted, rows_stay, emitted_alike, Gives, pass_gives, text_of_given}
 use Rattle.verdict_stream.proofs.Taking.{first_alike, emitted_takes}
 
 -- events that are no take
@@ -158,47 +158,56 @@ module _ (nodes : List Node) (header : Header) where
 
   -- ---- a pass
 
-  -- what the root had given out before an event and the steps, and what it gave out at them
-  pub record Passing (events : List Event) (e : Event) (emitted : List Verdict) : Type 0 where
+  -- one event that is no take
+  pub one_other : (e : Event) → e ≢ taken → AreOthers (e ∷ [])
+  one_other e ne = All-cons (λ (e : Event). e ≢ taken) e [] ne (All-nil (λ (e : Event). e ≢ taken))
+
+  -- rows are no takes
+  pub rows_others : (more : List Row) → AreOthers (rows_of more)
+  rows_others [] = All-nil (λ (e : Event). e ≢ taken)
+  rows_others (r ∷ more) = All-cons (λ (e : Event). e ≢ taken) (row r) (rows_of more) (λ e. let k = e in cc) (rows_others more)
+
+  -- what the root had given out before some events and the steps, and what it gave out at them
+  pub record Passing (events more : List Event) (emitted : List Verdict) : Type 0 where
     -- what the root gave out before
     pub first : List Verdict
     -- and by this pass
     pub beyond : List Verdict
     -- both together by all events
-    pub given : Emitted nodes header ((events ++ e ∷ []) ++ steps_of 0 nodes) (length nodes - 1) (first ++ beyond)
+    pub given : Emitted nodes header ((events ++ more) ++ steps_of 0 nodes) (length nodes - 1) (first ++ beyond)
     -- those before were taken
-    pub taken_first : IsTaken nodes header ((events ++ e ∷ []) ++ steps_of 0 nodes) (length first)
+    pub taken_first : IsTaken nodes header ((events ++ more) ++ steps_of 0 nodes) (length first)
     -- the truth at the start is that of before
     pub truth : first_truth first ≡ first_truth emitted
     -- and the others are given by the pass
-    pub gives : EmittedFrom nodes header (length nodes - 1) (state_from nodes initial events) (e ∷ steps_of 0 nodes) beyond
+    pub gives : EmittedFrom nodes header (length nodes - 1) (state_from nodes initial events) (more ++ steps_of 0 nodes) beyond
 
-  -- of a run whose verdicts were all taken, an event and the steps, what was given out parts so
-  pub passing_of : {events : List Event} (e : Event) (emitted all : List Verdict) → e ≢ taken
+  -- of a run whose verdicts were all taken, some events and the steps, what was given out parts so
+  pub passing_of : {events : List Event} (more : List Event) (emitted all : List Verdict) → AreOthers more
       → IsEmptied nodes header events → Emitted nodes header events (length nodes - 1) emitted
-      → Emitted nodes header ((events ++ e ∷ []) ++ steps_of 0 nodes) (length nodes - 1) all → Passing events e emitted
-  passing_of {events} e emitted all ne x was given =
-      let same : (events ++ e ∷ []) ++ steps_of 0 nodes ≡ events ++ e ∷ steps_of 0 nodes = append_assoc events (e ∷ []) (steps_of 0 nodes) in
-      let p = parted nodes header (length nodes - 1) initial events (e ∷ steps_of 0 nodes) all
+      → Emitted nodes header ((events ++ more) ++ steps_of 0 nodes) (length nodes - 1) all → Passing events more emitted
+  passing_of {events} more emitted all others x was given =
+      let same : (events ++ more) ++ steps_of 0 nodes ≡ events ++ (more ++ steps_of 0 nodes) = append_assoc events more (steps_of 0 nodes) in
+      let p = parted nodes header (length nodes - 1) initial events (more ++ steps_of 0 nodes) all
       (subst (λ l. Emitted nodes header l (length nodes - 1) all) same given) in
       let size : x.taken ≡ length p.first = x.all
       ∙ alike_length x.emitted p.first (emitted_alike nodes header (length nodes - 1) events x.emitted p.first x.is_emitted p.first_is) in
       record {
         first = p.first;
         beyond = p.beyond;
-        given = subst (λ vs. Emitted nodes header ((events ++ e ∷ []) ++ steps_of 0 nodes) (length nodes - 1) vs) p.is given;
-        taken_first = subst (λ n. IsTaken nodes header ((events ++ e ∷ []) ++ steps_of 0 nodes) n) size
-            (taken_on (events ++ e ∷ []) (steps_of 0 nodes) x.taken (steps_others 0 nodes) (other e ne x.is_taken));
+        given = subst (λ vs. Emitted nodes header ((events ++ more) ++ steps_of 0 nodes) (length nodes - 1) vs) p.is given;
+        taken_first = subst (λ n. IsTaken nodes header ((events ++ more) ++ steps_of 0 nodes) n) size
+            (taken_on (events ++ more) (steps_of 0 nodes) x.taken (steps_others 0 nodes) (taken_on events more x.taken others x.is_taken));
         truth = first_alike p.first emitted (emitted_alike nodes header (length nodes - 1) events p.first emitted p.first_is was);
         gives = p.beyond_is;
       }
 
   -- so much was taken before the takes of the pass
-  abbrev pub pass_before : (events : List Event) (e : Event) (first beyond : List Verdict) → Pass
-  pass_before events e first beyond = record {
+  abbrev pub pass_before : (events more : List Event) (first beyond : List Verdict) → Pass
+  pass_before events more first beyond = record {
     nodes = nodes;
     header = header;
-    events = (events ++ e ∷ []) ++ steps_of 0 nodes;
+    events = (events ++ more) ++ steps_of 0 nodes;
     given = first ++ beyond;
     taken = length first;
   }
@@ -219,14 +228,16 @@ module _ (nodes : List Node) (header : Header) where
     pub lines : Grew (AreVerdictLines v.formula.scale beyond) old new
 
   -- once all was taken the run is driven on, and the lines are of what was given out last
-  pub passed_of : (events : List Event) (e : Event) (emitted : List Verdict) (x : Passing events e emitted) (v : Network) (old new : List ℕ)
-      → HasTakenAll (pass_before events e x.first x.beyond) v old new → HasPassed events e (x.first ++ x.beyond) x.beyond v old new
-  passed_of events e emitted x v old new (n, h, all) =
-      let path : ((events ++ e ∷ []) ++ steps_of 0 nodes) ++ takes n ≡ events ++ pass_of e nodes n =
-      append_assoc (events ++ e ∷ []) (steps_of 0 nodes) (takes n) ∙ append_assoc events (e ∷ []) (steps_of 0 nodes ++ takes n) in
+  pub passed_of : (events more : List Event) (emitted : List Verdict) (x : Passing events more emitted) (before : List Event) (e : Event)
+      → events ++ more ≡ before ++ e ∷ [] → (v : Network) (old new : List ℕ)
+      → HasTakenAll (pass_before events more x.first x.beyond) v old new → HasPassed before e (x.first ++ x.beyond) x.beyond v old new
+  passed_of events more emitted x before e parts v old new (n, h, all) =
+      let path : ((events ++ more) ++ steps_of 0 nodes) ++ takes n ≡ before ++ pass_of e nodes n =
+      append_assoc (events ++ more) (steps_of 0 nodes) (takes n) ∙ ap (λ l. l ++ (steps_of 0 nodes ++ takes n)) parts
+      ∙ append_assoc before (e ∷ []) (steps_of 0 nodes ++ takes n) in
       let size : n ≡ length x.beyond = omega (arith, all, length-append x.first x.beyond) in
-      let em = emitted_takes nodes header (length nodes - 1) ((events ++ e ∷ []) ++ steps_of 0 nodes) n (x.first ++ x.beyond) x.given in
-      let out : Emitted nodes header (events ++ pass_of e nodes n) (length nodes - 1) (x.first ++ x.beyond) =
+      let em = emitted_takes nodes header (length nodes - 1) ((events ++ more) ++ steps_of 0 nodes) n (x.first ++ x.beyond) x.given in
+      let out : Emitted nodes header (before ++ pass_of e nodes n) (length nodes - 1) (x.first ++ x.beyond) =
       subst (λ l. Emitted nodes header l (length nodes - 1) (x.first ++ x.beyond)) path em in
       let (grown, lines, is) = h.lines in
       record {
@@ -262,7 +273,7 @@ front_push p [] r = refl
 front_push p (q ∷ rows) r = ap (answered_by q.time p) (last_time-push q.time rows r)
 
 -- where one is shown, it is the last row's time less the horizon
-front_is : (p : Subformula) (rows : List Row) (g : ℤ) → front_after p rows ≡ Some g → (0 < length rows) × (g ≡ pos (last_time 0 rows) -ℤ pos (horizon p))
+pub front_is : (p : Subformula) (rows : List Row) (g : ℤ) → front_after p rows ≡ Some g → (0 < length rows) × (g ≡ pos (last_time 0 rows) -ℤ pos (horizon p))
 front_is p [] g e = absurd (none_is_none g e)
 front_is p (r ∷ rows) g e = (omega arith, by_test (int_lt (pos (last_time r.time rows) -ℤ pos (horizon p)) (pos r.time)) e)
   where
@@ -326,66 +337,6 @@ module _ (nodes : List Node) (header : Header) (order : IsPostOrder nodes) (some
       let low : pos (first_time rows) ≤ℤ pos (last_time 0 rows) = omega (arith, ints) in
       front_shown (state_from nodes initial events) (length nodes - 1) (pos (last_time 0 rows)) (last_front d any)
       (subst (λ l. pos (first_time l) ≤ℤ pos (last_time 0 rows)) (sym (driven_at nodes header d).rows_are) low)
-
-  -- a row leaves what the root shows, unless it is an atom
-  row_leaves : {rows : List Row} {events : List Event} (r : Row) → IsDriven nodes header rows false events
-      → LeavesRoot nodes header (state_from nodes initial events) (row r)
-  row_leaves {rows} {events} r d not_atom = by_rows rows refl
-    where
-      by_rows : (l : List Row) → rows ≡ l
-          → shown (state_from nodes initial events) (length nodes - 1) ≡ shown (after_event nodes (state_from nodes initial events) (row r)) (length nodes - 1)
-      by_rows [] e =
-          subst (λ es. shown (state_from nodes initial es) (length nodes - 1)
-          ≡ shown (after_event nodes (state_from nodes initial es) (row r)) (length nodes - 1))
-          (sym (none_driven nodes header d e)) (subst (λ t. None ≡ show r.time (cond t (Some (pos r.time)) None)) (sym not_atom) refl)
-      by_rows (q ∷ l) e =
-          let rows_are : (state_from nodes initial events).rows ≡ q ∷ l = (driven_at nodes header d).rows_are ∙ e in
-          let same : first_time ((state_from nodes initial events).rows ++ r ∷ []) ≡ first_time (state_from nodes initial events).rows =
-          subst (λ rs. first_time (rs ++ r ∷ []) ≡ first_time rs) (sym rows_are) refl in
-          let stays : cond (node_is_atom nodes (length nodes - 1)) (Some (pos r.time)) ((state_from nodes initial events).fronts (length nodes - 1))
-          ≡ (state_from nodes initial events).fronts (length nodes - 1) =
-          ap (λ t. cond t (Some (pos r.time)) ((state_from nodes initial events).fronts (length nodes - 1))) not_atom in
-          sym (shown_by (after_event nodes (state_from nodes initial events) (row r)) (length nodes - 1) (first_time (state_from nodes initial events).rows)
-          ((state_from nodes initial events).fronts (length nodes - 1)) same stays)
-
-  -- what a row's pass gives out is the text of what the row answers
-  pub row_text : {rows : List Row} {events : List Event} (r : Row) (n : ℕ) (beyond : List Verdict) (text : List ℕ)
-      → (0 < length rows → last_time 0 rows < r.time) → IsDriven nodes header rows false events
-      → IsDriven nodes header (rows ++ r ∷ []) false (events ++ pass_of (row r) nodes n)
-      → EmittedFrom nodes header (length nodes - 1) (state_from nodes initial events) (row r ∷ steps_of 0 nodes) beyond
-      → AreVerdictLines header.scale beyond text
-      → IsNewText (root nodes) (record { header = header; rows = rows ++ r ∷ [] }) (front_after (root nodes) rows)
-      (answered_by (first_time (rows ++ r ∷ [])) (root nodes) r.time) text
-  row_text {rows} {events} r n beyond text rises d d' gives lines =
-      text_of_given nodes (record { header = header; rows = rows ++ r ∷ [] }) (front_after (root nodes) rows)
-      (answered_by (first_time (rows ++ r ∷ [])) (root nodes) r.time) beyond text rise
-      (subst (λ rs. Gives nodes header (length nodes - 1) (record { header = header; rows = rs }) (front_after (root nodes) rows)
-      (answered_by (first_time (rows ++ r ∷ [])) (root nodes) r.time) beyond) rows_are
-      (subst (λ o. Gives nodes header (length nodes - 1) (record { header = header; rows = (state_from nodes s (row r ∷ steps_of 0 nodes)).rows }) o
-      (answered_by (first_time (rows ++ r ∷ [])) (root nodes) r.time) beyond) (shown_after d)
-      (subst (λ o. Gives nodes header (length nodes - 1) (record { header = header; rows = (state_from nodes s (row r ∷ steps_of 0 nodes)).rows })
-      (shown s (length nodes - 1)) o beyond) new_is (pass_gives nodes header some s (row r) beyond (row_leaves r d) gives).gives)))
-      lines
-    where
-      s : State
-      s = state_from nodes initial events
-
-      rows_are : (state_from nodes s (row r ∷ steps_of 0 nodes)).rows ≡ rows ++ r ∷ []
-      rows_are = ap (λ (z : State). z.rows) (sym (after_pass nodes header events (row r) n)) ∙ (driven_at nodes header d').rows_are
-
-      new_is : shown (state_from nodes s (row r ∷ steps_of 0 nodes)) (length nodes - 1) ≡ answered_by (first_time (rows ++ r ∷ [])) (root nodes) r.time
-      new_is = ap (λ (z : State). shown z (length nodes - 1)) (sym (after_pass nodes header events (row r) n)) ∙ shown_after d'
-          ∙ front_push (root nodes) rows r
-
-      rise : (g f : ℤ) → front_after (root nodes) rows ≡ Some g → answered_by (first_time (rows ++ r ∷ [])) (root nodes) r.time ≡ Some f
-          → int_lt f g ≡ false
-      rise g f e e' =
-          let old = front_is (root nodes) rows g e in
-          let new = front_is (root nodes) (rows ++ r ∷ []) f (front_push (root nodes) rows r ∙ e') in
-          let l : last_time 0 rows < r.time = rises old.0 in
-          let old_is : g ≡ pos (last_time 0 rows) -ℤ pos (horizon (root nodes)) = old.1 in
-          let new_is : f ≡ pos r.time -ℤ pos (horizon (root nodes)) = new.1 ∙ ap (λ t. pos t -ℤ pos (horizon (root nodes))) (last_time-push 0 rows r) in
-          int_not_below f g (omega (arith, ints))
 
   -- what the pass at the end gives out is the text of the rest
   pub rest_text : {rows : List Row} {events : List Event} (n : ℕ) (beyond : List Verdict) (text : List ℕ)
@@ -467,39 +418,6 @@ front_on p first before t (q ∷ rows) = front_on p first (before ++ q ∷ []) q
 front_from_is : (p : Subformula) (rows : List Row) → front_from p [] None rows ≡ front_after p rows
 front_from_is p [] = refl
 front_from_is p (r ∷ rows) = front_on p r [] r.time rows
-
-rows_text_on : (New : NewText) (p : Subformula) (header : Header) (before : List Row) (old : Front) (rows : List Row) (r : Row) (text here : List ℕ)
-    → IsRowsText New p header before old rows text
-    → New (record { header = header; rows = (before ++ rows) ++ r ∷ [] }) (front_from p before old rows)
-    (answered_by (first_time ((before ++ rows) ++ r ∷ [])) p r.time) here
-    → IsRowsText New p header before old (rows ++ r ∷ []) (text ++ here)
-rows_text_on New p header before old [] r text here none new = (
-  here,
-  [],
-  subst (λ l. New (record { header = header; rows = l ++ r ∷ [] }) old (answered_by (first_time (l ++ r ∷ [])) p r.time) here) (append-nil before) new,
-  refl,
-  ap (λ t. t ++ here) none ∙ sym (append-nil here),
-)
-rows_text_on New p header before old (q ∷ rows) r text here (first, later, new_first, more, is) new = (
-  first,
-  later ++ here,
-  new_first,
-  rows_text_on New p header (before ++ q ∷ []) (answered_by (first_time (before ++ q ∷ [])) p q.time) rows r later here more
-      (subst (λ l. New (record { header = header; rows = l ++ r ∷ [] })
-      (front_from p (before ++ q ∷ []) (answered_by (first_time (before ++ q ∷ [])) p q.time) rows)
-      (answered_by (first_time (l ++ r ∷ [])) p r.time) here) (sym (append_assoc before (q ∷ []) rows)) new),
-  ap (λ t. t ++ here) is ∙ append_assoc first later here,
-)
-
--- the text of rows, and of one more
-pub row_told : (p : Subformula) (header : Header) (rows : List Row) (r : Row) (text here : List ℕ)
-    → IsRowsText (IsNewText p) p header [] None rows text
-    → IsNewText p (record { header = header; rows = rows ++ r ∷ [] }) (front_after p rows) (answered_by (first_time (rows ++ r ∷ [])) p r.time) here
-    → IsRowsText (IsNewText p) p header [] None (rows ++ r ∷ []) (text ++ here)
-row_told p header rows r text here told new =
-    rows_text_on (IsNewText p) p header [] None rows r text here told
-    (subst (λ o. IsNewText p (record { header = header; rows = rows ++ r ∷ [] }) o (answered_by (first_time (rows ++ r ∷ [])) p r.time) here)
-    (sym (front_from_is p rows)) new)
 
 rows_text_append : (New : NewText) (p : Subformula) (header : Header) (before : List Row) (old : Front) (rows more : List Row) (text later : List ℕ)
     → IsRowsText New p header before old rows text → IsRowsText New p header (before ++ rows) (front_from p before old rows) more later

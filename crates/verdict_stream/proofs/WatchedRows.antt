@@ -1,6 +1,6 @@
 -- The verdicts of a case after one row more, and at the end: from what the network's calls answer to what follows a case.
 use Rattle.std.proofs.Common.{◌≡◌, ◌⊎◌, inl, inr, ℕ, ◌<◌, Bool, true, false, List, [], ◌∷◌, ◌++◌}
-use Rattle.std.proofs.Common.{length, refl, sym, ap, ◌∙◌, subst, arith, append_assoc, Some, None}
+use Rattle.std.proofs.Common.{length, ◌-◌, ◌≤◌, refl, sym, ap, ◌∙◌, subst, arith, append_assoc, length-append, Some, None}
 use Rattle.std.specs.Prelude.{◌≢◌, IfSome, MatchBool}
 use Rattle.std.proofs.Math.Seq.{take-append_seam}
 use Rattle.frac128.specs.declared.frac.Frac.{Frac}
@@ -13,18 +13,21 @@ use Rattle.stl_syntax.specs.PostOrder.{IsPostOrder}
 use Rattle.stl_syntax.specs.Texts.{AreVerdictLines, start_line}
 use Rattle.stl_syntax.proofs.WellFormedLemmas.{root_some}
 use Rattle.stl_syntax.proofs.RowsLemmas.{first_to_last}
-use Rattle.online_nodes.specs.Network.{Event, row as came, close, take as taken, state}
-use Rattle.online_nodes.specs.Driven.{steps_of, pass_of, IsDriven, by_end}
+use Rattle.online_nodes.specs.Network.{Event, row as came, close, node_is_atom, initial, state_from, state, IsRun}
+use Rattle.online_nodes.specs.Driven.{rows_of, steps_of, pass_of, most_rows, IsDriven, by_rows, by_end}
 use Rattle.online_net.specs.Nets.{Parts, Stands, last_row_of, last_row_after}
-use Rattle.trace_stream.specs.Streams.{verdicts, StreamText, status_of_truth}
-use Rattle.trace_stream.specs.Cases.{IsCase, Takes, with_row}
+use Rattle.trace_stream.specs.Streams.{verdicts, status_of_truth}
+use Rattle.trace_stream.specs.Cases.{IsCase}
+use Rattle.trace_stream.specs.Kept.{with_rows}
 use Rattle.trace_stream.specs.Following.{Follows, IsFollowedOn, IsFollowedOut}
 use Rattle.verdict_stream.specs.Watching.{first_truth, IsWatched, CanTake, HasTakenAll}
 use Rattle.trace_stream.specs.declared.case.Case.{Case}
-use Rattle.verdict_stream.specs.declared.verdicts.Network.{Network}
-use Rattle.verdict_stream.specs.declared.verdicts.Verdicts.{Verdicts}
-use Rattle.verdict_stream.proofs.Watched.{by_row, driven_at, driven_emptied, Passing, passing_of, pass_before}
-use Rattle.verdict_stream.proofs.Watched.{HasPassed, passed_of, StartTold, start_truth, row_text, rest_text, row_told}
+use Rattle.verdict_stream.specs.declared.watcher.Network.{Network}
+use Rattle.verdict_stream.specs.declared.watcher.Watcher.{Watcher}
+use Rattle.verdict_stream.proofs.Passes.{run_split}
+use Rattle.verdict_stream.proofs.Watched.{driven_at, driven_emptied, AreOthers, Passing, passing_of, pass_before, front_after, shown_after}
+use Rattle.verdict_stream.proofs.Watched.{HasPassed, passed_of, StartTold, start_truth, rest_text, rows_told}
+use Rattle.verdict_stream.proofs.RowsTogether.{last_of, rows_of_more, rows_give, rows_text}
 
 -- ---- the last row
 
@@ -58,24 +61,21 @@ tells false A h = inr (refl, h)
 end_path : (old mid new grown line : List ℕ) → mid ≡ old ++ grown → new ≡ mid ++ line → new ≡ old ++ (grown ++ line)
 end_path old mid new grown line e f = f ∙ ap (λ t. t ++ line) e ∙ append_assoc old grown line
 
-module _ (v : Verdicts) (c : Case) (w : IsWatched false v c) where
+module _ (v : Watcher) (c : Case) (w : IsWatched false v c) where
   order : IsPostOrder c.formula.nodes
   order = w.stands.holds.formed.post_order
 
   some_node : 0 < length c.formula.nodes
   some_node = root_some c.formula.nodes w.stands.holds.one_root
 
-  -- the row may come
-  pub fits_width : (r : Row) → Takes r c.trace → length r.values ≡ v.network.net.bound.width
-  fits_width r t = t.0 ∙ sym w.stands.holds.bound.width
+  -- a row has as many values as the network's columns
+  pub fits_width : length c.trace.header.columns ≡ v.network.net.bound.width
+  fits_width = sym w.stands.holds.bound.width
 
-  last_is : v.network.net.last ≡ last_row_of c.trace.rows
+  -- the network's last row is that of the case
+  pub last_is : v.network.net.last ≡ last_row_of c.trace.rows
   unfolding state
   last_is = w.stands.holds.last ∙ ap last_row_of (driven_at c.formula.nodes c.trace.header w.driven).rows_are
-
-  -- and it is later than the last one
-  pub fits_time : (r : Row) → Takes r c.trace → IfSome v.network.net.last (λ (l : Row). l.time < r.time)
-  fits_time r t = subst (λ o. IfSome o (λ (l : Row). l.time < r.time)) (sym last_is) (later_row c.trace.rows r t.1)
 
   -- the end may come
   pub may_end : IsTrace c.trace → v.network.net.last ≢ None
@@ -85,27 +85,33 @@ module _ (v : Verdicts) (c : Case) (w : IsWatched false v c) where
   pub places : (net : Parts) (events : List Event) → Stands c.formula.nodes c.trace.header net events → length net.operators ≡ length v.network.formula.nodes
   places net events st = st.holds.operators ∙ ap (λ (f : Formula). length f.nodes) (sym w.formula)
 
-  -- the network after an event and the steps
-  pub steps_stand : (e : Event) (fed mid : Parts) → Stands c.formula.nodes c.trace.header fed (w.events ++ e ∷ [])
+  -- where the root of the network's formula is an atom, that of the case's is
+  pub atom_here : node_is_atom v.network.formula.nodes (length v.network.formula.nodes - 1) ≡ true
+      → node_is_atom c.formula.nodes (length c.formula.nodes - 1) ≡ true
+  atom_here e = ap (λ (f : Formula). node_is_atom f.nodes (length f.nodes - 1)) (sym w.formula) ∙ e
+
+  -- the network after some events and the steps
+  pub steps_stand : (more : List Event) (fed mid : Parts) → Stands c.formula.nodes c.trace.header fed (w.events ++ more)
       → ((header : Header) (events : List Event) → Stands v.network.formula.nodes header fed events
       → Stands v.network.formula.nodes header mid (events ++ steps_of 0 v.network.formula.nodes))
-      → Stands c.formula.nodes c.trace.header mid ((w.events ++ e ∷ []) ++ steps_of 0 c.formula.nodes)
-  steps_stand e fed mid st step =
-      subst (λ (f : Formula). Stands f.nodes c.trace.header mid ((w.events ++ e ∷ []) ++ steps_of 0 f.nodes)) w.formula
-      (step c.trace.header (w.events ++ e ∷ []) (subst (λ (f : Formula). Stands f.nodes c.trace.header fed (w.events ++ e ∷ [])) (sym w.formula) st))
+      → Stands c.formula.nodes c.trace.header mid ((w.events ++ more) ++ steps_of 0 c.formula.nodes)
+  steps_stand more fed mid st step =
+      subst (λ (f : Formula). Stands f.nodes c.trace.header mid ((w.events ++ more) ++ steps_of 0 f.nodes)) w.formula
+      (step c.trace.header (w.events ++ more) (subst (λ (f : Formula). Stands f.nodes c.trace.header fed (w.events ++ more)) (sym w.formula) st))
 
-  -- what the root gives out at an event and the steps
-  pub passing : (e : Event) (net : Parts) → e ≢ taken → Stands c.formula.nodes c.trace.header net ((w.events ++ e ∷ []) ++ steps_of 0 c.formula.nodes)
-      → Passing c.formula.nodes c.trace.header w.events e w.emitted
-  passing e net ne st =
-      passing_of c.formula.nodes c.trace.header e w.emitted st.shows.root.emitted ne
+  -- what the root gives out at some events and the steps
+  pub passing : (more : List Event) (net : Parts) → AreOthers more
+      → Stands c.formula.nodes c.trace.header net ((w.events ++ more) ++ steps_of 0 c.formula.nodes)
+      → Passing c.formula.nodes c.trace.header w.events more w.emitted
+  passing more net others st =
+      passing_of c.formula.nodes c.trace.header more w.emitted st.shows.root.emitted others
       (driven_emptied c.formula.nodes c.trace.header w.driven) w.is_emitted st.shows.root.is_emitted
 
   -- so what the root gave out can be taken
-  pub can_take : (e : Event) (x : Passing c.formula.nodes c.trace.header w.events e w.emitted) (mid : Network)
-      → Stands c.formula.nodes c.trace.header mid.net ((w.events ++ e ∷ []) ++ steps_of 0 c.formula.nodes) → mid.start ≡ v.network.start
-      → CanTake (pass_before c.formula.nodes c.trace.header w.events e x.first x.beyond) mid
-  can_take e x mid st same = record {
+  pub can_take : (more : List Event) (x : Passing c.formula.nodes c.trace.header w.events more w.emitted) (mid : Network)
+      → Stands c.formula.nodes c.trace.header mid.net ((w.events ++ more) ++ steps_of 0 c.formula.nodes) → mid.start ≡ v.network.start
+      → CanTake (pass_before c.formula.nodes c.trace.header w.events more x.first x.beyond) mid
+  can_take more x mid st same = record {
     stands = st;
     given = x.given;
     taken = x.taken_first;
@@ -118,17 +124,25 @@ module _ (v : Verdicts) (c : Case) (w : IsWatched false v c) where
   lines_of f after beyond grown is same lines =
       subst (λ (g : Formula). AreVerdictLines g.scale beyond grown) (same ∙ w.formula ∙ is.formula) lines
 
-  -- after a row
-  pub row_followed : {made : List ℕ} {r : Row} → Follows (λ case text. IsWatched false v case) verdicts c made
-      → (x : Passing c.formula.nodes c.trace.header w.events (came r) w.emitted) (after : Network) (written : Frac) (old new : List ℕ)
-      → Takes r c.trace → after.formula ≡ v.network.formula
-      → HasTakenAll (pass_before c.formula.nodes c.trace.header w.events (came r) x.first x.beyond) after old new
-      → IsFollowedOn (λ case text. IsWatched false (record v { network = after; last = written }) case) verdicts (with_row r c) old new made
-  row_followed {made} {r} k x after written old new may same h =
+  -- after rows that come together, where the root is an atom
+  pub rows_followed : {made : List ℕ} (rows : List Row) → Follows (λ case text. IsWatched false v case) verdicts c made
+      → node_is_atom c.formula.nodes (length c.formula.nodes - 1) ≡ true → 0 < length rows → length rows ≤ most_rows
+      → IsRun c.formula.nodes c.trace.header (w.events ++ rows_of rows)
+      → (x : Passing c.formula.nodes c.trace.header w.events (rows_of rows) w.emitted) (after : Network) (written : Frac) (old new : List ℕ)
+      → after.formula ≡ v.network.formula
+      → HasTakenAll (pass_before c.formula.nodes c.trace.header w.events (rows_of rows) x.first x.beyond) after old new
+      → IsFollowedOn (λ case text. IsWatched false (record v { network = after; last = written }) case) verdicts (with_rows rows c) old new made
+  rows_followed {made} rows k atom some few run x after written old new same h =
       let (f, is) = k.fits in
-      let p = passed_of c.formula.nodes c.trace.header w.events (came r) w.emitted x after old new h in
-      let driven : IsDriven c.formula.nodes c.trace.header (c.trace.rows ++ r ∷ []) false (w.events ++ pass_of (came r) c.formula.nodes p.made) =
-      by_row c.formula.nodes c.trace.header r p.made w.driven p.emptied in
+      let l = last_of rows some in
+      let p = passed_of c.formula.nodes c.trace.header w.events (rows_of rows) w.emitted x (w.events ++ rows_of l.front) (came l.last)
+      (ap (λ rs. w.events ++ rows_of rs) l.is ∙ rows_of_more w.events l.front l.last) after old new h in
+      let driven : IsDriven c.formula.nodes c.trace.header (c.trace.rows ++ rows) false
+      ((w.events ++ rows_of l.front) ++ pass_of (came l.last) c.formula.nodes p.made) =
+      subst (λ rs. IsDriven c.formula.nodes c.trace.header rs false ((w.events ++ rows_of l.front) ++ pass_of (came l.last) c.formula.nodes p.made))
+      (append_assoc c.trace.rows l.front (l.last ∷ []) ∙ ap (λ rs. c.trace.rows ++ rs) (sym l.is))
+      (by_rows l.front l.last p.made (omega (arith, few, ap length l.is, length-append l.front (l.last ∷ []))) w.driven p.emptied) in
+      let given = rows_give c.formula.nodes c.trace.header order some_node atom (state_from c.formula.nodes initial w.events) rows x.beyond x.gives in
       let (grown, lines, longer) = p.lines in (
         grown,
         longer,
@@ -136,7 +150,7 @@ module _ (v : Verdicts) (c : Case) (w : IsWatched false v c) where
           stands = record {
             formula = same ∙ w.formula;
             horizon = w.horizon;
-            events = w.events ++ pass_of (came r) c.formula.nodes p.made;
+            events = (w.events ++ rows_of l.front) ++ pass_of (came l.last) c.formula.nodes p.made;
             driven = driven;
             stands = p.stands;
             emitted = x.first ++ x.beyond;
@@ -146,14 +160,16 @@ module _ (v : Verdicts) (c : Case) (w : IsWatched false v c) where
             none_pending = w.none_pending;
           };
           fits = (f, record { formula = is.formula; bound = is.bound });
-          told = row_told (root c.formula.nodes) c.trace.header c.trace.rows r made grown k.told
-              (row_text c.formula.nodes c.trace.header order some_node r p.made x.beyond grown may.1 w.driven driven x.gives
-              (lines_of f after x.beyond grown is same lines));
+          told = rows_told (root c.formula.nodes) c.trace.header c.trace.rows rows made grown k.told
+              (rows_text c.formula.nodes c.trace.header order some_node atom (state_from c.formula.nodes initial w.events) c.trace.rows rows
+              (front_after (root c.formula.nodes) c.trace.rows) x.beyond grown (driven_at c.formula.nodes c.trace.header w.driven).rows_are
+              (shown_after c.formula.nodes c.trace.header order some_node w.driven) refl
+              (run_split c.formula.nodes c.trace.header initial w.events (rows_of rows) run).1 given (lines_of f after x.beyond grown is same lines));
         },
       )
 
   -- at the end the truth at the start is kept, and is so
-  pub record IsOut (x : Passing c.formula.nodes c.trace.header w.events close w.emitted) (after : Network) (old mid : List ℕ) : Type 0 where
+  pub record IsOut (x : Passing c.formula.nodes c.trace.header w.events (close ∷ []) w.emitted) (after : Network) (old mid : List ℕ) : Type 0 where
     -- the end has passed through all nodes
     pub passed : HasPassed c.formula.nodes c.trace.header w.events close (x.first ++ x.beyond) x.beyond after old mid
     -- the run was driven to its end
@@ -162,10 +178,10 @@ module _ (v : Verdicts) (c : Case) (w : IsWatched false v c) where
     pub truth : StartTold (root c.formula.nodes) c.trace (x.first ++ x.beyond)
 
   -- the pass at the end leaves that
-  pub is_out : (x : Passing c.formula.nodes c.trace.header w.events close w.emitted) (after : Network) (old mid : List ℕ) → IsTrace c.trace
-      → HasTakenAll (pass_before c.formula.nodes c.trace.header w.events close x.first x.beyond) after old mid → IsOut x after old mid
+  pub is_out : (x : Passing c.formula.nodes c.trace.header w.events (close ∷ []) w.emitted) (after : Network) (old mid : List ℕ) → IsTrace c.trace
+      → HasTakenAll (pass_before c.formula.nodes c.trace.header w.events (close ∷ []) x.first x.beyond) after old mid → IsOut x after old mid
   is_out x after old mid t h =
-      let p = passed_of c.formula.nodes c.trace.header w.events close w.emitted x after old mid h in
+      let p = passed_of c.formula.nodes c.trace.header w.events (close ∷ []) w.emitted x w.events close refl after old mid h in
       let any : c.trace.rows ≢ [] = some_row (length c.trace.header.columns) c.trace.rows t.rows in
       let driven : IsDriven c.formula.nodes c.trace.header c.trace.rows true (w.events ++ pass_of close c.formula.nodes p.made) =
       by_end p.made w.driven any p.emptied in
@@ -177,12 +193,12 @@ module _ (v : Verdicts) (c : Case) (w : IsWatched false v c) where
       }
 
   -- so a truth is kept
-  pub start_kept : (x : Passing c.formula.nodes c.trace.header w.events close w.emitted) (after : Network) (old mid : List ℕ) → IsOut x after old mid
+  pub start_kept : (x : Passing c.formula.nodes c.trace.header w.events (close ∷ []) w.emitted) (after : Network) (old mid : List ℕ) → IsOut x after old mid
       → after.start ≢ None
   start_kept x after old mid o e = absurd (let h : Some o.truth.holds ≡ None = sym o.truth.first ∙ sym o.passed.start ∙ e in cc)
 
   -- after the end, once the line of the start was put
-  pub end_followed : {made old mid : List ℕ} {x : Passing c.formula.nodes c.trace.header w.events close w.emitted} {after : Network}
+  pub end_followed : {made old mid : List ℕ} {x : Passing c.formula.nodes c.trace.header w.events (close ∷ []) w.emitted} {after : Network}
       → Follows (λ case text. IsWatched false v case) verdicts c made → IsOut x after old mid → (written : Frac) (new : List ℕ) (holds : Bool)
       → IsTrace c.trace → after.formula ≡ v.network.formula → after.start ≡ Some holds → new ≡ mid ++ start_line holds
       → IsFollowedOut (λ case text. IsWatched true (record v { network = after; last = written }) case) verdicts c old new made holds

@@ -1,5 +1,5 @@
 -- When the network of a formula stands for the rows of a case, and what was taken of what its root gave out.
-use Rattle.std.specs.Prelude.{◌≡◌, ◌⊎◌, ℕ, ◌+◌, ◌-◌, ◌<◌, ◌≤◌, Bool, true, false, List, [], ◌∷◌, ◌++◌, length, map, take, drop, Option, Some, None}
+use Rattle.std.specs.Prelude.{◌≡◌, ℕ, ◌+◌, ◌-◌, ◌<◌, ◌≤◌, Bool, true, false, List, [], ◌∷◌, ◌++◌, length, map, take, drop, Option, Some, None}
 use Rattle.stl_syntax.specs.Formula.{Formula, horizon, root}
 use Rattle.stl_syntax.specs.Trace.{Header, Row, Trace}
 use Rattle.atom_lines.specs.Rows.{row_of}
@@ -15,7 +15,8 @@ use Rattle.report.specs.Appended.{Grew}
 use Rattle.trace_stream.specs.Cases.{IsCase}
 use Rattle.trace_stream.specs.Streams.{verdicts, StreamText}
 use Rattle.trace_stream.specs.declared.case.Case.{Case}
-use Rattle.verdict_stream.specs.declared.verdicts.Network.{Network}
+use Rattle.verdict_stream.specs.declared.watcher.Network.{Network}
+use Rattle.verdict_stream.specs.declared.watcher.Watcher.{Watcher}
 use Rattle.verdict_stream.specs.declared.verdicts.Verdicts.{Verdicts}
 
 -- the truth of the first of the verdicts
@@ -25,7 +26,7 @@ first_truth (v ∷ vs) = Some v.holds
 
 -- the network stands for the run that a stream of the case's rows drives, with their end where they have ended; the truth of the first
 -- verdict that the root gave out is kept; and no text is owed
-pub record IsWatched (ended : Bool) (v : Verdicts) (c : Case) : Type 0 where
+pub record IsWatched (ended : Bool) (v : Watcher) (c : Case) : Type 0 where
   pub formula : v.network.formula ≡ c.formula
   pub horizon : v.horizon ≡ horizon (root c.formula.nodes)
   pub events : List Event
@@ -45,7 +46,7 @@ pub record IsFed (nodes : List Node) (header : Header) (before more : List Row) 
 
 -- the network took all the case's rows; after the first of them the text was made, and no node stepped since; of the others, which are few,
 -- the times are kept. The root is no atom, so that it gave out nothing for them
-pub record IsOwing (v : Verdicts) (c : Case) (made : List ℕ) : Type 0 where
+pub record IsOwing (v : Watcher) (c : Case) (made : List ℕ) : Type 0 where
   pub fits : (f : Formula) × IsCase f c
   pub formula : v.network.formula ≡ c.formula
   pub horizon : v.horizon ≡ horizon (root c.formula.nodes)
@@ -65,10 +66,9 @@ pub record IsOwing (v : Verdicts) (c : Case) (made : List ℕ) : Type 0 where
   pub none_pending : v.pending ≡ []
   pub told : StreamText verdicts (root c.formula.nodes) c.trace.header before false made
 
--- the block has the last row of the trace alone, or no row
-pub record KeepsLast (block t : Trace) : Type 0 where
-  pub header : block.header ≡ t.header
-  pub rows : (block.rows ≡ []) ⊎ ((before : List Row) × (r : Row) × (block.rows ≡ r ∷ []) × (t.rows ≡ before ++ r ∷ []))
+-- whatever text was made
+abbrev pub Watches : Bool → Watcher → Case → List ℕ → Type 0
+Watches ended w c made = IsWatched ended w c
 
 -- row `at` of the block is the last row of the trace
 pub record IsLastAt (block : Trace) (at : ℕ) (t : Trace) : Type 0 where
@@ -76,21 +76,25 @@ pub record IsLastAt (block : Trace) (at : ℕ) (t : Trace) : Type 0 where
   pub before : List Row
   pub rows : t.rows ≡ before ++ row_of block at ∷ []
 
--- the network stands for the rows so far
+-- a trace with its last row alone; with no row, where it has none
+abbrev pub last_alone : Trace → Trace
+last_alone t = record t { rows = drop (length t.rows - 1) t.rows }
+
+-- the block is the last row of the trace
+abbrev pub KeepsLast : Trace → Trace → Type 0
+KeepsLast block t = block ≡ last_alone t
+
+-- the network stands for the rows so far, and the last of them is kept
 abbrev pub WatchesRows : Verdicts → Case → List ℕ → Type 0
-WatchesRows v c made = IsWatched false v c
+WatchesRows v c made = IsWatched false v.watcher c × KeepsLast v.block c.trace
 
--- and the last of them is kept
-abbrev pub KeepsRows : Verdicts → Case → List ℕ → Type 0
-KeepsRows v c made = IsWatched false v c × KeepsLast v.block c.trace
-
--- the text of some rows is owed, and the last of the rows is kept
-abbrev pub OwesRows : Verdicts → Case → List ℕ → Type 0
-OwesRows v c made = IsOwing v c made × KeepsLast v.block c.trace
+-- so it is while the text of some rows is owed
+abbrev pub WatchesOwing : Verdicts → Case → List ℕ → Type 0
+WatchesOwing v c made = IsOwing v.watcher c made × KeepsLast v.block c.trace
 
 -- the network stands for all rows and their end
 abbrev pub WatchesEnd : Verdicts → Case → List ℕ → Type 0
-WatchesEnd v c made = IsWatched true v c
+WatchesEnd v c made = IsWatched true v.watcher c
 
 -- a run of a network, what its root gave out in it, and how many of these verdicts were taken
 pub record Pass : Type 0 where

@@ -4,5 +4,6 @@
 
 mod pending;
 mod verdicts;
+mod watcher;
 
 pub use verdicts::Verdicts;

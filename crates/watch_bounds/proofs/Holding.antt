@@ -80,7 +80,7 @@ stands_late false l p = omega (arith, ints)
 
 pub watch_holds_few : WatchHoldsFew
 watch_holds_few v c ended w =
-    together nodes header w.events v.network.net (pos (last_time 0 c.trace.rows)) (last_rows (looks_over (root nodes)) c.trace.rows) w.stands
+    together nodes header w.events v.watcher.network.net (pos (last_time 0 c.trace.rows)) (last_rows (looks_over (root nodes)) c.trace.rows) w.stands
     (driven_emptied nodes header w.driven) (by_rows c.trace.rows refl)
   where
     nodes : List Node
@@ -143,7 +143,7 @@ fed_rows nodes header {before} {base} since d = (rows_at nodes header (state nod
 
 pub watch_owes_few : WatchOwesFew
 watch_owes_few v c made o =
-    together nodes header o.events v.network.net (pos (last_time 0 o.before)) N o.stands
+    together nodes header o.events v.watcher.network.net (pos (last_time 0 o.before)) N o.stands
     (subst (IsEmptied nodes header) (sym events_are) emptied) (by_before o.before refl)
   where
     nodes : List Node

@@ -40,12 +40,12 @@ held_in_all e = total (λ i. length (held_at e i)) (length e.edges)
 -- once its nodes have stepped, and after the end, a watch holds at most so many verdicts for each row of the last ticks, and for one row more
 abbrev pub WatchHoldsFew : Type 0
 WatchHoldsFew =
-    (v : Verdicts) (c : Case) (ended : Bool) → IsWatched ended v c
-    → held_in_all v.network.net.edges ≤ all_for_a_row c.formula.nodes * suc (last_rows (looks_over (root c.formula.nodes)) c.trace.rows)
+    (v : Verdicts) (c : Case) (ended : Bool) → IsWatched ended v.watcher c
+    → held_in_all v.watcher.network.net.edges ≤ all_for_a_row c.formula.nodes * suc (last_rows (looks_over (root c.formula.nodes)) c.trace.rows)
 
 -- while rows wait for a step, it holds at most so many for each row of the last ticks before, and for each row that came since
 abbrev pub WatchOwesFew : Type 0
 WatchOwesFew =
-    (v : Verdicts) (c : Case) (made : List ℕ) → (o : IsOwing v c made)
-    → held_in_all v.network.net.edges
+    (v : Verdicts) (c : Case) (made : List ℕ) → (o : IsOwing v.watcher c made)
+    → held_in_all v.watcher.network.net.edges
     ≤ all_for_a_row c.formula.nodes * suc (last_rows (looks_over (root c.formula.nodes)) o.before + suc (length o.more))

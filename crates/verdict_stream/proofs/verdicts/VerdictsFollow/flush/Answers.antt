@@ -1,63 +1,18 @@
-use Rattle.std.proofs.Common.{[], length, false, sym, ap, ◌∙◌, subst, append-nil}
-use Rattle.std.specs.Prelude.{◌==◌}
-use Rattle.std.proofs.lemmas.Bool.{false≢true}
-use Rattle.trace_stream.specs.Following.{Follows}
-use Rattle.trace_stream.specs.Streams.{verdicts}
-use Rattle.verdict_stream.specs.Watching.{IsWatched}
+use Rattle.std.proofs.lemmas.Result.{IfOk-weaker}
+use Rattle.std.proofs.Common.{◌++◌}
 use Rattle.verdict_stream.specs.declared.verdicts.Verdicts.{Verdicts}
-use Rattle.verdict_stream.proofs.Owing.{OwesNoMore, owing_places, owing_steps, owing_passing, owing_can, owing_followed, Before}
-use Rattle.verdict_stream.proofs.Opening.{empty_of, none_owed, some_owed}
+use Rattle.verdict_stream.proofs.Opening.{keeping_opened, keeping_last, keeps_made}
 use Rattle.verdict_stream.proofs.verdicts.VerdictsFollow.flush.Goals as goal
 
-pub returns-then-is_empty : goal.returns-then-is_empty
-returns-then-is_empty c = λ case made opened. (
-  [],
-  sym (append-nil c.args.text.now),
-  subst (λ m. Follows (λ case text. IsWatched false c.args.self.now case) verdicts case m) (sym (append-nil made))
-      (none_owed c.args.self.now case made opened
-      (empty_of c.args.self.now.times.items c.args.self.now.times.len c.args.self.now.times.ok.0 (sym c.is_empty.ensures ∙ c.if-is_empty.true))),
-)
-
-pub step_all-requires : goal.step_all-requires
-step_all-requires c =
-    let (case, made, opened) = c.requires in
-    let v = c.args.self.now in
-    owing_places v case made (some_owed v case made opened
-    (λ e. false≢true (sym c.if-is_empty.false ∙ c.is_empty.ensures ∙ ap (λ n. n == 0) (v.times.ok.0 ∙ ap length e))))
-
-pub give_all-requires : goal.give_all-requires
-give_all-requires c =
-    let (case, made, opened) = c.requires in
-    let v = c.args.self.now in
-    let o = some_owed v case made opened
-    (λ e. false≢true (sym c.if-is_empty.false ∙ c.is_empty.ensures ∙ ap (λ n. n == 0) (v.times.ok.0 ∙ ap length e))) in
-    let st = owing_steps v case made o c.step_all.new.self.net (λ header events s. c.in_ok-step_all.ensures.stands header events s) in
-    let x = owing_passing v case made o c.step_all.new.self.net st in
-    (Before v case made o x, owing_can v case made o x c.step_all.new.self st c.step_all.ensures.start)
+pub make_owed-requires : goal.make_owed-requires
+make_owed-requires c = let (case, made, opened) = c.requires in (case, made, keeping_opened c.args.self.now case made opened)
 
 pub returns : goal.returns
 returns c = λ case made opened.
     let v = c.args.self.now in
-    let o = some_owed v case made opened
-    (λ e. false≢true (sym c.if-is_empty.false ∙ c.is_empty.ensures ∙ ap (λ n. n == 0) (v.times.ok.0 ∙ ap length e))) in
-    let st = owing_steps v case made o c.step_all.new.self.net (λ header events s. c.in_ok-step_all.ensures.stands header events s) in
-    let x = owing_passing v case made o c.step_all.new.self.net st in
-    let can = owing_can v case made o x c.step_all.new.self st c.step_all.ensures.start in
-    let (grown, lines, longer) = c.in_ok-put_rows.ensures.lines in
-    let put = c.put_rows.new.self in
-    let after : Verdicts = record {
-      network = put.network;
-      horizon = put.horizon;
-      times = c.clear.new.self;
-      pending = c.clear-2.new.self;
-      last = put.last;
-    } in
-    let left_off : OwesNoMore v c.give_all.new.self after = record {
-      network = c.put_rows.ensures.network;
-      formula = c.give_all.ensures.formula ∙ c.step_all.ensures.formula;
-      horizon = c.put_rows.ensures.horizon;
-      times = c.clear.ensures.items;
-      pending = c.clear-2.ensures;
-    } in
-    owing_followed v case made o left_off x c.give_all.new.pending put.pending c.args.text.now c.put_rows.new.text grown
-    (c.in_ok-give_all.ensures.given (Before v case made o x) can) lines longer
+    IfOk-weaker c.make_owed.result _ _
+    (λ u h.
+    let (grown, is, follows) = h in
+    let after : Verdicts = record { watcher = c.make_owed.new.self; block = v.block } in
+    (grown, is, keeps_made after case (made ++ grown) follows (keeping_last v case made opened)))
+    (c.make_owed.ensures case made (keeping_opened v case made opened))
