@@ -21,3 +21,4 @@ pub mod Kinds
 pub mod Answering
 pub mod Belonging
 pub mod Stepping
+pub mod Lengthening

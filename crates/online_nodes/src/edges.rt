@@ -9,6 +9,7 @@ ghost use Rattle.std.specs.Prelude.{IfOk, IsOk, OnOk, OnErr, None, Some, ℕ, ma
 ghost use Rattle.online_nodes.specs.Queues.{edge_of, IsQueue};
 ghost use Rattle.online_nodes.specs.Held.{edge_at, fresh_at, held_at, joining, no_edge, number_at, with_edge, with_more, with_number};
 ghost use Rattle.online_nodes.specs.Held.{with_read, without, HasMore, IsDroppedBy};
+ghost use Rattle.online_nodes.specs.Lengthening.{CanLengthen};
 
 use crate::queue::Queue;
 use frac128::Memory;
@@ -108,6 +109,7 @@ impl Edges {
     pub fn extend(&mut self, edge: u32, piece: Verdict) -> Result<(), Memory>
         requires { edge < length self.old.edges }
         ensures put { OnOk result (HasMore (edge_at self.old edge) (edge_at self.new edge) (piece ∷ [])) }
+        ensures lengthens { CanLengthen (edge_at self.old edge) piece → OnOk result (length (fresh_at self.new edge) ≡ length (fresh_at self.old edge)) }
         ensures others { OnOk result (self.new.edges ≡ with_edge self.old edge (edge_at self.new edge)) }
         ensures start { self.new.start ≡ self.old.start }
         ensures falls_by_one { OnOk result (self.old.spare ≤ self.new.spare + 1) }

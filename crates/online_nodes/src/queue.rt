@@ -5,6 +5,7 @@ ghost use Rattle.std.specs.Prelude.{◌≡◌, ◌+◌, ◌-◌, ◌<◌, ◌≤
 ghost use Rattle.rational.specs.Rational.{◌≤ʳ◌};
 ghost use Rattle.frac128.specs.Value.{value};
 ghost use Rattle.online_nodes.specs.Held.{held_of, joining, no_edge, with_more, with_number, with_read, without, GoesOn, HasMore, IsDroppedBy};
+ghost use Rattle.online_nodes.specs.Lengthening.{CanLengthen};
 
 use frac128::{Frac, Memory};
 use std::alloc::Global;
@@ -54,6 +55,7 @@ impl Queue {
     pub(crate) fn extend(&mut self, piece: Verdict) -> Result<(), Memory>
         requires { IsQueue 0 self.old }
         ensures put { OnOk result (HasMore (edge_of self.old) (edge_of self.new) (piece ∷ [])) }
+        ensures lengthens { CanLengthen (edge_of self.old) piece → OnOk result (length (edge_of self.new).fresh ≡ length (edge_of self.old).fresh) }
         ensures less { (spare : ℕ) → IsQueue spare self.old → OnOk result (IsQueue (spare - 1) self.new) }
         ensures had_room { (spare : ℕ) → IsQueue spare self.old → 0 < spare → IsOk result }
         ensures memory { OnErr result (edge_of self.new ≡ edge_of self.old) }
@@ -86,12 +88,14 @@ impl Queue {
         Ok(())
     }
 
-    /// Lengthens the last verdict, where neighbours are joined and that one was not read, by one that goes on from it. False where there
-    /// is none, and then nothing changes.
+    /// Lengthens the last verdict, where neighbours are joined and that one was not read, by one that goes on from it. False where it does
+    /// not, and then nothing changes.
     #[inline(always)]
     fn lengthen(&mut self, piece: &Verdict) -> bool
         requires { IsQueue 0 self.old }
         ensures more { IsTrue result → HasMore (edge_of self.old) (edge_of self.new) (piece.now ∷ []) }
+        ensures no_longer { IsTrue result → length (edge_of self.new).fresh ≡ length (edge_of self.old).fresh }
+        ensures cannot { result ≡ false → ¬ CanLengthen (edge_of self.old) piece.now }
         ensures same { result ≡ false → self.new ≡ self.old }
         ensures kept { (spare : ℕ) → IsQueue spare self.old → IsQueue spare self.new }
     {
@@ -229,7 +233,7 @@ impl Queue {
 /// Whether the second verdict goes on from the first: it begins where that ends, and has its truth.
 #[inline(always)]
 fn goes_on(first: &Verdict, second: &Verdict) -> bool
-    ensures { IsTrue result → GoesOn first.now second.now }
+    ensures { IsTrue result ↔ GoesOn first.now second.now }
 {
     first.holds == second.holds
         && first.on.to_in != second.on.from_in

@@ -1,6 +1,7 @@
-use Rattle.std.proofs.Common.{[], ◌∷◌, ◌≡◌, ap, get_or, set, map, sym, subst, ◌∙◌}
+use Rattle.std.proofs.Common.{[], ◌∷◌, ◌≡◌, ap, get_or, length, set, map, sym, subst, ◌∙◌}
 use Rattle.std.proofs.lemmas.List.{get_or-set_same, map-set}
 use Rattle.online_nodes.specs.Held.{Edge, HasMore, no_edge}
+use Rattle.online_nodes.specs.Lengthening.{CanLengthen}
 use Rattle.online_nodes.specs.Queues.{edge_of}
 use Rattle.online_nodes.proofs.QueueLemmas.{edge_at_queue, queue_at, queue_same, queues_room}
 use Rattle.online_nodes.proofs.edges.Edges.extend.Goals as goal
@@ -25,6 +26,20 @@ returns-in-Ok-clause-put c =
     edge_at_queue qs i c.index_mut.result.now within c.index_mut.ensures.value in
     rw (← c.self.view_is) (subst (λ (x : Edge). HasMore x (get_or (map edge_of (set qs i next)) i no_edge) (c.args.piece ∷ [])) (sym before)
     (subst (λ (x : Edge). HasMore (edge_of c.index_mut.result.now) x (c.args.piece ∷ [])) (sym after) c.in-Ok.ensures.put))
+
+pub returns-in-Ok-clause-lengthens : goal.returns-in-Ok-clause-lengthens
+returns-in-Ok-clause-lengthens c can =
+    let within = rw (← c.self.view_is) at c.requires in
+    let qs = c.self.inside.queues.items in
+    let i = c.args.edge in
+    let next = c.extend.new.self in
+    let after : get_or (map edge_of (set qs i next)) i no_edge ≡ edge_of next =
+    ap (λ es. get_or es i no_edge) (map-set edge_of qs i next) ∙ get_or-set_same (map edge_of qs) i (edge_of next) no_edge within in
+    let before : get_or (map edge_of qs) i no_edge ≡ edge_of c.index_mut.result.now =
+    edge_at_queue qs i c.index_mut.result.now within c.index_mut.ensures.value in
+    rw (← c.self.view_is) (ap (λ (x : Edge). length x.fresh) after
+    ∙ c.in-Ok.ensures.lengthens (subst (λ (x : Edge). CanLengthen x c.args.piece) before (rw (← c.self.view_is) at can))
+    ∙ ap (λ (x : Edge). length x.fresh) (sym before))
 
 pub returns-in-Ok-clause-others : goal.returns-in-Ok-clause-others
 returns-in-Ok-clause-others c =

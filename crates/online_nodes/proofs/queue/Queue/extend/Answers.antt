@@ -18,6 +18,9 @@ returns-clause-put c =
     (sym (subst (λ (q : Queue). edge_of c.put.new.self ≡ with_more (edge_of q) (c.args.piece ∷ [])) same e)) (more_given old (c.args.piece ∷ [])))
     c.put.ensures.put
 
+pub returns-clause-lengthens : goal.returns-clause-lengthens
+returns-clause-lengthens c = λ can. absurd (c.lengthen.ensures.cannot c.if-lengthen.false can)
+
 pub returns-clause-had_room : goal.returns-clause-had_room
 returns-clause-had_room c = λ spare h some.
     let same : c.lengthen.new.self ≡ c.args.self.now = c.lengthen.ensures.same c.if-lengthen.false in
