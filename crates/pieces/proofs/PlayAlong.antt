@@ -1,15 +1,21 @@
--- What is in play in a step over one function is in play in the step over another that agrees with it on the domain.
+-- What is in play in a step over one function is in play in the step over another that agrees with it on the domain; and so for causes.
 use Rattle.std.proofs.Common.{◌≡◌, ◌⊎◌, inl, inr, ℕ, ℤ, pos, Bool, true}
 use Rattle.std.specs.Prelude.{Option, IfSome}
 use Rattle.rational.specs.Time.{Rational, shifted, ◌<ʳ◌, ◌≈◌}
 use Rattle.rational.specs.Extended.{Affine}
 use Rattle.rational.specs.Windows.{Function, Window, Ahead, Behind}
 use Rattle.rational.specs.InPlay.{IsBreakpoint, start, stop, inner, IsLeftLimit, IsRightLimit, of_two, window_ahead}
-use Rattle.rational.specs.InPlay.{window_behind, until_end, since_start, IsEndBehind, IsEndPart, IsValueWithin}
+use Rattle.rational.specs.InPlay.{Step, window_behind, until_end, since_start, IsEndBehind, IsEndPart, IsValueWithin}
 use Rattle.rational.specs.InPlay.{IsLimitWithin, IsNext, IsPrevious, IsCrossing, IsInPlay, IsWideCrossing, IsWideValue}
 use Rattle.rational.proofs.Order.{lt_of_le_of_lt, lt_of_lt_of_le, lt_trans, le_of_same, ge_of_same, same_trans}
-use Rattle.offline_eval.proofs.Along.{within_same_ends}
-use Rattle.offline_eval.proofs.Stretches.{IsOn, line_along, part_along, breakpoint_along, left_along, right_along, AreAlike, left_within, right_within}
+use Rattle.frac128.specs.Value.{value}
+use Rattle.value_laws.specs.Members.{ShapeOf}
+use Rattle.pl_signal.specs.declared.faults.WidePair.TheVariants.{Cross, Value}
+use Rattle.pl_signal.specs.declared.faults.OpFault.{OpFault}
+use Rattle.pl_signal.specs.declared.faults.OpFault.TheVariants as F
+use Rattle.pl_signal.specs.Wide.{HasCause}
+use Rattle.pieces.proofs.Stretches.{IsOn, line_along, part_along, breakpoint_along, left_along, right_along, AreAlike, left_within, right_within}
+use Rattle.pieces.proofs.Stretches.{within_same_ends}
 
 module _ (from to from' to' : Rational) (begins : from ≈ from') (ends : to ≈ to') where
   -- a window ahead does not depend on the pairs of the domain
@@ -185,3 +191,11 @@ value_along along p u den w = record {
   denominator = w.denominator;
   wide = w.wide;
 }
+
+-- so for a fault
+pub cause_along : {P : Type 0} (shape : ShapeOf P) (step other : Step) (from to from' to' : Rational) (e : OpFault P)
+    → GoesAlong (IsInPlay step from to) (IsInPlay other from' to') from to from' to' → HasCause shape step from to e → HasCause shape other from' to' e
+cause_along shape step other from to from' to' F.Memory along h = tt
+cause_along shape step other from to from' to' (F.Wide (Cross p q a b den)) along h =
+    crossing_along along (shape.function p) (shape.function q) (value a) (value b) den h
+cause_along shape step other from to from' to' (F.Wide (Value p at den)) along h = value_along along (shape.function p) (value at) den h

@@ -4,7 +4,12 @@ use Rattle.rational.specs.Time.{Rational, Within, ◌≤ʳ◌, ◌<ʳ◌, ◌≈
 use Rattle.rational.specs.Extended.{Extended, Affine}
 use Rattle.rational.specs.Windows.{Function}
 use Rattle.rational.specs.InPlay.{IsLineOn, IsPart, IsBreakpoint, start, stop, inner, IsLeftLimit, IsRightLimit}
-use Rattle.rational.proofs.Order.{le_or_lt, lt_or_same_or_gt, le_trans, le_of_lt, le_refl, lt_of_le_of_lt, lt_of_lt_of_le, same_sym, not_lt_of_le}
+use Rattle.rational.proofs.Order.{le_or_lt, lt_or_same_or_gt, le_trans, le_of_lt, le_of_same, ge_of_same, le_refl, lt_of_le_of_lt, lt_of_lt_of_le, same_sym}
+use Rattle.rational.proofs.Order.{not_lt_of_le}
+
+-- a domain does not depend on the pairs of its ends
+pub within_same_ends : {from from' to to' t : Rational} → from ≈ from' → to ≈ to' → Within from to t → Within from' to' t
+within_same_ends b e w = record { above = le_trans (ge_of_same b) w.above; below = le_trans w.below (le_of_same e) }
 
 -- a time that is later than neither is the later of the two
 record IsLaterOf (a b c : Rational) : Type 0 where
