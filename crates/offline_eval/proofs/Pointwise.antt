@@ -16,8 +16,9 @@ use Rattle.pl_signal.specs.declared.faults.OpFault.TheVariants as F
 use Rattle.pl_signal.specs.Wide.{HasCause}
 use Rattle.stl_syntax.specs.Formula.{negation, conjunction, disjunction, implication}
 use Rattle.stl_syntax.specs.SupInf.{SupInf}
+use Rattle.pieces.specs.Negating.{Negated}
 pub use Rattle.pieces.proofs.SignalChains.{err_same}
-use Rattle.signal_ops.specs.Pointwise.{Negated, LeastOf, GreatestOf}
+use Rattle.signal_ops.specs.Pointwise.{LeastOf, GreatestOf}
 use Rattle.offline_eval.specs.Forms.{Form}
 use Rattle.offline_eval.specs.Making.{StaysSound, StaySound, TellsOne, TellsTwo, FaultOfTwo}
 use Rattle.offline_eval.proofs.Along.{tells_along}

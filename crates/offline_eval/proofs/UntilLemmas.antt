@@ -15,7 +15,7 @@ use Rattle.value_laws.specs.Members.{ShapeLaws}
 use Rattle.pl_signal.specs.declared.faults.OpFault.{OpFault}
 use Rattle.pl_signal.specs.Wide.{HasCause}
 use Rattle.signal_ops.specs.Pointwise.{LeastOf}
-use Rattle.window_ops.specs.Windows.{SupAhead, InfAhead, SupBehind, InfBehind}
+use Rattle.pieces.specs.Windows.{SupAhead, InfAhead, SupBehind, InfBehind}
 use Rattle.rational.specs.UntilParts.{HasUntilToEnd, HasSinceFromStart, UntilIsComposed, SinceIsComposed}
 use Rattle.stl_syntax.specs.Formula.{Subformula, until, since}
 use Rattle.stl_syntax.specs.SupInf.{Setting, SupInf}

@@ -12,7 +12,7 @@ use Rattle.rational.proofs.Shift.{lt_whole}
 use Rattle.rational.proofs.WindowLemmas.{sup_alike, inf_alike}
 use Rattle.pl_signal.specs.declared.faults.OpFault.{OpFault}
 use Rattle.pl_signal.specs.Wide.{HasCause}
-use Rattle.window_ops.specs.Windows.{SupAhead, InfAhead, SupBehind, InfBehind}
+use Rattle.pieces.specs.Windows.{SupAhead, InfAhead, SupBehind, InfBehind}
 use Rattle.stl_syntax.specs.Formula.{Subformula}
 use Rattle.stl_syntax.specs.SupInf.{Setting}
 use Rattle.stl_syntax.specs.WideCause.{IsStepOf}
