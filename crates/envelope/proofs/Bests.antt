@@ -1,6 +1,5 @@
 -- The better of two values, and the best of what counts.
-use Rattle.std.proofs.Common.{◌≡◌, ◌⊎◌, inl, inr, Option, None, Some, Result, Ok, Err, refl, sym, ap, ◌∙◌, subst, List}
-use Rattle.std.specs.Prelude.{OnOk, MatchOption}
+use Rattle.std.proofs.Common.{◌≡◌, ◌⊎◌, inl, inr, None, Some, refl, sym, ap, ◌∙◌, subst, List}
 use Rattle.rational.specs.Time.{Rational, ◌≤ʳ◌, ◌<ʳ◌, ◌≈◌}
 use Rattle.rational.specs.Extended.{Extended, value_at, ◌≈ᵉ◌, Passes}
 use Rattle.rational.proofs.Order.{lt_trans, lt_of_lt_of_le, lt_of_le_of_lt, le_of_same, ge_of_same, same_refl, same_sym}
@@ -61,11 +60,6 @@ pub record IsBetter (side : Side) (x y v : Extended) : Type 0 where
 pub chosen_better : (side : Side) (x y v : Extended) → IsChosen side x y v → IsBetter side x y v
 chosen_better Greatest x y v h = record { left = h.left; right = h.right; one_of = h.one_of }
 chosen_better Least x y v h = record { left = h.left; right = h.right; one_of = h.one_of }
-
--- what is taken is no worse
-pub no_better_of_taken : (side : Side) (x y : Extended) → IsTaken side y x → IsNoBetter side x y
-no_better_of_taken Greatest x y h = h
-no_better_of_taken Least x y h = h
 
 -- and what is no worse may be taken
 pub taken_of_no_better : (side : Side) (x y : Extended) → IsNoBetter side x y → IsTaken side y x
@@ -392,58 +386,3 @@ module _ {P : Type 0} (shape : ShapeOf P) where
     wide = h.wide;
   }
   fault_swapped p q r low high (Value a b den) h = absurd h
-
-  -- the best of the constant and of what there is of the two gaps, taken one after the other
-  pub best_at : (side : Side) (top : P) (low high : Option P) (t : Rational) (x y : P)
-      → MatchOption low (x ≡ top) (λ q. IsChosen side (value_at (shape.function top) t) (value_at (shape.function q) t) (value_at (shape.function x) t))
-      → MatchOption high (y ≡ x) (λ q. IsChosen side (value_at (shape.function x) t) (value_at (shape.function q) t) (value_at (shape.function y) t))
-      → (x ≡ top) ⊎ (low ≡ Some x) → (y ≡ x) ⊎ (high ≡ Some y)
-      → IsBestAt shape side (record { top = top; low = low; high = high }) t (value_at (shape.function y) t)
-  best_at side top low high t x y h k is_x is_y = record { bound = bound; one_of = (y, has is_y is_x, no_better_refl side (value_at (shape.function y) t)) }
-    where
-      to_y : (o : Option P) → MatchOption o (y ≡ x) (λ q. IsChosen side (value_at (shape.function x) t)
-          (value_at (shape.function q) t) (value_at (shape.function y) t)) → IsNoBetter side
-          (value_at (shape.function x) t) (value_at (shape.function y) t)
-      to_y None e = subst (λ z. IsNoBetter side (value_at (shape.function x) t) (value_at (shape.function z) t)) (sym e)
-          (no_better_refl side (value_at (shape.function x) t))
-      to_y (Some q) c = (chosen_better side (value_at (shape.function x) t) (value_at (shape.function q) t) (value_at (shape.function y) t) c).left
-
-      to_x : (o : Option P) → MatchOption o (x ≡ top) (λ q. IsChosen side (value_at (shape.function top) t)
-          (value_at (shape.function q) t) (value_at (shape.function x) t)) → IsNoBetter side
-          (value_at (shape.function top) t) (value_at (shape.function x) t)
-      to_x None e = subst (λ z. IsNoBetter side (value_at (shape.function top) t) (value_at (shape.function z) t))
-          (sym e) (no_better_refl side (value_at (shape.function top) t))
-      to_x (Some q) c = (chosen_better side (value_at (shape.function top) t) (value_at (shape.function q) t) (value_at (shape.function x) t) c).left
-
-      of_low : (o : Option P) → MatchOption o (x ≡ top) (λ q. IsChosen side (value_at (shape.function top) t)
-          (value_at (shape.function q) t) (value_at (shape.function x) t)) → (q : P) → o ≡ Some q → IsNoBetter side
-          (value_at (shape.function q) t) (value_at (shape.function x) t)
-      of_low None e q m = absurd (cc)
-      of_low (Some z) c q m = let e : z ≡ q = cc in subst (λ q. IsNoBetter side (value_at (shape.function q) t)
-          (value_at (shape.function x) t)) e (chosen_better side (value_at (shape.function top) t)
-          (value_at (shape.function z) t) (value_at (shape.function x) t) c).right
-
-      of_high : (o : Option P) → MatchOption o (y ≡ x) (λ q. IsChosen side (value_at (shape.function x) t)
-          (value_at (shape.function q) t) (value_at (shape.function y) t)) → (q : P) → o ≡ Some q → IsNoBetter side
-          (value_at (shape.function q) t) (value_at (shape.function y) t)
-      of_high None e q m = absurd (cc)
-      of_high (Some z) c q m = let e : z ≡ q = cc in subst (λ q. IsNoBetter side (value_at (shape.function q) t)
-          (value_at (shape.function y) t)) e (chosen_better side (value_at (shape.function x) t)
-          (value_at (shape.function z) t) (value_at (shape.function y) t) c).right
-
-      bound : (p : P) → Has (record { top = top; low = low; high = high }) p → IsNoBetter side (value_at (shape.function p) t) (value_at (shape.function y) t)
-      bound p (inl m) = subst (λ p. IsNoBetter side (value_at (shape.function p) t) (value_at (shape.function y) t)) (sym m)
-          (no_better_trans side (value_at (shape.function top) t) (value_at (shape.function x) t) (value_at (shape.function y) t) (to_x low h) (to_y high k))
-      bound p (inr (inl m)) = no_better_trans side (value_at (shape.function p) t) (value_at (shape.function x) t)
-          (value_at (shape.function y) t) (of_low low h p m) (to_y high k)
-      bound p (inr (inr m)) = of_high high k p m
-
-      has : (y ≡ x) ⊎ (high ≡ Some y) → (x ≡ top) ⊎ (low ≡ Some x) → Has (record { top = top; low = low; high = high }) y
-      has (inr e) _ = inr (inr e)
-      has (inl e) (inl f) = inl (e ∙ f)
-      has (inl e) (inr f) = inr (inl (f ∙ ap Some (sym e)))
-
--- what follows from two facts about a success holds on success
-pub on_two : {T E A B C : Type 0} (r : Result T E) → (A → B → C) → OnOk r A → OnOk r B → OnOk r C
-on_two (Ok x) f a b = f a b
-on_two (Err e) f a b = a

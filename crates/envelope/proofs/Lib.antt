@@ -1,16 +1,2 @@
-pub mod TurnOrder
 pub mod Bests
-pub mod Trends
-pub mod SoFarLemmas
-pub mod Standings
-pub mod AfterTurn
-pub mod Sliding
-pub mod Admitting
-pub mod Rows
 pub mod Leaving
-pub mod Admitted
-pub mod PieceTaken
-pub mod Climbing
-pub mod Faulting
-pub mod Walks
-pub mod Hiding

@@ -1,5 +1,2 @@
 pub mod Turns
 pub mod Best
-pub mod SoFar
-pub mod Standing
-pub mod Walking

@@ -1,14 +1,14 @@
 //! What counts at a time, and a signal that goes on with it.
-ghost use Rattle.std.specs.Prelude.{◌≡◌, ◌⊎◌, ◌^◌, IsTrue, None, Some, OnOk, OnErr, IfSome, MatchOption};
+ghost use Rattle.std.specs.Prelude.{◌≡◌, ◌^◌, None, Some, false, OnOk, OnErr, IfSome};
 ghost use Rattle.rational.specs.Rational.{IsWithin};
-ghost use Rattle.rational.specs.Time.{◌<ʳ◌};
-ghost use Rattle.rational.specs.Extended.{value_at};
-ghost use Rattle.rational.specs.Affine.{AreSame, HasBoundedLevel};
+ghost use Rattle.rational.specs.Time.{Rational, ◌<ʳ◌};
+ghost use Rattle.rational.specs.Extended.{value_at, ◌≈ᵉ◌};
+ghost use Rattle.rational.specs.Affine.{HasBoundedLevel};
 ghost use Rattle.frac128.specs.Value.{value};
-ghost use Rattle.pl_signal.specs.Joining.{IsChosen, TurnsOver};
+ghost use Rattle.pl_signal.specs.Joining.{TurnsOver};
 ghost use Rattle.pl_signal.specs.Knots.{stop};
-ghost use Rattle.envelope.specs.Best.{Has, IsBestAt, IsBestFault, IsWritten};
-ghost use Rattle.envelope.specs.Turns.{IsNoBetter};
+ghost use Rattle.envelope.specs.Best.{Has, IsBestFault, IsWritten};
+ghost use Rattle.envelope.specs.Turns.{IsNoBetter, none_of};
 
 use frac128::{Frac, Memory};
 use pl_signal::{Builder, Side, WidePair, chosen, crossing, favour, keep};
@@ -23,41 +23,14 @@ pub struct Best<P> {
     pub high: Option<P>,
 }
 
-impl<P: Shape> Best<P> {
-    /// The shape with the best value at `t` of what counts.
-    #[inline(never)]
-    pub(crate) fn at(&self, side: Side, t: &Frac) -> &P
-        requires { IsWithin (2 ^ 34) (value t.now) }
-        ensures one { Has self.now result.now }
-        ensures value { IsBestAt P.Shape side self.now (value t.now) (value_at (P.function result.now) (value t.now)) }
-    {
-        let best = or_better(side, &self.top, &self.low, t);
-        or_better(side, best, &self.high, t)
-    }
-
-    /// Whether the constant alone counts, and has this function.
-    #[inline(always)]
-    pub(crate) fn is_only(&self, shape: &P) -> bool
-        ensures alone { IsTrue result → (self.now.low ≡ None) × (self.now.high ≡ None) }
-        ensures same { IsTrue result → AreSame (P.function self.now.top) (P.function shape.now) }
-    {
-        self.low.is_none() && self.high.is_none() && P::same(&self.top, shape)
-    }
-}
-
-/// The better of the two at `t`, or the first where there is no second.
-fn or_better<'a, P: Shape>(side: Side, p: &'a P, other: &'a Option<P>, t: &Frac) -> &'a P
-    requires { IsWithin (2 ^ 34) (value t.now) }
-    ensures one { (result.now ≡ p.now) ⊎ (other.now ≡ Some result.now) }
-    ensures value { MatchOption other.now (result.now ≡ p.now)
-        (λ q. IsChosen side (value_at (P.function p.now) (value t.now)) (value_at (P.function q) (value t.now)) (value_at (P.function result.now) (value t.now))) }
+/// What the Sup or the Inf of no values is: the least of the type for the Sup, the greatest for the Inf.
+pub fn of_none<P: Shape>(side: Side) -> P
+    ensures value { (t : Rational) → value_at (P.function result) t ≈ᵉ none_of side P.lowest P.highest }
+    ensures still { P.moves result ≡ false }
 {
-    match other {
-        Some(q) => match favour(side, p, q, t) {
-            Ordering::Greater => q,
-            _ => p,
-        },
-        None => p,
+    match side {
+        Side::Greatest => P::least(),
+        Side::Least => P::greatest(),
     }
 }
 

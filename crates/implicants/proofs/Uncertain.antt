@@ -20,7 +20,7 @@ use Rattle.pl_signal.specs.Knots.{start, stop, IsSignal, IsWorth}
 use Rattle.pl_signal.specs.Moves.{Tells}
 use Rattle.pl_signal.proofs.Limits.{limited}
 use Rattle.pl_signal.proofs.Values.{to_stop}
-use Rattle.signal_ops.specs.Pointwise.{Negated}
+use Rattle.pieces.specs.Negating.{Negated}
 use Rattle.stl_syntax.specs.Trace.{Trace}
 use Rattle.stl_syntax.specs.Trace as trace
 use Rattle.stl_syntax.specs.Formula.{subformula}

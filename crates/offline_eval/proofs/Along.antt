@@ -3,16 +3,13 @@ use Rattle.rational.specs.Time.{Rational, Within, ◌≈◌}
 use Rattle.rational.specs.Extended.{Extended}
 use Rattle.rational.specs.Windows.{Function}
 use Rattle.rational.proofs.Order.{le_trans, le_of_same, ge_of_same, same_trans}
+use Rattle.pieces.proofs.Stretches.{within_same_ends}
 use Rattle.offline_eval.specs.Forms.{Form}
 use Rattle.offline_eval.proofs.Forms.{FormLaws, IsTold}
 
 -- the functions are one between the two times
 abbrev pub AgreeOn : Rational → Rational → Function → Function → Type 0
 AgreeOn from to F G = (t : Rational) (v : Extended) → Within from to t → (F t v → G t v) × (G t v → F t v)
-
--- a domain does not depend on the pairs of its ends
-pub within_same_ends : {from from' to to' t : Rational} → from ≈ from' → to ≈ to' → Within from to t → Within from' to' t
-within_same_ends b e w = record { above = le_trans (ge_of_same b) w.above; below = le_trans w.below (le_of_same e) }
 
 module _ {X P : Type 0} {form : Form X P} (laws : FormLaws form) where
   -- a signal that tells the one tells the other

@@ -13,12 +13,11 @@ use Rattle.pl_signal.specs.Wide.{HasCause}
 use Rattle.stl_syntax.specs.Formula.{Subformula}
 use Rattle.stl_syntax.specs.SupInf.{Setting}
 use Rattle.stl_syntax.specs.WideCause.{IsStepOf}
+use Rattle.pieces.proofs.PlayAlong.{crossing_along, value_along, of_two_along}
+use Rattle.pieces.proofs.Stretches.{IsOn, within_same_ends}
 use Rattle.offline_eval.specs.Forms.{Form}
 use Rattle.offline_eval.specs.Making.{IsFaultOf}
-use Rattle.offline_eval.proofs.Along.{within_same_ends}
 use Rattle.offline_eval.proofs.Forms.{FormLaws, IsTold}
-use Rattle.offline_eval.proofs.InPlay.{crossing_along, value_along, of_two_along}
-use Rattle.offline_eval.proofs.Stretches.{IsOn}
 
 -- a cause in a step that is one of the formula's is a fault of the formula
 pub cause_of : {P : Type 0} (shape : ShapeOf P) (step other : Step) (from to : Rational) (p : Subformula) (s : Setting) (e : OpFault P) → from ≈ s.from

@@ -9,8 +9,6 @@ pub mod Places
 pub mod Evaluating
 pub mod Never
 pub mod ToldHaveValues
-pub mod Stretches
-pub mod InPlay
 pub mod WindowLemmas
 pub mod Windowed
 pub mod UntilLemmas

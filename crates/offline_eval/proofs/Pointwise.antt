@@ -1,6 +1,6 @@
 -- Negation, and the least and the greatest of two, as formulas.
 use Rattle.std.proofs.Common.{◌≡◌, ◌⊎◌, ◌^◌, refl, sym, subst}
-use Rattle.std.specs.Prelude.{Result, IfOk, IfErr, IsErrAnd, IsTrue, Ok, Err}
+use Rattle.std.specs.Prelude.{Result, IfOk, IsTrue, Ok, Err}
 use Rattle.rational.specs.Time.{Rational, Within}
 use Rattle.rational.specs.Extended.{Extended, opposite, IsGreatest}
 use Rattle.rational.specs.Windows.{Function}
@@ -16,7 +16,9 @@ use Rattle.pl_signal.specs.declared.faults.OpFault.TheVariants as F
 use Rattle.pl_signal.specs.Wide.{HasCause}
 use Rattle.stl_syntax.specs.Formula.{negation, conjunction, disjunction, implication}
 use Rattle.stl_syntax.specs.SupInf.{SupInf}
-use Rattle.signal_ops.specs.Pointwise.{Negated, LeastOf, GreatestOf}
+use Rattle.pieces.specs.Negating.{Negated}
+pub use Rattle.pieces.proofs.SignalChains.{err_same}
+use Rattle.signal_ops.specs.Pointwise.{LeastOf, GreatestOf}
 use Rattle.offline_eval.specs.Forms.{Form}
 use Rattle.offline_eval.specs.Making.{StaysSound, StaySound, TellsOne, TellsTwo, FaultOfTwo}
 use Rattle.offline_eval.proofs.Along.{tells_along}
@@ -28,11 +30,6 @@ use Rattle.offline_eval.proofs.Sound.{limited_along, not_moved, stays_sound, sta
 pub ok_both : {A E : Type 0} (r : Result A E) {X Y Z : A → Type 0} → IfOk r X → IfOk r Y → ((a : A) → X a → Y a → Z a) → IfOk r Z
 ok_both (Ok a) x y f = f a x y
 ok_both (Err e) x y f = tt
-
--- what holds of the error that is handed on
-pub err_same : {A E : Type 0} (r : Result A E) (e : E) (X : E → Type 0) → IsErrAnd r (λ y. y ≡ e) → X e → IfErr r X
-err_same (Ok a) e X h x = absurd h
-err_same (Err y) e X h x = subst X (sym h) x
 
 module _ {X P : Type 0} {form : Form X P} (laws : FormLaws form) where
   -- minus a limited signal is bounded

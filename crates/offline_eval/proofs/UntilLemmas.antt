@@ -15,20 +15,20 @@ use Rattle.value_laws.specs.Members.{ShapeLaws}
 use Rattle.pl_signal.specs.declared.faults.OpFault.{OpFault}
 use Rattle.pl_signal.specs.Wide.{HasCause}
 use Rattle.signal_ops.specs.Pointwise.{LeastOf}
-use Rattle.window_ops.specs.Windows.{SupAhead, InfAhead, SupBehind, InfBehind}
+use Rattle.pieces.specs.Windows.{SupAhead, InfAhead, SupBehind, InfBehind}
 use Rattle.rational.specs.UntilParts.{HasUntilToEnd, HasSinceFromStart, UntilIsComposed, SinceIsComposed}
 use Rattle.stl_syntax.specs.Formula.{Subformula, until, since}
 use Rattle.stl_syntax.specs.SupInf.{Setting, SupInf}
 use Rattle.stl_syntax.specs.WideCause.{until_to_end, since_from_start, inf_ahead, sup_ahead, inf_behind, sup_behind}
+use Rattle.pieces.proofs.PlayAlong.{ahead_ends, behind_ends, until_along, since_along}
+use Rattle.pieces.proofs.Stretches.{AreAlike, IsOn, within_same_ends}
 use Rattle.offline_eval.specs.Forms.{Form}
 use Rattle.offline_eval.specs.Making.{HasEnds, IsFit, AreFit, IsFaultOf}
-use Rattle.offline_eval.proofs.Along.{within_same_ends, tells_along}
+use Rattle.offline_eval.proofs.Along.{tells_along}
 use Rattle.rational.proofs.Bounds.{sup_bounded, least_bounded}
 use Rattle.offline_eval.proofs.Causes.{cause_of, on_of, two_cause}
 use Rattle.offline_eval.proofs.Forms.{FormLaws, IsTold}
-use Rattle.offline_eval.proofs.InPlay.{ahead_ends, behind_ends, until_along, since_along}
 use Rattle.offline_eval.proofs.Sound.{BasesOfTwo, IsMovedBy, limited_along}
-use Rattle.offline_eval.proofs.Stretches.{IsOn, AreAlike}
 use Rattle.offline_eval.proofs.WindowLemmas.{inf_of, inf_over_bounded, ahead_cause, behind_cause}
 use Rattle.offline_eval.proofs.WindowLemmas.{sup_ahead_told, inf_ahead_told, sup_behind_told, inf_behind_told, ComesFrom}
 

@@ -12,12 +12,13 @@ use Rattle.rational.proofs.Shift.{lt_whole}
 use Rattle.rational.proofs.WindowLemmas.{sup_alike, inf_alike}
 use Rattle.pl_signal.specs.declared.faults.OpFault.{OpFault}
 use Rattle.pl_signal.specs.Wide.{HasCause}
-use Rattle.window_ops.specs.Windows.{SupAhead, InfAhead, SupBehind, InfBehind}
+use Rattle.pieces.specs.Windows.{SupAhead, InfAhead, SupBehind, InfBehind}
 use Rattle.stl_syntax.specs.Formula.{Subformula}
 use Rattle.stl_syntax.specs.SupInf.{Setting}
 use Rattle.stl_syntax.specs.WideCause.{IsStepOf}
 use Rattle.stl_syntax.specs.Limits.{reach_of_bound}
 use Rattle.stl_syntax.specs.WellFormed.{IsInOrder}
+use Rattle.pieces.proofs.PlayAlong.{ahead_ends, behind_ends, ahead_along, behind_along}
 use Rattle.offline_eval.specs.Forms.{Form}
 use Rattle.offline_eval.specs.Making.{IsFaultOf}
 use Rattle.offline_eval.proofs.Along.{tells_along}
@@ -25,7 +26,6 @@ use Rattle.rational.proofs.Bounds.{sup_bounded, inf_bounded}
 use Rattle.offline_eval.proofs.Causes.{cause_of, on_of}
 use Rattle.offline_eval.proofs.Forms.{FormLaws, IsTold}
 use Rattle.offline_eval.proofs.Sound.{IsMovedBy}
-use Rattle.offline_eval.proofs.InPlay.{ahead_ends, behind_ends, ahead_along, behind_along}
 
 -- what ends by the last tick ends before the tick after it
 pub before_end : {t : Rational} → t ≤ʳ whole (pos (2 ^ 32 - 1)) → t <ʳ whole (pos (2 ^ 32))

@@ -6,7 +6,7 @@ use Rattle.rational.specs.InPlay.{window_ahead, window_behind}
 use Rattle.value_laws.specs.Members.{ShapeLaws}
 use Rattle.pl_signal.specs.declared.faults.OpFault.{OpFault}
 use Rattle.pl_signal.specs.Wide.{HasCause}
-use Rattle.window_ops.specs.Windows.{SupAhead, InfAhead, SupBehind, InfBehind}
+use Rattle.pieces.specs.Windows.{SupAhead, InfAhead, SupBehind, InfBehind}
 use Rattle.stl_syntax.specs.Formula.{eventually, always, once, historically}
 use Rattle.stl_syntax.specs.Limits.{reach_of_bound}
 use Rattle.stl_syntax.specs.SupInf.{SupInf}

@@ -34,3 +34,6 @@ pub mod Counted
 pub mod Trends
 pub mod Meeting
 pub mod OverWindow
+pub mod Stretches
+pub mod PlayAlong
+pub mod SignalChains

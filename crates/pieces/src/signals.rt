@@ -1,15 +1,15 @@
 //! A chain of pieces as a signal of knots, and a signal as pieces.
-ghost use Rattle.std.specs.Prelude.{◌≡◌, ◌<◌, ◌^◌, length, slice_get, Some, true, false, IfOk, OnOk};
-ghost use Rattle.rational.specs.Rational.{IsWithin};
+ghost use Rattle.std.specs.Prelude.{◌≡◌, ◌<◌, ◌^◌, ◌↔◌, length, slice_get, Some, true, false, IfOk, OnOk};
+ghost use Rattle.rational.specs.Rational.{IsWithin, Rational};
 ghost use Rattle.rational.specs.Time.{◌<ʳ◌, ◌≈◌};
-ghost use Rattle.rational.specs.Extended.{value_at};
+ghost use Rattle.rational.specs.Extended.{Extended, value_at};
 ghost use Rattle.rational.specs.Places.{Same};
 ghost use Rattle.frac128.specs.Value.{value};
 ghost use Rattle.pl_signal.specs.Knots as knots;
 ghost use Rattle.pl_signal.specs.Limits as limits;
 ghost use Rattle.pl_signal.specs.Moves as moves;
 ghost use Rattle.pieces.specs.declared.piece.Piece.{Piece as Part};
-ghost use Rattle.pieces.specs.Chains.{Chain, IsWorth, Tells, HasShape, end, stop};
+ghost use Rattle.pieces.specs.Chains.{Chain, IsLimited, IsWorth, Tells, HasShape, end, stop};
 ghost use Rattle.pieces.specs.Building.{GoesOn};
 ghost use Rattle.pieces.specs.Knots.{before, after, GoesOnBy, IsAdded};
 
@@ -83,7 +83,7 @@ fn shape_at_end<P: Shape>(chain: &Pieces<P>, i: usize) -> P
     piece.shape
 }
 
-/// The pieces of a signal: of each gap, and of each point at which the gap behind it has another value.
+/// The pieces of a signal: of each gap, and of each point at which the gap behind it has another value. At each time both have one value.
 ///
 /// # Errors
 ///
@@ -92,6 +92,8 @@ pub fn pieces_of<P: Shape>(signal: &Signal<P>) -> Result<Pieces<P>, Memory>
     requires { limits.IsLimited P.Shape signal.now }
     ensures worth { IfOk result
         (Tells P.Shape (knots.IsWorth P.Shape signal.now) (before (knots.start signal.now)) (after (knots.stop signal.now))) }
+    ensures alike { IfOk result (λ r. (t : Rational) (v : Extended) → IsWorth P.Shape r t v ↔ knots.IsWorth P.Shape signal.now t v) }
+    ensures limited { IfOk result (IsLimited P.Shape) }
     ensures shapes { IfOk result (λ r. (p : P) → HasShape r p → knots.HasShape signal.now p) }
 {
     let last = signal.len() - 1;

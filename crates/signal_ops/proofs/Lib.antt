@@ -1,2 +1,1 @@
-pub mod Negating
-pub mod CombiningLemmas
+mod Chosen

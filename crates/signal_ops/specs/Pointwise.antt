@@ -1,8 +1,8 @@
--- The least and the greatest of two functions of time at each time, the negation of one, and when a step over two may refuse.
+-- The least and the greatest of two functions of time at each time, and when a step over two may refuse.
 use Rattle.std.specs.Prelude.{◌≤◌, ◌^◌, ℕ, List}
 use Rattle.rational.specs.Rational.{Rational, ◌<ʳ◌, ◌≤ʳ◌}
 use Rattle.rational.specs.Time.{HasDenominator}
-use Rattle.rational.specs.Extended.{Extended, value_at, IsLeast, IsGreatest, opposite}
+use Rattle.rational.specs.Extended.{Extended, value_at, IsLeast, IsGreatest}
 use Rattle.rational.specs.Affine.{MeetAlone}
 use Rattle.rational.specs.Windows.{Function}
 use Rattle.frac128.specs.Value.{value}
@@ -20,10 +20,6 @@ LeastOf A B t v = (x y : Extended) × A t x × B t y × IsLeast x y v
 -- at each time the greatest
 abbrev pub GreatestOf : Function → Function → Function
 GreatestOf A B t v = (x y : Extended) × A t x × B t y × IsGreatest x y v
-
--- at each time minus the value there
-abbrev pub Negated : Function → Function
-Negated A t v = A t (opposite v)
 
 module _ {P : Type 0} (shape : ShapeOf P) where
   -- the shape is the part of the function on the open gap

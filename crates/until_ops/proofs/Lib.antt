@@ -1,7 +1,3 @@
 mod SignalComposition
-mod LimitLemmas
-mod PlayLemmas
-mod SinceLemmas
-mod WalkLemmas
-mod UntilLemmas
 mod SignalExistence
+mod UntilsOfChains

@@ -1,2 +1,1 @@
 pub mod Untils
-pub mod Walks

@@ -8,7 +8,7 @@ ghost use Rattle.pl_signal.specs.Wide.{HasCause};
 ghost use Rattle.until_ops.specs.Untils.{BasesOfTwo, UntilOf, UntilStep};
 ghost use Rattle.courses.specs.Pairs.{IsPairWithin};
 
-use crate::since_from_start;
+use pieces::{pieces_of, signal_of};
 use pl_signal::{OpFault, Signal};
 use value_laws::Shape;
 
@@ -35,13 +35,8 @@ pub fn until_to_end<P: Shape>(p: &Signal<P>, q: &Signal<P>) -> Result<Signal<P>,
         (HasCause P.Shape (UntilStep P.Shape p.now q.now) (start p.now) (stop p.now)) }
     ensures pair { IfErr result (IsPairWithin (start p.now) (stop p.now)) }
 {
-    // For the proof alone: that both are signals is a clause of `len`.
-    let _ = p.len();
-    let _ = q.len();
-    let left = p.mirror(0)?;
-    let right = q.mirror(0)?;
-    match since_from_start(&left, &right) {
-        Ok(since) => Ok(since.mirror(0)?),
-        Err(fault) => Err(fault.mirrored(0)),
-    }
+    let left = pieces_of(p)?;
+    let right = pieces_of(q)?;
+    let until = pieces::until_to_end(&left, &right)?;
+    Ok(signal_of(&until)?)
 }

@@ -1,14 +1,6 @@
-pub mod Instants
+mod WindowsOfChains
 pub mod Ends
-pub mod Values
-pub mod Counting
-pub mod Freezing
-pub mod Shifts
-pub mod Reaching
-pub mod Spans
-pub mod Covering
-pub mod Climbs
-pub mod Gaps
-pub mod Told
 pub mod AheadOver
 pub mod BehindOver
+pub mod Shifts
+pub mod Values

@@ -1,5 +1,5 @@
--- Times and shapes moved by an offset.
-use Rattle.std.proofs.Common.{arith, ◌≡◌, ℤ, pos, ◌^◌, ◌∙◌, ap, sym, to_z, of_z, w64, lit<}
+-- Times moved by an offset.
+use Rattle.std.proofs.Common.{arith, ◌≡◌, ℤ, pos, ◌^◌, ◌∙◌, ap, to_z, of_z, w64, lit<}
 use Rattle.std.specs.Prelude.{◌-ℤ◌, neg_ℤ, ◌≤ℤ◌}
 use Rattle.std.proofs.lemmas.Int.{to_z-of_z, ints}
 use Rattle.rational.specs.Rational.{IsWithin, add, whole, FitsFloor}
@@ -7,8 +7,6 @@ use Rattle.rational.specs.Time.{Rational, ◌≤ʳ◌}
 use Rattle.rational.proofs.Order.{le_trans}
 use Rattle.rational.proofs.Shift.{le_whole}
 use Rattle.rational.proofs.Mixed.{fits_of_within, within_add, within_whole}
-use Rattle.window_ops.specs.declared.offsets.Offsets.{Offsets}
-use Rattle.window_ops.specs.Over.{IsSmall}
 
 -- an offset as the program has it
 pub passed : (z : ℤ) → neg_ℤ (pos (2 ^ 32)) ≤ℤ z → z ≤ℤ pos (2 ^ 32) → to_z w64 (of_z w64 z) ≡ z
@@ -31,33 +29,3 @@ within_sum a z from to low high = within_add (2 ^ 32) (2 ^ 32)
 pub fits : (a : Rational) (z : ℤ) → whole (pos 0) ≤ʳ a → a ≤ʳ whole (pos (2 ^ 32)) → neg_ℤ (pos (2 ^ 32)) ≤ℤ z → z ≤ℤ pos (2 ^ 32)
     → FitsFloor w64 (add a (whole z))
 fits a z from to low high = fits_of_within w64 (2 ^ 33) (lit< tt) (within_sum a z from to low high)
-
-module _ (over : Offsets) (small : IsSmall over) where
-  -- the low offset is not too far behind
-  pub low_from : neg_ℤ (pos (2 ^ 32)) ≤ℤ over.low
-  low_from = small.from
-
-  -- nor too far ahead
-  pub low_to : over.low ≤ℤ pos (2 ^ 32)
-  low_to = omega (arith, ints, small.order, small.to)
-
-  -- nor is the high one too far behind
-  pub high_from : neg_ℤ (pos (2 ^ 32)) ≤ℤ over.high
-  high_from = omega (arith, ints, small.order, small.from)
-
-  -- nor too far ahead
-  pub high_to : over.high ≤ℤ pos (2 ^ 32)
-  high_to = small.to
-
-  -- the same of an offset turned
-  pub turned_from : (z : ℤ) → z ≤ℤ pos (2 ^ 32) → neg_ℤ (pos (2 ^ 32)) ≤ℤ neg_ℤ z
-  turned_from z h = omega (arith, ints, h)
-
-  -- a negated offset keeps within the limits
-  pub turned_to : (z : ℤ) → neg_ℤ (pos (2 ^ 32)) ≤ℤ z → neg_ℤ z ≤ℤ pos (2 ^ 32)
-  turned_to z h = omega (arith, ints, h)
-
--- offsets whose bits are the same are one
-pub equal_offsets : (over : Offsets) → IsSmall over → of_z w64 over.low ≡ of_z w64 over.high → over.low ≡ over.high
-equal_offsets over small h = sym (passed over.low (low_from over small) (low_to over small)) ∙ ap (λ n. to_z w64 n) h ∙ passed over.high
-    (high_from over small) (high_to over small)

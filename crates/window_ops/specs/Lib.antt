@@ -1,5 +1,3 @@
-pub mod Windows
 pub mod Conditions
 pub mod Over
 pub mod Going
-pub mod Behind

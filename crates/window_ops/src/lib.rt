@@ -1,10 +1,7 @@
 //! The Sup and the Inf of a signal over a window that moves with the time.
 #![tactic(auto)]
 
-mod counted;
-mod offsets;
 mod past;
-mod walking;
 mod window;
 
 pub use past::{inf_past, sup_past};

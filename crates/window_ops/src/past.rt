@@ -1,5 +1,5 @@
-//! The Sup and the Inf over a window behind: the same window, whose offsets are negative.
-ghost use Rattle.std.specs.Prelude.{◌≡◌, ◌≤◌, ◌^◌, ◌-◌, ◌≤ℤ◌, pos, neg_ℤ, IfSome, IfOk, IfErr};
+//! The Sup and the Inf over a window behind.
+ghost use Rattle.std.specs.Prelude.{◌≤◌, ◌^◌, ◌-◌, pos, IfSome, IfOk, IfErr};
 ghost use Rattle.rational.specs.Rational.{whole};
 ghost use Rattle.rational.specs.Time.{◌≤ʳ◌};
 ghost use Rattle.rational.specs.InPlay.{window_behind};
@@ -8,18 +8,11 @@ ghost use Rattle.pl_signal.specs.Limits.{IsLimited};
 ghost use Rattle.pl_signal.specs.Moves.{Tells};
 ghost use Rattle.pl_signal.specs.Wide.{HasCause};
 ghost use Rattle.window_ops.specs.Conditions.{AreNear, BasesBehind};
-ghost use Rattle.window_ops.specs.Behind.{IsReach};
-ghost use Rattle.window_ops.specs.Over.{IsSmall};
-ghost use Rattle.window_ops.specs.Windows.{InfBehind, SupBehind};
+ghost use Rattle.pieces.specs.Windows.{InfBehind, SupBehind};
 
-use crate::offsets::Offsets;
-use crate::walking::over_window;
-use crate::window::inf_now;
-use pl_signal::{OpFault, Side, Signal};
+use pieces::{inf_behind, pieces_of, signal_of, sup_behind};
+use pl_signal::{OpFault, Signal};
 use value_laws::Shape;
-
-/// A length of time that no domain has.
-const BEYOND: i64 = 4_294_967_296;
 
 /// At each time `t` the Sup over the window from `t - b` to `t - a`, in ticks, each end in or out (`low_in` is the end at
 /// `t - a`), met with the domain; with no `b` it begins where the domain does. The least value where the window is empty.
@@ -46,7 +39,9 @@ pub fn sup_past<P: Shape>(
     ensures bases { IfOk result (BasesBehind P.Shape a b s.now) }
     ensures wide { IfErr result (HasCause P.Shape (window_behind (IsWorth P.Shape s.now) a b low_in high_in) (start s.now) (stop s.now)) }
 {
-    over_window(Side::Greatest, s, behind(a, b, low_in, high_in))
+    let chain = pieces_of(s)?;
+    let best = sup_behind(&chain, a, b, low_in, high_in)?;
+    Ok(signal_of(&best)?)
 }
 
 /// At each time `t` the Inf over the window from `t - b` to `t - a`, in ticks, each end in or out (`low_in` is the end at
@@ -74,36 +69,7 @@ pub fn inf_past<P: Shape>(
     ensures bases { IfOk result (BasesBehind P.Shape a b s.now) }
     ensures wide { IfErr result (HasCause P.Shape (window_behind (IsWorth P.Shape s.now) a b low_in high_in) (start s.now) (stop s.now)) }
 {
-    if b == Some(0) && low_in && high_in {
-        return Ok(inf_now(s)?);
-    }
-    over_window(Side::Least, s, behind(a, b, low_in, high_in))
-}
-
-/// The window from `b` to `a` ticks behind, where `low_in` is the end at `a`.
-fn behind(a: u32, b: Option<u32>, low_in: bool, high_in: bool) -> Offsets
-    requires order { IfSome b (λ b. a ≤ b) }
-    ensures low { IsReach b result.low }
-    ensures high { result.high ≡ neg_ℤ (pos a) }
-    ensures low_in { result.low_in ≡ high_in }
-    ensures high_in { result.high_in ≡ low_in }
-    ensures small { IsSmall result }
-{
-    Offsets {
-        low: reach(b),
-        high: -i64::from(a),
-        low_in: high_in,
-        high_in: low_in,
-    }
-}
-
-/// The offset of the far end: beyond any domain where there is none.
-fn reach(b: Option<u32>) -> i64
-    ensures reach { IsReach b result }
-    ensures small { neg_ℤ (pos (2 ^ 32)) ≤ℤ result }
-{
-    match b {
-        Some(b) => -i64::from(b),
-        None => -BEYOND,
-    }
+    let chain = pieces_of(s)?;
+    let best = inf_behind(&chain, a, b, low_in, high_in)?;
+    Ok(signal_of(&best)?)
 }

@@ -6,17 +6,18 @@ use Rattle.rational.proofs.Mixed.{within_same}
 use Rattle.frac128.specs.Value.{value}
 use Rattle.frac128.specs.Cuts.{place}
 use Rattle.pl_signal.specs.Knots as knots
-use Rattle.pl_signal.proofs.Values.{some_is, worth_at, worth_between, next_rises, shape_at, shape_after}
+use Rattle.pl_signal.proofs.Limits.{limited_start, limited_stop, worth_bounded}
+use Rattle.pl_signal.proofs.Values.{some_is, worth_at, worth_between, worth_within, next_rises, shape_at, shape_after}
 use Rattle.pl_signal.proofs.Telling as so_far
 use Rattle.pl_signal.proofs.Moving.{limited_at, first_is, last_of}
-use Rattle.pieces.specs.Chains.{HasShape, stop}
+use Rattle.pieces.specs.Chains.{HasShape, Tells, stop}
 use Rattle.pieces.specs.Knots.{before, after}
 use Rattle.pieces.proofs.Ends.{same_place}
 use Rattle.pieces.proofs.BuildingLemmas.{chain_of}
 use Rattle.pieces.proofs.Telling.{tells_none, told}
 use Rattle.pieces.proofs.KnotLemmas.{tells_knot, ends_knot, just_later, tells_last}
 use Rattle.pieces.proofs.signals.pieces_of.Given.{Over}
-use Rattle.pieces.proofs.signals.pieces_of.Goals.{After-knot_in_place-end}
+use Rattle.pieces.proofs.signals.pieces_of.Goals.{After-knot_in_place-end, In_ok-put}
 use Rattle.pieces.proofs.signals.pieces_of.Goals as goal
 
 pub loop-i-init : goal.loop-i-init
@@ -89,8 +90,10 @@ put-requires-clause-later g c = subst (λ u. Before (stop c.loop-i.built) (place
     (just_later (stop c.loop-i.built) (knots.time c.knot_in_place-end.result.now)
     (last_ends g (goal.at.put-requires-clause-later g c).After-knot_in_place-end))
 
-pub returns-clause-worth : goal.returns-clause-worth
-returns-clause-worth g c =
+-- the chain tells the signal
+tells_signal : (g : Over) (c : In_ok-put g) → Tells g.P.Shape (knots.IsWorth g.P.Shape c.args.signal.now) (before (knots.start c.args.signal.now))
+    (after (knots.stop c.args.signal.now)) c.put.new.self
+tells_signal g c =
     let on = c.in_ok-put.ensures.ok in
     let is = so_far.worth_is_function g.P.Shape c.args.signal.now c.len-last.ensures.signal in
     let last = last_of g.P.Shape c.args.signal.now c.len-last.result c.len-last.ensures.signal.some c.len-last.ensures.value in
@@ -98,7 +101,7 @@ returns-clause-worth g c =
     let stops = last.2 ∙ ap (λ k. knots.time k) (sym same) in
     told g.P.Shape (knots.IsWorth g.P.Shape c.args.signal.now) (before (knots.start c.args.signal.now)) (after (knots.stop c.args.signal.now)) c.put.new.self is
     (tells_last g.P.Shape (knots.IsWorth g.P.Shape c.args.signal.now) c.knot_in_place-end.result.now c.just_after.result c.just_after.ensures is
-    c.loop-i.invariant.tells (last_ends g (goal.at.returns-clause-worth g c).After-knot_in_place-end)
+    c.loop-i.invariant.tells (last_ends g (goal.at.In_ok-put g c).After-knot_in_place-end)
     (worth_at g.P.Shape c.args.signal.now (c.len-last.result - 1) c.knot_in_place-end.result.now (knots.time c.knot_in_place-end.result.now)
     c.knot_in_place-end.ensures (same_refl (knots.time c.knot_in_place-end.result.now))) on)
     (subst (λ s. Same s (before (knots.start c.args.signal.now))) (sym (on.begins ∙ c.loop-i.invariant.begins))
@@ -106,6 +109,26 @@ returns-clause-worth g c =
     (subst (λ s. Same s (after (knots.stop c.args.signal.now))) (sym (on.ends ∙ ap (λ u. place u) c.just_after.ensures))
     (subst (λ t. Same (after (knots.time c.knot_in_place-end.result.now)) (after t)) (sym stops)
     (same_place (after (knots.time c.knot_in_place-end.result.now)))))
+
+pub returns-clause-worth : goal.returns-clause-worth
+returns-clause-worth g c = tells_signal g (goal.at.returns-clause-worth g c).In_ok-put
+
+pub returns-clause-alike : goal.returns-clause-alike
+returns-clause-alike g c t v =
+    let worth = (tells_signal g (goal.at.returns-clause-alike g c).In_ok-put).worth t v in (
+      λ w. (worth.0 w).2,
+      λ w. let i = worth_within g.P.Shape c.args.signal.now t v c.len-last.ensures.signal w in worth.1 (i.above, i.below, w),
+    )
+
+pub returns-clause-limited : goal.returns-clause-limited
+returns-clause-limited g c =
+    let tells = tells_signal g (goal.at.returns-clause-limited g c).In_ok-put in
+    let signal = c.len-last.ensures.signal in
+    record {
+      begins = within_same (2 ^ 34) (same_sym tells.begins.0) (limited_start g.P.Shape c.args.signal.now signal c.requires);
+      ends = within_same (2 ^ 34) (same_sym tells.ends.0) (limited_stop g.P.Shape c.args.signal.now signal c.requires);
+      values = λ t v w. worth_bounded g.P.Shape c.args.signal.now c.requires t v ((tells.worth t v).0 w).2;
+    }
 
 pub returns-clause-shapes : goal.returns-clause-shapes
 returns-clause-shapes g c = λ p h. elim (c.in_ok-put.ensures.ok.shapes p h) [

@@ -1,85 +1,64 @@
-use Rattle.std.proofs.Common.{◌^◌}
-use Rattle.rational.proofs.Order.{same_sym, same_trans}
-use Rattle.rational.proofs.Field.{same_negate}
-use Rattle.value_laws.proofs.MarginLemmas.{within_opposite}
-use Rattle.pl_signal.specs.Knots.{start, stop}
-use Rattle.pl_signal.specs.Limits.{IsLimited}
-use Rattle.pl_signal.proofs.Limits.{limited_start, limited_stop}
-use Rattle.courses.proofs.FaultLemmas.{can_mirror, cause_back, pair_turned}
-use Rattle.until_ops.proofs.UntilLemmas.{AreMirrors, are_back, mirror_limited, mirror_starts, mirror_stops}
-use Rattle.until_ops.proofs.UntilLemmas.{since_limited, starts_back, stops_back, until_bases}
-use Rattle.until_ops.proofs.UntilLemmas.{until_told}
+use Rattle.pieces.proofs.SignalChains.{IsChainOf, chains_begin, chains_end, err_same}
+use Rattle.pieces.proofs.SignalChains.{told_some, told_first, told_last, told_from_within, told_to_within, signal_told}
+use Rattle.until_ops.specs.Untils.{UntilOf}
+use Rattle.until_ops.proofs.UntilsOfChains.{until_of_chains, bases_of_chains, pair_of_chains, until_cause_of_chains}
 use Rattle.until_ops.proofs.until.until_to_end.Given.{Over}
-use Rattle.until_ops.proofs.until.until_to_end.Goals.{In_ok-right, In-Ok}
+use Rattle.until_ops.proofs.until.until_to_end.Goals.{In_ok-left, In_ok-right}
 use Rattle.until_ops.proofs.until.until_to_end.Goals as goal
 
-mirrors : (g : Over) (c : In_ok-right g) → AreMirrors g.P.Shape c.args.p.now c.args.q.now c.in_ok-left.left c.in_ok-right.right
-mirrors g c = record {
-  laws = assumption g.met.P.Shape;
-  of_left = record { signal = c.len.ensures.signal; limited = c.requires.left; tells = c.in_ok-left.ensures.worth };
-  of_right = record { signal = c.len-2.ensures.signal; limited = c.requires.right; tells = c.in_ok-right.ensures.worth };
-}
+-- the signals as chains
+left_chain : (g : Over) (c : In_ok-left g) → IsChainOf g.P.Shape c.args.p.now c.in_ok-left.left
+left_chain g c = let e = c.in_ok-left.ensures in record { tells = e.worth; alike = e.alike; limited = e.limited; shapes = e.shapes }
 
-pub mirror-requires-clause-from_within : goal.mirror-requires-clause-from_within
-mirror-requires-clause-from_within g c =
-    within_opposite (2 ^ 34) (stop c.args.p.now) (limited_stop g.P.Shape c.args.p.now c.len.ensures.signal c.requires.left)
+right_chain : (g : Over) (c : In_ok-right g) → IsChainOf g.P.Shape c.args.q.now c.in_ok-right.right
+right_chain g c = let e = c.in_ok-right.ensures in record { tells = e.worth; alike = e.alike; limited = e.limited; shapes = e.shapes }
 
-pub mirror-requires-2-clause-from_within : goal.mirror-requires-2-clause-from_within
-mirror-requires-2-clause-from_within g c =
-    within_opposite (2 ^ 34) (stop c.args.q.now) (limited_stop g.P.Shape c.args.q.now c.len-2.ensures.signal c.requires.right)
-
-pub since_from_start-requires : goal.since_from_start-requires
-since_from_start-requires g c =
-    let m = mirrors g (goal.at.since_from_start-requires g c).In_ok-right in record {
-      left = mirror_limited m.of_left;
-      right = mirror_limited m.of_right;
-      begins = same_trans (mirror_starts m.of_left) (same_trans (same_negate c.requires.ends) (same_sym (mirror_starts m.of_right)));
-      ends = same_trans (mirror_stops m.of_left) (same_trans (same_negate c.requires.begins) (same_sym (mirror_stops m.of_right)));
+pub until_to_end-requires : goal.until_to_end-requires
+until_to_end-requires g c =
+    let at = goal.at.until_to_end-requires g c in
+    let left = left_chain g at.In_ok-left in
+    let right = right_chain g at.In_ok-right in record {
+      left = left.limited;
+      right = right.limited;
+      begins = chains_begin left right c.requires.begins;
+      ends = chains_end left right c.requires.ends;
     }
 
--- the since is limited
-limited_since : (g : Over) (c : In-Ok g) → IsLimited g.P.Shape c.in-Ok.since
-limited_since g c = since_limited (mirrors g (goal.at.In-Ok g c).In_ok-right) c.in-Ok.since c.in-Ok.ensures.worth
+pub signal_of-requires : goal.signal_of-requires
+signal_of-requires g c =
+    let is = left_chain g (goal.at.signal_of-requires g c).In_ok-left in
+    let told = c.in_ok-until.ensures.worth in record {
+      some = told_some is told;
+      begins = told_first is told;
+      ends = told_last is told;
+      from_within = told_from_within is told;
+      to_within = told_to_within is told;
+    }
 
-pub mirror-requires-in-Ok-clause-limited : goal.mirror-requires-in-Ok-clause-limited
-mirror-requires-in-Ok-clause-limited g c = limited_since g (goal.at.mirror-requires-in-Ok-clause-limited g c).In-Ok
+pub returns-in_err-until-clause-wide : goal.returns-in_err-until-clause-wide
+returns-in_err-until-clause-wide g c =
+    let at = goal.at.returns-in_err-until-clause-wide g c in
+    err_same c.from_residual-in_err-until.result c.in_err-until.field-0.0 _ c.from_residual-in_err-until.ensures.1
+    (until_cause_of_chains g.P.Shape c.args.p.now c.args.q.now c.in_ok-left.left c.in_ok-right.right (left_chain g at.In_ok-left)
+    (right_chain g at.In_ok-right) c.requires.begins c.requires.ends c.in_err-until.field-0.0 c.in_err-until.ensures.wide)
 
-pub mirror-requires-in-Ok-clause-from_within : goal.mirror-requires-in-Ok-clause-from_within
-mirror-requires-in-Ok-clause-from_within g c =
-    let small = limited_since g (goal.at.mirror-requires-in-Ok-clause-from_within g c).In-Ok in
-    within_opposite (2 ^ 34) (stop c.in-Ok.since) (limited_stop g.P.Shape c.in-Ok.since c.in-Ok.ensures.worth.signal small)
+pub returns-in_err-until-clause-pair : goal.returns-in_err-until-clause-pair
+returns-in_err-until-clause-pair g c =
+    let at = goal.at.returns-in_err-until-clause-pair g c in
+    err_same c.from_residual-in_err-until.result c.in_err-until.field-0.0 _ c.from_residual-in_err-until.ensures.1
+    (pair_of_chains g.P.Shape c.args.p.now c.args.q.now c.in_ok-left.left c.in_ok-right.right (left_chain g at.In_ok-left)
+    (right_chain g at.In_ok-right) c.in_err-until.field-0.0 c.in_err-until.ensures.pair)
 
-pub mirror-requires-in-Ok-clause-to_within : goal.mirror-requires-in-Ok-clause-to_within
-mirror-requires-in-Ok-clause-to_within g c =
-    let small = limited_since g (goal.at.mirror-requires-in-Ok-clause-to_within g c).In-Ok in
-    within_opposite (2 ^ 34) (start c.in-Ok.since) (limited_start g.P.Shape c.in-Ok.since c.in-Ok.ensures.worth.signal small)
+pub returns-clause-worth : goal.returns-clause-worth
+returns-clause-worth g c =
+    let at = goal.at.returns-clause-worth g c in
+    let left = left_chain g at.In_ok-left in
+    signal_told left c.in_ok-until.ensures.worth (UntilOf g.P.Shape c.args.p.now c.args.q.now) _
+    (until_of_chains g.P.Shape c.args.p.now c.args.q.now c.in_ok-left.left c.in_ok-right.right left (right_chain g at.In_ok-right))
+    c.in_ok-signal_of.ensures.worth
 
-pub returns-in-Ok-clause-worth : goal.returns-in-Ok-clause-worth
-returns-in-Ok-clause-worth g c =
-    let at = goal.at.returns-in-Ok-clause-worth g c in
-    until_told (mirrors g at.In_ok-right) c.in-Ok.since c.in_ok-mirror-in-Ok.field-0 c.in-Ok.ensures.worth
-    (record { signal = c.in-Ok.ensures.worth.signal; limited = limited_since g at.In-Ok; tells = c.in_ok-mirror-in-Ok.ensures.worth })
-
-pub returns-in-Ok-clause-bases : goal.returns-in-Ok-clause-bases
-returns-in-Ok-clause-bases g c =
-    until_bases g.P.Shape c.args.p.now c.args.q.now c.in_ok-left.left c.in_ok-right.right c.in-Ok.since c.in_ok-mirror-in-Ok.field-0
-    c.in_ok-left.ensures.bases c.in_ok-right.ensures.bases c.in-Ok.ensures.bases c.in_ok-mirror-in-Ok.ensures.bases
-
-pub mirrored-requires-clause-pair : goal.mirrored-requires-clause-pair
-mirrored-requires-clause-pair g c =
-    let left = c.in_ok-left.left in
-    let signal = c.in_ok-left.ensures.worth.signal in
-    let m = mirrors g (goal.at.mirrored-requires-clause-pair g c).In_ok-right in
-    let small = mirror_limited m.of_left in
-    can_mirror m.laws c.in-Err.fault (limited_start g.P.Shape left signal small) (limited_stop g.P.Shape left signal small) c.in-Err.ensures.pair
-
-pub returns-clause-wide : goal.returns-clause-wide
-returns-clause-wide g c =
-    let m = mirrors g (goal.at.returns-clause-wide g c).In_ok-right in
-    cause_back (are_back m) g.P.Shape c.in-Err.fault c.mirrored.result c.mirrored.ensures c.in-Err.ensures.wide
-
-pub returns-clause-pair : goal.returns-clause-pair
-returns-clause-pair g c =
-    let m = mirrors g (goal.at.returns-clause-pair g c).In_ok-right in
-    pair_turned g.P.Shape c.in-Err.fault c.mirrored.result (start c.args.p.now) (stop c.args.p.now) (start c.in_ok-left.left) (stop c.in_ok-left.left)
-    (starts_back m.of_left) (stops_back m.of_left) c.mirrored.ensures c.in-Err.ensures.pair
+pub returns-clause-bases : goal.returns-clause-bases
+returns-clause-bases g c =
+    let at = goal.at.returns-clause-bases g c in
+    bases_of_chains g.P.Shape c.args.p.now c.args.q.now c.in_ok-left.left c.in_ok-right.right (left_chain g at.In_ok-left) (right_chain g at.In_ok-right)
+    c.in_ok-until.until _ c.in_ok-until.ensures.bases c.in_ok-signal_of.ensures.shapes

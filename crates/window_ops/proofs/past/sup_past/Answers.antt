@@ -1,47 +1,53 @@
-use Rattle.std.proofs.Common.{arith, ◌^◌, ◌-◌, pos, subst}
-use Rattle.std.specs.Prelude.{neg_ℤ}
-use Rattle.rational.proofs.Order.{le_trans}
-use Rattle.pl_signal.specs.declared.joining.Side.TheVariants.{Greatest}
-use Rattle.pl_signal.specs.Knots.{start, stop}
-use Rattle.pl_signal.specs.Moves.{Tells}
-use Rattle.envelope.proofs.Walks.{if_err}
-use Rattle.window_ops.specs.Over.{BasesOver, BestOver, HasCauseOver}
-use Rattle.std.proofs.lemmas.Int.{ints}
-use Rattle.std.proofs.lemmas.Result.{IfOk-weaker}
-use Rattle.rational.proofs.Shift.{le_whole}
-use Rattle.window_ops.proofs.AheadOver.{offsets_is}
-use Rattle.window_ops.proofs.BehindOver.{bases_behind, below_all, cause_behind, sup_behind, is_reach, reach_of}
+use Rattle.pl_signal.specs.Knots.{start, stop, IsWorth}
+use Rattle.pieces.specs.Windows.{SupBehind}
+use Rattle.pieces.proofs.SignalChains.{IsChainOf, err_same}
+use Rattle.pieces.proofs.SignalChains.{told_some, told_first, told_last, told_from_within, told_to_within, signal_told}
+use Rattle.window_ops.proofs.WindowsOfChains.{sup_behind_of_chain, behind_cause_of_chain, bases_behind_of_chain}
+use Rattle.window_ops.proofs.WindowsOfChains.{near_chain, first_of_chain, last_of_chain, before_next_tick}
+use Rattle.window_ops.proofs.past.sup_past.Given.{Over}
+use Rattle.window_ops.proofs.past.sup_past.Goals.{In_ok-chain}
 use Rattle.window_ops.proofs.past.sup_past.Goals as goal
 
-pub over_window-requires : goal.over_window-requires
-over_window-requires g c = record {
-  limited = c.requires.limited;
-  first = c.requires.first;
-  last = le_trans c.requires.last (le_whole {j = pos (2 ^ 32 - 1)} {k = pos (2 ^ 32)} (omega (arith, ints)));
-  near = c.requires.near;
-  small = c.behind.ensures.small;
-}
+-- the signal as a chain
+chain : (g : Over) (c : In_ok-chain g) → IsChainOf g.P.Shape c.args.s.now c.in_ok-chain.chain
+chain g c = let e = c.in_ok-chain.ensures in record { tells = e.worth; alike = e.alike; limited = e.limited; shapes = e.shapes }
+
+pub sup_behind-requires : goal.sup_behind-requires
+sup_behind-requires g c =
+    let is = chain g (goal.at.sup_behind-requires g c).In_ok-chain in record {
+      limited = is.limited;
+      near = near_chain g.P.Shape c.args.s.now c.in_ok-chain.chain is c.requires.near;
+      first = first_of_chain g.P.Shape c.args.s.now c.in_ok-chain.chain is c.requires.first;
+      last = last_of_chain g.P.Shape c.args.s.now c.in_ok-chain.chain is (before_next_tick c.requires.last);
+      order = c.requires.order;
+    }
+
+pub signal_of-requires : goal.signal_of-requires
+signal_of-requires g c =
+    let is = chain g (goal.at.signal_of-requires g c).In_ok-chain in
+    let told = c.in_ok-best.ensures.worth in record {
+      some = told_some is told;
+      begins = told_first is told;
+      ends = told_last is told;
+      from_within = told_from_within is told;
+      to_within = told_to_within is told;
+    }
+
+pub returns-in_err-best-clause-wide : goal.returns-in_err-best-clause-wide
+returns-in_err-best-clause-wide g c =
+    err_same c.from_residual-in_err-best.result c.in_err-best.field-0.0 _ c.from_residual-in_err-best.ensures.1
+    (behind_cause_of_chain g.P.Shape c.args.s.now c.in_ok-chain.chain (chain g (goal.at.returns-in_err-best-clause-wide g c).In_ok-chain)
+    c.args.a c.args.b c.args.low_in c.args.high_in c.in_err-best.field-0.0 c.in_err-best.ensures.wide)
 
 pub returns-clause-worth : goal.returns-clause-worth
-returns-clause-worth g c = IfOk-weaker c.over_window.result _ _ (λ r h. sup_behind g.P.Shape c.args.s.now c.requires.first
-    (below_all (stop c.args.s.now) c.requires.last) c.args.a c.args.low_in c.args.high_in c.args.b r
-    (subst (λ o. Tells g.P.Shape (BestOver g.P.Shape c.args.s.now o Greatest) (start c.args.s.now) (stop c.args.s.now) r)
-    (offsets_is c.behind.result (reach_of c.args.b) (neg_ℤ (pos c.args.a)) c.args.high_in c.args.low_in
-    (is_reach c.args.b c.behind.result.low c.behind.ensures.low) c.behind.ensures.high c.behind.ensures.low_in c.behind.ensures.high_in) h))
-    c.over_window.ensures.worth
+returns-clause-worth g c =
+    let is = chain g (goal.at.returns-clause-worth g c).In_ok-chain in
+    signal_told is c.in_ok-best.ensures.worth (SupBehind (start c.args.s.now) (stop c.args.s.now) (IsWorth g.P.Shape c.args.s.now) g.P.Shape.lowest
+    c.args.a c.args.b c.args.low_in c.args.high_in) _
+    (sup_behind_of_chain g.P.Shape c.args.s.now c.in_ok-chain.chain is c.args.a c.args.b c.args.low_in c.args.high_in g.P.Shape.lowest)
+    c.in_ok-signal_of.ensures.worth
 
 pub returns-clause-bases : goal.returns-clause-bases
-returns-clause-bases g c = IfOk-weaker c.over_window.result _ _ (λ r h. bases_behind g.P.Shape c.args.s.now c.requires.first
-    (below_all (stop c.args.s.now) c.requires.last) c.args.a c.args.low_in c.args.high_in c.args.b r
-    (subst (λ o. BasesOver g.P.Shape c.args.s.now o r) (offsets_is c.behind.result (reach_of c.args.b)
-    (neg_ℤ (pos c.args.a)) c.args.high_in c.args.low_in
-    (is_reach c.args.b c.behind.result.low c.behind.ensures.low) c.behind.ensures.high c.behind.ensures.low_in c.behind.ensures.high_in) h))
-    c.over_window.ensures.bases
-
-pub returns-clause-wide : goal.returns-clause-wide
-returns-clause-wide g c = if_err c.over_window.result _ _ (λ e h. cause_behind g.P.Shape c.args.s.now c.requires.first
-    (below_all (stop c.args.s.now) c.requires.last) c.args.a c.args.low_in c.args.high_in c.args.b e
-    (subst (λ o. HasCauseOver g.P.Shape c.args.s.now o e) (offsets_is c.behind.result (reach_of c.args.b)
-    (neg_ℤ (pos c.args.a)) c.args.high_in c.args.low_in
-    (is_reach c.args.b c.behind.result.low c.behind.ensures.low) c.behind.ensures.high c.behind.ensures.low_in c.behind.ensures.high_in) h))
-    c.over_window.ensures.wide
+returns-clause-bases g c =
+    bases_behind_of_chain g.P.Shape c.args.s.now c.in_ok-chain.chain (chain g (goal.at.returns-clause-bases g c).In_ok-chain) c.args.a c.args.b
+    c.in_ok-best.best _ c.in_ok-best.ensures.bases c.in_ok-signal_of.ensures.shapes
