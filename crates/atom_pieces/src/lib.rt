@@ -8,4 +8,4 @@ mod margins;
 mod rows;
 mod truths;
 
-pub use atom::{AtomShape, pieces_of_atom};
+pub use atom::{AtomShape, pieces_of_atom, signal_of_atom};

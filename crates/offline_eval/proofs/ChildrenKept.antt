@@ -1,7 +1,7 @@
 -- Signals that are given up: the children of the node that comes next are still kept, and so is the root in the end.
-use Rattle.std.proofs.Common.{◌≡◌, ℕ, zero, suc, ◌+◌, ◌-◌, ◌<◌, ◌⊎◌, inl, inr, Bool, true, false, ◌||◌, cond}
+use Rattle.std.proofs.Common.{◌≡◌, ℕ, zero, suc, ◌+◌, ◌-◌, ◌<◌, ◌≤◌, ◌⊎◌, inl, inr, Bool, true, false, ◌||◌, cond}
 use Rattle.std.proofs.Common.{Some, List, [], ◌∷◌, ◌++◌, length, take, ap, sym, ◌∙◌, subst, refl, arith}
-use Rattle.std.specs.Prelude.{slice_get, MatchBool, All, ◌==◌}
+use Rattle.std.specs.Prelude.{slice_get, MatchBool, All, ◌==◌, Option, None, IfSome, option_to_list}
 use Rattle.std.specs.List.{list_any}
 use Rattle.std.proofs.Math.ListN.{set}
 use Rattle.std.proofs.lemmas.Bool.{ne_eqb, eq-eqb}
@@ -44,6 +44,23 @@ join S M O true true m f = m
 join S M O true false m f = f m
 join S M O false true m f = m
 join S M O false false m f = f m
+
+-- the places of the children lie inside a longer list too
+pub left_inside : (l r : Option ℕ) (ps : List ℕ) (n m : ℕ) → option_to_list l ++ option_to_list r ≡ ps → All (λ p. p < n) ps → n ≤ m
+    → IfSome l (λ p. p < m)
+left_inside None r ps n m e all h = tt
+left_inside (Some p) r ps n m e all h =
+    let inside : p < n = All-head (λ p. p < n) p (option_to_list r) (subst (All (λ p. p < n)) (sym e) all) in omega (arith, inside, h)
+
+-- so does that of the second child
+pub right_inside : (l r : Option ℕ) (ps : List ℕ) (n m : ℕ) → option_to_list l ++ option_to_list r ≡ ps → All (λ p. p < n) ps → n ≤ m
+    → IfSome r (λ p. p < m)
+right_inside l None ps n m e all h = tt
+right_inside None (Some q) ps n m e all h =
+    let inside : q < n = All-head (λ p. p < n) q [] (subst (All (λ p. p < n)) (sym e) all) in omega (arith, inside, h)
+right_inside (Some p) (Some q) ps n m e all h =
+    let inside : q < n = All-head (λ p. p < n) q [] (All-tail (λ p. p < n) p (q ∷ []) (subst (All (λ p. p < n)) (sym e) all)) in
+    omega (arith, inside, h)
 
 used_too : (b : Bool) → (b || (true || false)) ≡ true
 used_too true = refl

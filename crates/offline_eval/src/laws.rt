@@ -3,6 +3,7 @@ ghost use Rattle.std.specs.Prelude.{◌≡◌, ◌+◌, ◌<◌, All, ◌∷◌,
 ghost use Rattle.pl_signal.specs.declared.knot.Knot.{Knot};
 ghost use Rattle.pl_signal.specs.declared.faults.WidePair.{WidePair};
 ghost use Rattle.pl_signal.specs.Moves.{Tells};
+ghost use Rattle.pieces.specs.Chains.{Chain};
 ghost use Rattle.stl_syntax.specs.Formula.{subformula};
 ghost use Rattle.stl_syntax.specs.PostOrder.{IsPostOrder};
 ghost use Rattle.stl_syntax.specs.SupInf.{Gives, HasInfs, HasValues, Setting};
@@ -11,7 +12,7 @@ ghost use Rattle.stl_syntax.specs.declared.node.Node.{Node};
 ghost use Rattle.stl_syntax.specs.declared.node.Node.TheVariants.{Atom as Leaf};
 ghost use Rattle.value_laws.specs.declared.truth.Truth.{Truth};
 ghost use Rattle.value_laws.specs.declared.kleene.Kleene.{Kleene};
-ghost use Rattle.offline_eval.specs.Forms.{of_knots};
+ghost use Rattle.offline_eval.specs.Forms.{of_knots, of_pieces};
 ghost use Rattle.offline_eval.specs.Inputs.{atoms_before, is_atom, IsInput, IsOver, TellAtoms, TellAtomsBelow};
 ghost use Rattle.offline_eval.specs.PlainAtoms.{knots_setting};
 ghost use Rattle.offline_eval.specs.declared.faults.EvalFault.{EvalFault};
@@ -39,6 +40,13 @@ pub fn atoms_grow<P: Shape>()
 pub fn told_have_values<P: Shape>()
     ensures { (nodes : List Node) (signals : List (List (Knot P))) (s : Setting) → IsPostOrder nodes → s.highest ≡ P.highest
         → TellNodes (of_knots P.Shape) nodes signals s → (i : ℕ) → i < length nodes
+        → HasValues (subformula nodes i) s × HasInfs (subformula nodes i) s }
+{}
+
+/// Where chains of pieces tell the nodes, each subformula has a value at each time of the domain, and an Inf between each two times.
+pub fn chains_have_values<P: Shape>()
+    ensures { (nodes : List Node) (chains : List (Chain P)) (s : Setting) → IsPostOrder nodes → s.highest ≡ P.highest
+        → TellNodes (of_pieces P.Shape) nodes chains s → (i : ℕ) → i < length nodes
         → HasValues (subformula nodes i) s × HasInfs (subformula nodes i) s }
 {}
 

@@ -1,4 +1,4 @@
-//! The evaluation of a formula for its root alone: each signal is given up once the one node that reads it has its own.
+//! The evaluation of a formula for its root alone, by chains of pieces: each chain is given up once the one node that reads it has its own.
 ghost use Rattle.std.specs.Prelude.{◌≡◌, ◌+◌, ◌<◌, ◌≤◌, ◌++◌, ◌∷◌, [], All, List, ℕ, Some, false, length, option_to_list, slice_get, IfSome, IfErr, OnOk};
 ghost use Rattle.stl_syntax.specs.Formula.{subformula};
 ghost use Rattle.stl_syntax.specs.PostOrder.{children};
@@ -6,18 +6,18 @@ ghost use Rattle.stl_syntax.specs.SupInf.{Setting};
 ghost use Rattle.stl_syntax.specs.declared.atom.Atom.{Atom};
 ghost use Rattle.stl_syntax.specs.declared.node.Node.{Node};
 ghost use Rattle.stl_syntax.specs.declared.node.Node.TheVariants.{Atom as Leaf};
-ghost use Rattle.offline_eval.specs.Forms.{of_knots};
+ghost use Rattle.offline_eval.specs.Forms.{of_pieces};
 ghost use Rattle.offline_eval.specs.Evaluation.{IsFault};
 ghost use Rattle.offline_eval.specs.Inputs.{is_atom, IsInput, IsOver};
 ghost use Rattle.offline_eval.specs.Keeping.{AreGivenUp, IsRootIn, IsStack, TellsStack};
 ghost use Rattle.offline_eval.specs.Making.{TellsValue};
 
 use crate::EvalFault;
-use crate::connectives::constant_signal;
+use crate::chain_connectives::constant_chain;
+use crate::chain_nodes::of_node;
 use crate::evaluation::at_node;
-use crate::nodes::of_node;
 use frac128::Memory;
-use pl_signal::Signal;
+use pieces::Pieces;
 use std::alloc::Global;
 use std::marker::Model;
 use stl_syntax::{Formula, Node};
@@ -42,98 +42,100 @@ fn operands(node: &Node) -> (Option<u32>, Option<u32>)
     }
 }
 
-/// Gives up the signal at a place. A constant stands there from then on.
+/// Gives up the chain at a place. A constant stands there from then on.
 fn give_up<P: Shape>(
     alloc: Global,
     from: u32,
     to: u32,
-    done: &mut Vec<Signal<P>>,
+    done: &mut Vec<Pieces<P>>,
     place: Option<u32>,
 ) -> Result<(), Memory>
     requires order { from ≤ to }
     requires inside { IfSome place (λ p. p < length done.old.items) }
-    ensures { OnOk result (AreGivenUp (of_knots P.Shape) from to (option_to_list place) done.old.items done.new.items) }
+    ensures { OnOk result (AreGivenUp (of_pieces P.Shape) from to (option_to_list place) done.old.items done.new.items) }
 {
     let Some(place) = place else {
         return Ok(());
     };
-    let spare = constant_signal(alloc, from, to, false)?;
+    let spare = constant_chain(alloc, from, to, false)?;
     done[place as usize] = spare;
     Ok(())
 }
 
-/// Puts the signal of the next node behind those before it, and gives up those of its children: no other node reads them.
+/// Puts the chain of the next node behind those before it, and gives up those of its children: no other node reads them.
 fn keep<P: Shape>(
     alloc: Global,
     from: u32,
     to: u32,
     node: &Node,
-    signal: Signal<P>,
-    done: &mut Vec<Signal<P>>,
+    chain: Pieces<P>,
+    done: &mut Vec<Pieces<P>>,
 ) -> Result<(), Memory>
     requires order { from ≤ to }
     requires children { All (λ p. p < length done.old.items) (children node.now) }
-    ensures { OnOk result (AreGivenUp (of_knots P.Shape) from to (children node.now) (done.old.items ++ signal ∷ []) done.new.items) }
+    ensures { OnOk result (AreGivenUp (of_pieces P.Shape) from to (children node.now) (done.old.items ++ chain ∷ []) done.new.items) }
 {
     let (left, right) = operands(node);
-    if done.push(signal).is_err() {
+    if done.push(chain).is_err() {
         return Err(Memory);
     }
     give_up(alloc, from, to, done, left)?;
     give_up(alloc, from, to, done, right)
 }
 
-/// The signals of the first nodes of a formula, on the way to that of its root. Each is given up once the one node that reads it has
-/// its own, so that only those are held that are still to be read. Contracts see it as the list of the signals, by the places of the
-/// nodes.
+/// The values of the first nodes of a formula over time, on the way to that of its root, as chains of pieces. Each is given up once the
+/// one node that reads it has its own, so that only those are held that are still to be read. Contracts see it as the list of the chains,
+/// by the places of the nodes.
 #[derive(Drop)]
 pub struct Stack<P: Shape> {
-    done: Vec<Signal<P>>,
+    done: Vec<Pieces<P>>,
 }
 
 impl<P: Shape> Model for Stack<P> {
     ghost use Rattle.std.specs.Prelude.{List};
-    ghost use Rattle.pl_signal.specs.declared.knot.Knot.{Knot};
+    ghost use Rattle.pieces.specs.Chains.{Chain};
 
-    ghost Value = { List (List (Knot P)) };
+    ghost Value = { List (Chain P) };
 
     ghost view = { λ s. s.done.items };
 }
 
 impl<P: Shape> Stack<P> {
-    /// No signals yet; it takes no memory.
+    /// No chains yet; it takes no memory.
     pub fn new(alloc: Global) -> Stack<P>
-        ensures stands { (from to : ℕ) (nodes : List Node) → IsStack (of_knots P.Shape) from to nodes 0 result }
-        ensures told { (nodes : List Node) (s : Setting) → TellsStack (of_knots P.Shape) nodes s 0 result }
+        ensures stands { (from to : ℕ) (nodes : List Node) → IsStack (of_pieces P.Shape) from to nodes 0 result }
+        ensures told { (nodes : List Node) (s : Setting) → TellsStack (of_pieces P.Shape) nodes s 0 result }
     {
         Stack {
             done: Vec::new(alloc),
         }
     }
 
-    /// Takes the signal of the node at place `i`, an atom.
+    /// Takes the chain of the node at place `i`, an atom.
     ///
     /// # Errors
     ///
     /// `Memory` where memory is wanting. The stack is of no use then.
-    pub fn give(&mut self, formula: &Formula, i: u32, signal: Signal<P>) -> Result<(), Memory>
+    pub fn give(&mut self, formula: &Formula, i: u32, chain: Pieces<P>) -> Result<(), Memory>
         requires { (a : Atom) × (slice_get formula.now.nodes i ≡ Some (Leaf a)) }
-        ensures stands { OnOk result ((from to : ℕ) → IsInput (of_knots P.Shape) from to signal
-            → IsStack (of_knots P.Shape) from to formula.now.nodes i self.old → IsStack (of_knots P.Shape) from to formula.now.nodes (i + 1) self.new) }
+        ensures stands { OnOk result ((from to : ℕ) → IsInput (of_pieces P.Shape) from to chain
+            → IsStack (of_pieces P.Shape) from to formula.now.nodes i self.old
+            → IsStack (of_pieces P.Shape) from to formula.now.nodes (i + 1) self.new) }
         ensures told { OnOk result ((from to : ℕ) (s : Setting) → IsOver P.lowest P.highest from to s
-            → IsStack (of_knots P.Shape) from to formula.now.nodes i self.old
-            → TellsValue (of_knots P.Shape) s (subformula formula.now.nodes i) signal → TellsStack (of_knots P.Shape) formula.now.nodes s i self.old
-            → TellsStack (of_knots P.Shape) formula.now.nodes s (i + 1) self.new) }
+            → IsStack (of_pieces P.Shape) from to formula.now.nodes i self.old
+            → TellsValue (of_pieces P.Shape) s (subformula formula.now.nodes i) chain
+            → TellsStack (of_pieces P.Shape) formula.now.nodes s i self.old
+            → TellsStack (of_pieces P.Shape) formula.now.nodes s (i + 1) self.new) }
     {
         // For the proof alone: the nodes stand in post-order.
         let _ = formula.len();
-        if self.done.push(signal).is_err() {
+        if self.done.push(chain).is_err() {
             return Err(Memory);
         }
         Ok(())
     }
 
-    /// Makes the signal of the node at place `i`, which is no atom, over the domain from `from` to `to`, both in ticks.
+    /// Makes the chain of the node at place `i`, which is no atom, over the domain from `from` to `to`, both in ticks.
     ///
     /// # Errors
     ///
@@ -150,19 +152,20 @@ impl<P: Shape> Stack<P> {
         requires order { from ≤ to }
         requires inside { i < length formula.now.nodes }
         requires kind { (n : Node) → slice_get formula.now.nodes i ≡ Some n → is_atom n ≡ false }
-        requires stands { IsStack (of_knots P.Shape) from to formula.now.nodes i self.old }
-        ensures stands { OnOk result (IsStack (of_knots P.Shape) from to formula.now.nodes (i + 1) self.new) }
+        requires stands { IsStack (of_pieces P.Shape) from to formula.now.nodes i self.old }
+        ensures stands { OnOk result (IsStack (of_pieces P.Shape) from to formula.now.nodes (i + 1) self.new) }
         ensures told { OnOk result ((s : Setting) → IsOver P.lowest P.highest from to s
-            → TellsStack (of_knots P.Shape) formula.now.nodes s i self.old → TellsStack (of_knots P.Shape) formula.now.nodes s (i + 1) self.new) }
+            → TellsStack (of_pieces P.Shape) formula.now.nodes s i self.old
+            → TellsStack (of_pieces P.Shape) formula.now.nodes s (i + 1) self.new) }
         ensures wide { IfErr result (λ e. (s : Setting) → IsOver P.lowest P.highest from to s
-            → TellsStack (of_knots P.Shape) formula.now.nodes s i self.old → IsFault P.Shape formula.now.nodes s e) }
+            → TellsStack (of_pieces P.Shape) formula.now.nodes s i self.old → IsFault P.Shape formula.now.nodes s e) }
     {
         // For the proof alone: the nodes stand in post-order.
         let _ = formula.len();
         let next = formula.node(i);
         match of_node(alloc, from, to, next, &self.done) {
-            Ok(signal) => {
-                if keep(alloc, from, to, next, signal, &mut self.done).is_err() {
+            Ok(chain) => {
+                if keep(alloc, from, to, next, chain, &mut self.done).is_err() {
                     return Err(EvalFault::Memory);
                 }
                 Ok(())
@@ -171,16 +174,16 @@ impl<P: Shape> Stack<P> {
         }
     }
 
-    /// The signal of the root, once all nodes have had theirs.
-    pub fn root(self) -> Signal<P>
+    /// The chain of the root, once all nodes have had theirs.
+    pub fn root(self) -> Pieces<P>
         requires { 0 < length self }
-        ensures { (nodes : List Node) (s : Setting) → length nodes ≡ length self → TellsStack (of_knots P.Shape) nodes s (length nodes) self
-            → IsRootIn (of_knots P.Shape) nodes s result }
+        ensures { (nodes : List Node) (s : Setting) → length nodes ≡ length self
+            → TellsStack (of_pieces P.Shape) nodes s (length nodes) self → IsRootIn (of_pieces P.Shape) nodes s result }
     {
         let Stack { done } = self;
-        let mut signals = done;
-        match signals.pop() {
-            Some(signal) => signal,
+        let mut chains = done;
+        match chains.pop() {
+            Some(chain) => chain,
             None => unreachable!(),
         }
     }

@@ -4,7 +4,7 @@ use Rattle.rational.specs.Time.{Rational, ◌≤ʳ◌, ◌<ʳ◌, ◌≈◌}
 use Rattle.rational.specs.Extended.{Extended, Affine, value_at, Passes}
 use Rattle.rational.specs.Affine.{MeetAlone}
 use Rattle.rational.specs.Places.{Place, After, Upto, Before}
-use Rattle.rational.proofs.Order.{lt_or_same_or_gt, not_lt_of_le, same_sym}
+use Rattle.rational.proofs.Order.{le_refl, lt_or_same_or_gt, not_lt_of_le, same_sym}
 use Rattle.std.proofs.lemmas.Bool.{false≢true}
 use Rattle.rational.proofs.ExtendedLemmas.{le_transᵉ, le_of_ltᵉ, clashᵉ}
 use Rattle.rational.proofs.AffineLemmas.{value_same}
@@ -17,9 +17,11 @@ use Rattle.pl_signal.specs.declared.joining.Side.{Side}
 use Rattle.pl_signal.specs.declared.joining.Side.TheVariants.{Least, Greatest}
 use Rattle.pl_signal.specs.Joining.{IsChosen, IsTurn, TurnsOver}
 use Rattle.pl_signal.proofs.Choices.{IsTaken, chosen_first, chosen_second, chosen_same, chosen_one, taken_between, taken_of_greater, taken_of_less, taken_same}
+use Rattle.pieces.specs.Best.{FallsFrom, IsNoWorse, RisesFrom}
 use Rattle.pieces.specs.Chains.{Chain, stop, HasShape, IsWorth}
 use Rattle.pieces.specs.Building.{GoesOn}
 use Rattle.pieces.specs.Joining.{IsTakenOn, Joins}
+use Rattle.pieces.proofs.Bests.{nw_trans}
 use Rattle.pieces.proofs.Ends.{after_le, upto_le}
 
 -- what is taken at a time is taken there by another pair
@@ -42,6 +44,28 @@ taken_within b f g l t r lt tr h k = by_left (lt_or_same_or_gt l t) (lt_or_same_
     by_left (inl x) (inl y) = taken_between b f g l t r x y h k
     by_left (inl x) (inr (inl e)) = taken_alike b f g (same_sym e) k
     by_left (inl x) (inr (inr y)) = absurd (not_lt_of_le tr y)
+
+-- what is taken is no worse
+nw_of_taken : (b : Side) (x y : Extended) → IsTaken b x y → IsNoWorse b x y
+nw_of_taken Least x y h = record { order = h }
+nw_of_taken Greatest x y h = record { order = h }
+
+-- what is no worse may be taken
+pub taken_of_nw : (b : Side) (x y : Extended) → IsNoWorse b x y → IsTaken b x y
+taken_of_nw Least x y h = h.order
+taken_of_nw Greatest x y h = h.order
+
+-- what gets no better and is taken at the end, beside what gets no worse, is taken before
+pub taken_before : (b : Side) (f g : Affine) (l r : Rational) → l ≤ʳ r → FallsFrom b l r f → RisesFrom b l r g → IsTaken b (value_at f r) (value_at g r)
+    → IsTaken b (value_at f l) (value_at g l)
+taken_before b f g l r o falls rises h = taken_of_nw b (value_at f l) (value_at g l) (nw_trans (falls l r (le_refl l) o (le_refl r))
+    (nw_trans (nw_of_taken b (value_at f r) (value_at g r) h) (rises l r (le_refl l) o (le_refl r))))
+
+-- and what gets no worse and is taken at the beginning is taken later
+pub taken_later : (b : Side) (f g : Affine) (l r : Rational) → l ≤ʳ r → FallsFrom b l r f → RisesFrom b l r g → IsTaken b (value_at g l) (value_at f l)
+    → IsTaken b (value_at g r) (value_at f r)
+taken_later b f g l r o falls rises h = taken_of_nw b (value_at g r) (value_at f r) (nw_trans (rises l r (le_refl l) o (le_refl r))
+    (nw_trans (nw_of_taken b (value_at g l) (value_at f l) h) (falls l r (le_refl l) o (le_refl r))))
 
 module _ {P : Type 0} (shape : ShapeOf P) where
   -- the first is taken throughout

@@ -23,11 +23,12 @@ use Rattle.pieces.specs.declared.piece.Piece.{Piece}
 use Rattle.pieces.specs.declared.reach.Reach.{Reach}
 use Rattle.pieces.specs.declared.reach.Way.{Way}
 use Rattle.pieces.specs.declared.sliding.Sliding.{Sliding}
-use Rattle.pieces.specs.Best.{GetsNoWorse, RisesFrom, none_of}
+use Rattle.pieces.specs.Best.{GetsNoWorse, IsNoWorse, RisesFrom, none_of}
+use Rattle.pieces.specs.Steps.{IsLastChoice}
 use Rattle.pieces.specs.Chains.{Chain, end, stop, IsLimited, IsNormal}
 use Rattle.pieces.specs.Sliding.{IsBestWith}
 use Rattle.pieces.specs.Windows.{low_place, high_place, BestTo, HasEntered, IsBestEnd, IsNonEmpty, IsPieceFrom, IsSmall, Stands}
-use Rattle.pieces.proofs.Bests.{best_value, better_alike, better_is_second, nw_same}
+use Rattle.pieces.proofs.Bests.{best_value, better_alike, better_is_second, nw_back, nw_same, nw_trans}
 use Rattle.pieces.proofs.Ends.{after_of_lt, at_most_itself, at_most_of_before, here_after, here_upto, upto_le, upto_of_lt, upto_time_same}
 use Rattle.pieces.proofs.Seeing.{BestOf, OfPiece, falling_before, floor, high, low, met_more, none, none_seen, rising_past, rising_within}
 use Rattle.pieces.proofs.SinceSteps.{bounded_ends}
@@ -145,6 +146,14 @@ module _ {P : Type 0} (shape : ShapeOf P) (laws : ShapeLaws shape) (side : Side)
   -- a shape that is worth the value of no values does not climb
   pub none_rises : (from to : Rational) → RisesFrom side from to (shape.function gap)
   none_rises from to t u a k m = nw_same side (transᵉ (is u) (symᵉ (is t)))
+
+  -- no shape is worse
+  pub none_last : IsLastChoice shape side gap
+  none_last q t = nw_trans (floor side) (nw_back side (is t))
+    where
+      floor : (side : Side) → IsNoWorse side (value_at (shape.function q) t) (none_of side shape.lowest shape.highest)
+      floor Greatest = record { order = laws.lowest_is_least q t }
+      floor Least = record { order = laws.highest_is_greatest q t }
 
   -- its level is bounded
   pub none_level : HasBoundedLevel (2 ^ 31) (shape.function gap)

@@ -194,14 +194,7 @@ module _ {P : Type 0} (shape : ShapeOf P) (side : Side) where
           shapes = λ q m. inl m;
         }
 
-    -- so one whose shape is no worse where it ends
-    pub stays_by_shape : IsNoWorse side (value_at (shape.function s.shape) (step_end s).at) (value_at (shape.function p) (step_end s).at)
-        → Outlasts shape side b s p s
-    stays_by_shape last = stays (λ t x a u g. nw_trans (with_no_worse s.shape s.other t x g)
-        (nw_trans (is.falls t (step_end s).at (after_le b t a) (upto_le (step_end s) t u) (le_refl (step_end s).at))
-        (nw_trans last (nw_same side (level.steady (step_end s).at t order (le_refl (step_end s).at) (after_le b t a) (upto_le (step_end s) t u))))))
-
-    -- and one whose constant is better
+    -- so one whose constant is better
     pub stays_by_other : (q : P) → s.other ≡ Some q → IsWorse side (value_at (shape.function p) b.at) (value_at (shape.function q) b.at)
         → Outlasts shape side b s p s
     stays_by_other q e better = stays (λ t x a u g. by_other s.other e is.other t x a u g)
@@ -521,6 +514,14 @@ module _ {P : Type 0} (shape : ShapeOf P) (side : Side) where
       last : IsStep shape side (steps_end b hides.front) hides.last
       last = (steps_back b hides.front (hides.last ∷ []) parts).0
 
+      of_last : (t : Rational) (x : Extended) → After (steps_end b hides.front) t → Upto (step_end hides.last) t → Gives shape side hides.last t x
+          → IsNoWorse side x v
+      of_last t x a u g = elim hides.above [
+        | inl h ↦ h t x g
+        | inr h ↦ nw_trans (with_no_worse hides.last.shape hides.last.other t x g) (nw_trans (last.falls t (step_end hides.last).at
+            (after_le (steps_end b hides.front) t a) (upto_le (step_end hides.last) t u) (le_refl (step_end hides.last).at)) h)
+      ]
+
       by_part : StepsGive shape side b hides.front t x ⊎ StepsGive shape side (steps_end b hides.front) (hides.last ∷ []) t x → IsNoWorse side x v
       by_part (inl h) =
           let u = between (steps_end b hides.front) (step_end hides.last) last.later in
@@ -528,8 +529,8 @@ module _ {P : Type 0} (shape : ShapeOf P) (side : Side) where
           nw_trans (falls t u.0 x y.0 (le_through (steps_end b hides.front) t u.0
           (give_upto b hides.front t x (steps_front b hides.front (hides.last ∷ []) parts) h) u.1) g
           (subst (λ xs. StepsGive shape side b xs u.0 y.0) (sym hides.are)
-          (give_back b hides.front (hides.last ∷ []) u.0 y.0 (inl (u.1, u.2, y.1))))) (hides.above u.0 y.0 y.1)
-      by_part (inr (inl h)) = hides.above t x h.2
+          (give_back b hides.front (hides.last ∷ []) u.0 y.0 (inl (u.1, u.2, y.1))))) (of_last u.0 y.0 u.1 u.2 y.1)
+      by_part (inr (inl h)) = of_last t x h.0 h.1 h.2
       by_part (inr (inr h)) = absurd h
 
   -- steps that hide a value up to a place go on to that place

@@ -10,6 +10,8 @@ use Rattle.frac128.specs.Cuts.{place}
 use Rattle.value_laws.specs.Members.{ShapeOf}
 use Rattle.pl_signal.specs.declared.joining.Side.{Side}
 use Rattle.pieces.specs.declared.steps.Step.{Step}
+use Rattle.pieces.specs.declared.steps.Lasting.{Lasting}
+use Rattle.pieces.specs.declared.steps.Lasting.TheVariants.{Hidden, Whole, Part}
 use Rattle.pieces.specs.Best.{IsBetter, IsNoWorse, FallsFrom, LevelFrom}
 
 module _ {P : Type 0} where
@@ -21,6 +23,10 @@ module _ {P : Type 0} where
   abbrev pub steps_end : Place → List (Step P) → Place
   steps_end b [] = b
   steps_end b (s ∷ ss) = steps_end (step_end s) ss
+
+  -- the step with a constant for its other shape
+  abbrev pub with_constant : Step P → P → Step P
+  with_constant s p = record { until = s.until; shape = s.shape; other = Some p }
 
   -- the shape is one of the step's two
   abbrev pub IsOfStep : Step P → P → Type 0
@@ -51,6 +57,10 @@ module _ {P : Type 0} (shape : ShapeOf P) (side : Side) where
   StepsGive b [] t v = ⊥
   StepsGive b (s ∷ ss) t v = (After b t × Upto (step_end s) t × Gives s t v) ⊎ StepsGive (step_end s) ss t v
 
+  -- no shape has a worse value at any time
+  abbrev pub IsLastChoice : P → Type 0
+  IsLastChoice p = (q : P) (t : Rational) → IsNoWorse side (value_at (shape.function q) t) (value_at (shape.function p) t)
+
   -- the shape is constant from the one place to the other
   pub record IsLevel (b e : Place) (p : P) : Type 0 where
     pub steady : LevelFrom b.at e.at (shape.function p)
@@ -80,13 +90,14 @@ module _ {P : Type 0} (shape : ShapeOf P) (side : Side) where
   abbrev pub IsHidden : Place → Step P → P → Type 0
   IsHidden b s p = (t : Rational) (v : Extended) → After b t → Upto (step_end s) t → Gives s t v → IsNoWorse side (value_at (shape.function p) t) v
 
-  -- the last of the steps goes on to the place, and is no worse than the value at any time
+  -- the last of the steps goes on to the place, and is no worse than the value at any time, or its shape is not where it ends
   pub record HideTo (ss : List (Step P)) (v : Extended) (e : Place) : Type 0 where
     pub front : List (Step P)
     pub last : Step P
     pub are : ss ≡ front ++ last ∷ []
     pub upto : AtMost e (step_end last)
-    pub above : (t : Rational) (x : Extended) → Gives last t x → IsNoWorse side x v
+    pub above : ((t : Rational) (x : Extended) → Gives last t x → IsNoWorse side x v)
+        ⊎ IsNoWorse side (value_at (shape.function last.shape) (step_end last).at) v
 
   -- the step that is left where the constant counts with one that is better somewhere
   pub record Outlasts (b : Place) (s : Step P) (p : P) (left : Step P) : Type 0 where
@@ -96,6 +107,12 @@ module _ {P : Type 0} (shape : ShapeOf P) (side : Side) where
         → (x : Extended) × Gives s t x × IsBetter side x (value_at (shape.function p) t) v
     pub above : (t : Rational) × (x : Extended) × After b t × Upto (step_end s) t × Gives s t x × IsNoWorse side x (value_at (shape.function p) t)
     pub shapes : (q : P) → IsOfStep left q → IsOfStep s q ⊎ (q ≡ p)
+
+  -- what becomes of a step beside the constant
+  abbrev pub Lasts : Place → Step P → P → Lasting → Type 0
+  Lasts b s p Hidden = IsHidden b s p
+  Lasts b s p Whole = Outlasts b s p s
+  Lasts b s p Part = Outlasts b s p (with_constant s p)
 
   -- the new steps give the better of what the old ones give and of the constant, as far as that is not better to the end
   pub record IsCapped (b : Place) (old : List (Step P)) (p : P) (new : List (Step P)) : Type 0 where

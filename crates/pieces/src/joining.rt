@@ -9,7 +9,8 @@ ghost use Rattle.frac128.specs.declared.frac.Frac.{Frac as Time};
 ghost use Rattle.pl_signal.specs.declared.faults.OpFault.TheVariants as F;
 ghost use Rattle.pl_signal.specs.declared.joining.Side.{Side as Wanted};
 ghost use Rattle.pl_signal.specs.Joining.{IsGapFault, IsTurn, TurnsOver};
-ghost use Rattle.rational.specs.Time.{◌<ʳ◌};
+ghost use Rattle.rational.specs.Time.{◌<ʳ◌, ◌≤ʳ◌};
+ghost use Rattle.pieces.specs.Best.{FallsFrom, RisesFrom};
 ghost use Rattle.pieces.specs.Chains.{Chain, IsNormal, stop};
 ghost use Rattle.pieces.specs.Building.{GoesOn};
 ghost use Rattle.pieces.specs.Joining.{IsTakenOn, Joins};
@@ -52,10 +53,77 @@ impl<P: Shape> Pieces<P> {
             (λ pair. (from : Time) × (value from ≡ (stop self.old).at) × IsGapFault P.Shape p.now q.now from until.now.time (F.Wide pair))) }
     {
         let from = self.until();
-        match takes_first(side, p, q, &from, until) {
+        let taken = takes_first(side, p, q, &from, until);
+        self.put_taken(side, p, q, taken, &from, until, fault)
+    }
+
+    /// Does what `join` does for a shape that gets no better on the way and one that gets no worse: where the first is no worse at the end,
+    /// nothing more is compared.
+    ///
+    /// # Errors
+    ///
+    /// As `join`.
+    #[inline(always)]
+    pub(crate) fn join_falling(
+        &mut self,
+        side: Side,
+        p: &P,
+        q: &P,
+        until: &Cut,
+        fault: &mut Option<WidePair<P>>,
+    ) -> Result<(), Memory>
+        requires falls { FallsFrom side (stop self.old).at (value until.now.time) (P.function p.now) }
+        requires rises { RisesFrom side (stop self.old).at (value until.now.time) (P.function q.now) }
+        requires later { Before (stop self.old) (place until.now) }
+        requires from_within { IsWithin (2 ^ 34) (stop self.old).at }
+        requires to_within { IsWithin (2 ^ 34) (value until.now.time) }
+        requires first { HasBoundedLevel (2 ^ 31) (P.function p.now) }
+        requires second { HasBoundedLevel (2 ^ 31) (P.function q.now) }
+        requires none { fault.old ≡ None }
+        ensures ok { OnOk result (Joins P.Shape side self.old p.now q.now until.now self.new) }
+        ensures still { OnOk result (fault.new ≡ None) }
+        ensures wide { OnErr result (IfSome fault.new
+            (λ pair. (from : Time) × (value from ≡ (stop self.old).at) × IsGapFault P.Shape p.now q.now from until.now.time (F.Wide pair))) }
+    {
+        let from = self.until();
+        let taken = takes_falling(side, p, q, &from, until);
+        self.put_taken(side, p, q, taken, &from, until, fault)
+    }
+
+    /// Goes on with the one of the two that is taken, or with both where they cross: `Err` says whether the first is taken before.
+    #[inline(always)]
+    fn put_taken(
+        &mut self,
+        side: Side,
+        p: &P,
+        q: &P,
+        taken: Result<bool, bool>,
+        from: &Cut,
+        until: &Cut,
+        fault: &mut Option<WidePair<P>>,
+    ) -> Result<(), Memory>
+        requires begins { place from.now ≡ stop self.old }
+        requires taken { MatchResult taken
+            (λ first. IsTakenOn P.Shape side p.now q.now (place from.now) (place until.now) (if first then p.now else q.now))
+            (IsTurn P.Shape side p.now q.now (value from.now.time) (value until.now.time)) }
+        requires later { Before (stop self.old) (place until.now) }
+        requires from_within { IsWithin (2 ^ 34) (stop self.old).at }
+        requires to_within { IsWithin (2 ^ 34) (value until.now.time) }
+        requires first { HasBoundedLevel (2 ^ 31) (P.function p.now) }
+        requires second { HasBoundedLevel (2 ^ 31) (P.function q.now) }
+        requires none { fault.old ≡ None }
+        ensures ok { OnOk result (Joins P.Shape side self.old p.now q.now until.now self.new) }
+        ensures still { OnOk result (fault.new ≡ None) }
+        ensures err { OnErr result (self.new ≡ self.old) }
+        ensures wide { OnErr result (IfSome fault.new
+            (λ pair. (from : Time) × (value from ≡ (stop self.old).at) × IsGapFault P.Shape p.now q.now from until.now.time (F.Wide pair))) }
+    {
+        // For the proof alone: for which side they are taken.
+        let _ = side;
+        match taken {
             Ok(true) => self.put(until, p),
             Ok(false) => self.put(until, q),
-            Err(first) => self.join_crossing(p, q, first, &from, until, fault),
+            Err(first) => self.join_crossing(p, q, first, from, until, fault),
         }
     }
 
@@ -141,5 +209,26 @@ fn takes_first<P: Shape>(side: Side, p: &P, q: &P, from: &Cut, until: &Cut) -> R
             Ordering::Less => Err(false),
             _ => Ok(false),
         },
+    }
+}
+
+/// The same for a shape that gets no better on the way and one that gets no worse.
+#[inline(always)]
+fn takes_falling<P: Shape>(side: Side, p: &P, q: &P, from: &Cut, until: &Cut) -> Result<bool, bool>
+    requires falls { FallsFrom side (value from.now.time) (value until.now.time) (P.function p.now) }
+    requires rises { RisesFrom side (value from.now.time) (value until.now.time) (P.function q.now) }
+    requires order { value from.now.time ≤ʳ value until.now.time }
+    requires from_within { IsWithin (2 ^ 34) (value from.now.time) }
+    requires to_within { IsWithin (2 ^ 34) (value until.now.time) }
+    ensures { MatchResult result
+        (λ first. IsTakenOn P.Shape side p.now q.now (place from.now) (place until.now) (if first then p.now else q.now))
+        (IsTurn P.Shape side p.now q.now (value from.now.time) (value until.now.time)) }
+{
+    match favour(side, p, q, &until.time) {
+        Ordering::Greater => match favour(side, p, q, &from.time) {
+            Ordering::Less => Err(true),
+            _ => Ok(false),
+        },
+        _ => Ok(true),
     }
 }

@@ -61,26 +61,26 @@ fn add_piece<P: Shape>(
 {
     let piece = chain.piece(i);
     match at.time.cmp(&piece.until.time) {
-        Ordering::Less => built.step(piece.shape, piece.until.time, shape_at_end(chain, i)),
+        Ordering::Less => built.go_along(&piece.shape, &piece.until.time, shape_at_end(chain, i)),
         _ => Ok(()),
     }
 }
 
 /// A shape that has the chain's value at the time at which the piece ends.
-fn shape_at_end<P: Shape>(chain: &Pieces<P>, i: usize) -> P
+fn shape_at_end<P: Shape>(chain: &Pieces<P>, i: usize) -> &P
     requires place { i < length chain.now.pieces }
     requires ends { (stop chain.now).after ≡ true }
-    ensures shape { HasShape chain.now result }
+    ensures shape { HasShape chain.now result.now }
     ensures worth { (p : Part P) → slice_get chain.now.pieces i ≡ Some p
-        → IsWorth P.Shape chain.now (end p).at (value_at (P.function result) (end p).at) }
+        → IsWorth P.Shape chain.now (end p).at (value_at (P.function result.now) (end p).at) }
 {
     // For the proof alone: that the chain is normal is a clause of `len`.
     let _ = chain.len();
     let piece = chain.piece(i);
     if piece.until.side == 0 {
-        return chain.piece(i + 1).shape;
+        return &chain.piece(i + 1).shape;
     }
-    piece.shape
+    &piece.shape
 }
 
 /// The pieces of a signal: of each gap, and of each point at which the gap behind it has another value. At each time both have one value.

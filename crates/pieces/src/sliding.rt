@@ -1,6 +1,6 @@
 //! A window on its way over a function of time: what it has told, and the steps down that it will give, should no more come into it.
 //! Source: the steps are the monotonic wedge of Lemire 2006, over pieces of a function in the place of samples.
-ghost use Rattle.std.specs.Prelude.{◌≡◌, ◌⊎◌, ◌^◌, Some, IfOk, IfSome, None, OnErr, OnOk};
+ghost use Rattle.std.specs.Prelude.{◌≡◌, ◌⊎◌, ◌^◌, Some, IsTrue, IfOk, IfSome, None, OnErr, OnOk};
 ghost use Rattle.rational.specs.Rational.{IsWithin};
 ghost use Rattle.rational.specs.Affine.{HasBoundedLevel};
 ghost use Rattle.rational.specs.Places.{AtMost, Before, Same};
@@ -8,7 +8,7 @@ ghost use Rattle.frac128.specs.Value.{value as value_of};
 ghost use Rattle.frac128.specs.Cuts.{place};
 ghost use Rattle.pieces.specs.Best.{FallsFrom, RisesFrom};
 ghost use Rattle.pieces.specs.Chains.{stop};
-ghost use Rattle.pieces.specs.Steps.{AreSteps, IsOfStep, IsStep};
+ghost use Rattle.pieces.specs.Steps.{AreSteps, IsLastChoice, IsOfStep, IsStep};
 ghost use Rattle.pieces.specs.Sliding.{HasTold, IsCrossFault, IsToldFault, IsWritten};
 
 use crate::Pieces;
@@ -28,7 +28,7 @@ pub(crate) struct Sliding<P: Shape> {
 
 impl<P: Shape> Sliding<P> {
     /// Tells up to a place: at each time the better of what the steps give and of a shape that gets no worse on the way, and behind the last step
-    /// that shape. Steps that end by then are gone.
+    /// that shape. Steps that end by then are gone. The steps count `alone` where the shape is no better than anything.
     ///
     /// It is refused only for a crossing of two shapes that count, at a time that needs a denominator of 2^60 or more: the pair is then
     /// in `fault`.
@@ -40,9 +40,11 @@ impl<P: Shape> Sliding<P> {
         &mut self,
         side: Side,
         gap: &P,
+        alone: bool,
         until: &Cut,
         fault: &mut Option<WidePair<P>>,
     ) -> Result<(), Memory>
+        requires alone { IsTrue alone → IsLastChoice P.Shape side gap.now }
         requires steps { AreSteps P.Shape side (stop self.old.out) self.old.steps.items }
         requires rises { RisesFrom side (stop self.old.out).at (value_of until.now.time) (P.function gap.now) }
         requires level { HasBoundedLevel (2 ^ 31) (P.function gap.now) }
@@ -58,15 +60,15 @@ impl<P: Shape> Sliding<P> {
         // For the proof alone: that the chain is normal is a clause of `len`.
         let _ = self.out.len();
         while self.out.until().precedes(until) {
-            let Some(first) = self.steps.pop_front() else {
+            let Some(first) = self.steps.front() else {
                 return self.out.put(until, gap);
             };
             if until.precedes(&first.until) {
-                write(side, &mut self.out, &first, gap, until, fault)?;
-                self.steps.push_front_reserved(first);
+                write(side, &mut self.out, first, gap, alone, until, fault)?;
                 return Ok(());
             }
-            write(side, &mut self.out, &first, gap, &first.until, fault)?;
+            write(side, &mut self.out, first, gap, alone, &first.until, fault)?;
+            let _ = self.steps.pop_front();
         }
         Ok(())
     }
@@ -78,9 +80,11 @@ fn write<P: Shape>(
     out: &mut Pieces<P>,
     step: &Step<P>,
     gap: &P,
+    alone: bool,
     until: &Cut,
     fault: &mut Option<WidePair<P>>,
 ) -> Result<(), Memory>
+    requires alone { IsTrue alone → IsLastChoice P.Shape side gap.now }
     requires is { IsStep P.Shape side (stop out.old) step.now }
     requires rises { RisesFrom side (stop out.old).at (value_of until.now.time) (P.function gap.now) }
     requires level { HasBoundedLevel (2 ^ 31) (P.function gap.now) }
@@ -96,7 +100,12 @@ fn write<P: Shape>(
 {
     match &step.other {
         Some(other) => write_three(side, out, &step.shape, other, gap, until, fault),
-        None => out.join(side, &step.shape, gap, until, fault),
+        None => {
+            if alone {
+                return out.put(until, &step.shape);
+            }
+            out.join_falling(side, &step.shape, gap, until, fault)
+        }
     }
 }
 

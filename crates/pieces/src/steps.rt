@@ -1,5 +1,5 @@
 //! What a window will give, should no more come into it: steps down, of which each counts up to a place.
-ghost use Rattle.std.specs.Prelude.{◌≡◌, ◌<◌, ◌^◌, MatchOption, OnOk};
+ghost use Rattle.std.specs.Prelude.{◌≡◌, ◌<◌, ◌^◌, ◌++◌, ◌∷◌, [], List, OnOk};
 ghost use Rattle.std.specs.VecDeque.{deque_len, deque_capacity};
 ghost use Rattle.rational.specs.Rational.{IsWithin};
 ghost use Rattle.rational.specs.Affine.{HasBoundedLevel};
@@ -7,7 +7,7 @@ ghost use Rattle.rational.specs.Places.{AtMost, Before};
 ghost use Rattle.frac128.specs.Value.{value as value_of};
 ghost use Rattle.frac128.specs.Cuts.{place};
 ghost use Rattle.pieces.specs.Best.{FallsFrom};
-ghost use Rattle.pieces.specs.Steps.{AreSteps, FallOff, HasCounted, HasSlid, IsCapped, IsHidden, IsLevel, IsStep, Outlasts, steps_end};
+ghost use Rattle.pieces.specs.Steps.{AreSteps, FallOff, HasCounted, HasSlid, IsCapped, IsLevel, IsStep, Lasts, steps_end, with_constant};
 
 use frac128::{Cut, Memory};
 use pl_signal::{Side, favour};
@@ -104,16 +104,44 @@ fn cap<P: Shape>(side: Side, from: &Cut, steps: &mut VecDeque<Step<P>>, constant
     ensures capped { IsCapped P.Shape side (place from.now) steps.old.items constant.now steps.new.items }
     ensures room { deque_len steps.new < deque_capacity steps.new }
 {
-    while let Some(last) = steps.pop_back() {
-        let begin = end_of(from, steps);
-        match outlasting(side, &begin, &last, constant) {
-            Some(left) => {
-                steps.push_back_reserved(left);
+    while let Some(last) = steps.back() {
+        let begin = begin_of_last(from, steps);
+        match beside(side, &begin, last, constant) {
+            Lasting::Hidden => {
+                let _ = steps.pop_back();
+            }
+            Lasting::Whole => return,
+            Lasting::Part => {
+                cap_last(steps, constant);
                 return;
             }
-            None => {}
         }
     }
+}
+
+/// Lets the constant count with the last of the steps.
+#[inline(always)]
+fn cap_last<P: Shape>(steps: &mut VecDeque<Step<P>>, constant: &P)
+    requires { 0 < deque_len steps.old }
+    ensures capped { (front : List (Step P)) (last : Step P) → steps.old.items ≡ front ++ last ∷ []
+        → steps.new.items ≡ front ++ with_constant last constant.now ∷ [] }
+    ensures len { deque_len steps.new ≡ deque_len steps.old }
+    ensures capacity { deque_capacity steps.new ≡ deque_capacity steps.old }
+{
+    let last = steps.len() - 1;
+    steps[last].other = Some(*constant);
+}
+
+/// Where the last of the steps begins.
+#[inline(always)]
+fn begin_of_last<P: Shape>(from: &Cut, steps: &VecDeque<Step<P>>) -> Cut
+    ensures { (front : List (Step P)) (last : Step P) → steps.now.items ≡ front ++ last ∷ [] → place result ≡ steps_end (place from.now) front }
+{
+    let count = steps.len();
+    if count < 2 {
+        return *from;
+    }
+    steps[count - 2].until
 }
 
 /// Where the last of the steps ends; where the first is to begin, as long as there is none.
@@ -127,31 +155,33 @@ pub(crate) fn end_of<P: Shape>(from: &Cut, steps: &VecDeque<Step<P>>) -> Cut
     }
 }
 
-/// The step with the constant, where it is better than the constant somewhere: it gets no better from where it begins on.
-fn outlasting<P: Shape>(side: Side, begin: &Cut, step: &Step<P>, constant: &P) -> Option<Step<P>>
+/// How a step goes on beside a constant.
+#[derive(Clone, Copy)]
+pub(crate) enum Lasting {
+    /// It is never better.
+    Hidden,
+    /// It is better to its end.
+    Whole,
+    /// It counts with the constant.
+    Part,
+}
+
+/// How a step goes on beside a constant: it gets no better from where it begins on.
+#[inline(always)]
+fn beside<P: Shape>(side: Side, begin: &Cut, step: &Step<P>, constant: &P) -> Lasting
     requires is { IsStep P.Shape side (place begin.now) step.now }
     requires within { IsWithin (2 ^ 34) (value_of begin.now.time) }
     requires level { IsLevel P.Shape side (place begin.now) (place step.now.until) constant.now }
-    ensures { MatchOption result
-        (IsHidden P.Shape side (place begin.now) step.now constant.now)
-        (Outlasts P.Shape side (place begin.now) step.now constant.now) }
+    ensures { Lasts P.Shape side (place begin.now) step.now constant.now result }
 {
     if let Some(other) = &step.other {
         match favour(side, other, constant, &begin.time) {
-            Ordering::Less => return Some(*step),
+            Ordering::Less => return Lasting::Whole,
             _ => {}
         }
     }
     match favour(side, &step.shape, constant, &begin.time) {
-        Ordering::Less => {}
-        _ => return None,
-    }
-    match favour(side, constant, &step.shape, &step.until.time) {
-        Ordering::Less => Some(Step {
-            until: step.until,
-            shape: step.shape,
-            other: Some(*constant),
-        }),
-        _ => Some(*step),
+        Ordering::Less => Lasting::Part,
+        _ => Lasting::Hidden,
     }
 }

@@ -13,7 +13,7 @@ ghost use Rattle.pieces.specs.Best.{GetsNoBetter, GetsNoWorse, IsNoWorse, IsTren
 ghost use Rattle.pieces.specs.Chains.{IsLimited, Tells, end, stop};
 ghost use Rattle.pieces.specs.Over.{BasesOver, HasBreaks, HasCauseOver, IsCauseOver, Plays};
 ghost use Rattle.pieces.specs.Sliding.{last_end};
-ghost use Rattle.pieces.specs.Steps.{HideTo};
+ghost use Rattle.pieces.specs.Steps.{AreSteps, HideTo};
 ghost use Rattle.pieces.specs.Windows.{AreNear, Best, BestOver, CanSlide, HasEntered, IsAtEnd, IsBestEnd, IsNonEmpty, IsPieceFrom, IsSmall};
 ghost use Rattle.pieces.specs.Windows.{Keeps, Stands, high_place, low_place};
 
@@ -85,7 +85,7 @@ fn slide_over<P: Shape>(
 {
     let none = of_none(way.side);
     if is_empty(&way.over) {
-        return window.tell(way.side, &none, &way.to, fault);
+        return window.tell(way.side, &none, true, &way.to, fault);
     }
     let mut from = s.from();
     enter(s, way, &from, window, fault)?;
@@ -94,7 +94,7 @@ fn slide_over<P: Shape>(
         meet(s, way, &from, piece, window, fault)?;
         from = piece.until;
     }
-    window.tell(way.side, &none, &way.to, fault)
+    window.tell(way.side, &none, true, &way.to, fault)
 }
 
 /// Lets the window meet the next piece, which begins at `from`.
@@ -158,7 +158,7 @@ fn enter<P: Shape>(
     // For the proof alone: over which chain the window moves.
     let _ = s;
     let next = reached(way, met, &window.out.until());
-    window.tell(way.side, &of_none(way.side), &next, fault)
+    window.tell(way.side, &of_none(way.side), true, &next, fault)
 }
 
 /// A piece that stays as it is counts until the window has left it.
@@ -220,7 +220,7 @@ fn rising<P: Shape>(
 {
     let gap = at_high(&way.over, &piece.shape);
     let next = reached(way, &piece.until, &window.out.until());
-    window.tell(way.side, &gap, &next, fault)?;
+    window.tell(way.side, &gap, false, &next, fault)?;
     hold(s, way, from, piece, &piece.until, window, fault)
 }
 
@@ -291,7 +291,7 @@ fn hold<P: Shape>(
     if !at.precedes(&until) {
         return Ok(());
     }
-    if is_hidden(way.side, &window.steps, &piece.shape, &best.time, &until) {
+    if is_hidden(way, &at, &window.steps, &piece.shape, &best.time, &until) {
         return Ok(());
     }
     let value = constant(way, &piece.shape, &best.time, &at, &until, fault)?;
@@ -301,15 +301,22 @@ fn hold<P: Shape>(
 /// Whether the last step goes on to the place, and what it gives is no worse than the value of the shape at the time, which then need not
 /// be known.
 fn is_hidden<P: Shape>(
-    side: Side,
+    way: &Way,
+    from: &Cut,
     steps: &VecDeque<Step<P>>,
     shape: &P,
     time: &Frac,
     until: &Cut,
 ) -> bool
+    requires steps { AreSteps P.Shape way.now.side (place from.now) steps.now.items }
+    requires small { IsSmall way.now.over }
+    requires near { (neg_ℤ (pos (2 ^ 32)) ≤ℤ P.base shape.now) × (P.base shape.now ≤ℤ pos (2 ^ 33)) }
     requires within { IsWithin (2 ^ 34) (value_of time.now) }
-    ensures { IsTrue result → HideTo P.Shape side steps.now.items (value_at (P.function shape.now) (value_of time.now)) (place until.now) }
+    ensures { IsTrue result
+        → HideTo P.Shape way.now.side steps.now.items (value_at (P.function shape.now) (value_of time.now)) (place until.now) }
 {
+    // For the proof alone: where the steps begin.
+    let _ = from;
     let Some(last) = steps.back() else {
         return false;
     };
@@ -317,11 +324,36 @@ fn is_hidden<P: Shape>(
         return false;
     }
     if let Some(other) = &last.other {
-        if stays_above(side, other, shape, time) {
+        if stays_above(way.side, other, shape, time) {
             return true;
         }
     }
-    stays_above(side, &last.shape, shape, time)
+    if stays_above(way.side, &last.shape, shape, time) {
+        return true;
+    }
+    ends_above(way, last, shape, time)
+}
+
+/// Whether the step ends where the window's low end comes to the time, and its shape is there no worse than another one at the time.
+fn ends_above<P: Shape>(way: &Way, step: &Step<P>, shape: &P, time: &Frac) -> bool
+    requires small { IsSmall way.now.over }
+    requires near { (neg_ℤ (pos (2 ^ 32)) ≤ℤ P.base shape.now) × (P.base shape.now ≤ℤ pos (2 ^ 33)) }
+    requires within { IsWithin (2 ^ 34) (value_of step.now.until.time) }
+    ensures { IsTrue result → IsNoWorse way.now.side (value_at (P.function step.now.shape) (value_of step.now.until.time))
+        (value_at (P.function shape.now) (value_of time.now)) }
+{
+    match step.until.time.shift(way.over.low).cmp(time) {
+        Ordering::Equal => match favour(
+            way.side,
+            &step.shape,
+            &at_low(&way.over, shape),
+            &step.until.time,
+        ) {
+            Ordering::Greater => false,
+            _ => true,
+        },
+        _ => false,
+    }
 }
 
 /// Whether a shape is constant, and no worse than the value of another one at the time.
@@ -345,6 +377,7 @@ fn stays_above<P: Shape>(side: Side, level: &P, shape: &P, time: &Frac) -> bool
 /// # Errors
 ///
 /// `Memory` where the value needs a denominator of 2^60 or more: it is then in `fault`.
+#[inline(always)]
 fn constant<P: Shape>(
     way: &Way,
     shape: &P,
@@ -384,6 +417,7 @@ fn constant<P: Shape>(
 /// # Errors
 ///
 /// `Memory` where the value needs a denominator of 2^60 or more.
+#[inline(always)]
 fn fixed<P: Shape>(shape: &P, time: &Frac, fault: &mut Option<WidePair<P>>) -> Result<P, Memory>
     requires within { IsWithin (2 ^ 34) (value_of time.now) }
     requires bounded { IsBounded (2 ^ 31) (value_at (P.function shape.now) (value_of time.now)) }
@@ -424,6 +458,7 @@ fn at_end<P: Shape>(over: &Reach, shape: &P, time: &Frac, here: &Frac) -> P
 }
 
 /// The place from which on the window reaches past the place `met`, in the domain, and no earlier than `at`.
+#[inline(always)]
 fn reached(way: &Way, met: &Cut, at: &Cut) -> Cut
     requires from { whole (pos 0) ≤ʳ value_of met.now.time }
     requires to { value_of met.now.time ≤ʳ whole (pos (2 ^ 32)) }
@@ -444,6 +479,7 @@ fn reached(way: &Way, met: &Cut, at: &Cut) -> Cut
 }
 
 /// The place up to which the window begins before the place, in the domain.
+#[inline(always)]
 fn left(way: &Way, c: &Cut) -> Cut
     requires from { whole (pos 0) ≤ʳ value_of c.now.time }
     requires to { value_of c.now.time ≤ʳ whole (pos (2 ^ 32)) }

@@ -1,16 +1,16 @@
--- What judging a trace makes on the way: the signals of a formula's nodes, and that of the formula.
+-- What judging a trace makes on the way: the chains of a formula's nodes, and the signal of the formula.
 use Rattle.std.specs.Prelude.{ℕ, List}
 use Rattle.value_laws.specs.Members.{ShapeOf}
 use Rattle.pl_signal.specs.declared.knot.Knot.{Knot}
 use Rattle.pl_signal.specs.declared.faults.WidePair.{WidePair}
 use Rattle.pl_signal.specs.declared.faults.WidePair.TheVariants.{Cross, Value}
-use Rattle.pl_signal.specs.Knots.{start}
 use Rattle.pl_signal.specs.Moves.{Tells}
+use Rattle.pieces.specs.Chains.{Chain}
 use Rattle.stl_syntax.specs.Trace as trace
 use Rattle.stl_syntax.specs.Trace.{Trace, first_time, last_time}
 use Rattle.stl_syntax.specs.Formula.{root}
 use Rattle.stl_syntax.specs.SupInf.{Reading, Setting, SupInf, HasValues, HasInfs}
-use Rattle.offline_eval.specs.Forms.{of_knots}
+use Rattle.offline_eval.specs.Forms.{of_pieces}
 use Rattle.offline_eval.specs.Keeping.{IsStack, TellsStack}
 use Rattle.offline_eval.specs.Evaluation.{IsFault}
 use Rattle.offline_eval.specs.declared.faults.EvalFault.{EvalFault}
@@ -24,10 +24,10 @@ module _ {P : Type 0} (shape : ShapeOf P) (reading : Trace → Reading) where
   abbrev pub setting_of : Trace → Setting
   setting_of tr = record { atoms = reading tr; lowest = shape.lowest; highest = shape.highest; from = trace.start tr; to = trace.stop tr }
 
-  -- the signals on the way to the root, once the first n nodes have theirs: over the trace they tell the nodes that are still to be read
-  pub record IsStackOf (c : Case) (n : ℕ) (signals : List (List (Knot P))) : Type 0 where
-    pub stands : IsStack (of_knots shape) (first_time c.trace.rows) (last_time 0 c.trace.rows) c.formula.nodes n signals
-    pub told : TellsStack (of_knots shape) c.formula.nodes (setting_of c.trace) n signals
+  -- the chains on the way to the root, once the first n nodes have theirs: over the trace they tell the nodes that are still to be read
+  pub record IsStackOf (c : Case) (n : ℕ) (chains : List (Chain P)) : Type 0 where
+    pub stands : IsStack (of_pieces shape) (first_time c.trace.rows) (last_time 0 c.trace.rows) c.formula.nodes n chains
+    pub told : TellsStack (of_pieces shape) c.formula.nodes (setting_of c.trace) n chains
 
   -- the signal tells the formula over the trace, where the formula has a value at each time, and an Inf between each two times
   pub record IsRootOf (c : Case) (signal : List (Knot P)) : Type 0 where

@@ -7,22 +7,22 @@ use Rattle.pieces.specs.Knots.{IsAdded}
 use Rattle.pieces.proofs.KnotLemmas.{not_less}
 use Rattle.pieces.proofs.signals.add_piece.Goals as goal
 
-pub step-requires-clause-later : goal.step-requires-clause-later
-step-requires-clause-later g c = lt_of_le_of_lt (ge_of_same c.requires.here) c.in-Less.ensures
+pub go_along-requires-clause-later : goal.go_along-requires-clause-later
+go_along-requires-clause-later g c = lt_of_le_of_lt (ge_of_same c.requires.here) c.in-Less.ensures
 
 pub returns-in-Less : goal.returns-in-Less
 returns-in-Less g c =
-    on_ok_weaker c.step.result
-    (λ on p e. subst (λ p. IsAdded g.P.Shape c.args.chain.now (value c.args.at.now.time) p c.args.built.now c.step.new.self)
+    on_ok_weaker c.go_along.result
+    (λ on p e. subst (λ p. IsAdded g.P.Shape c.args.chain.now (value c.args.at.now.time) p c.args.built.now c.go_along.new.self)
     (some_is (sym c.piece-piece.ensures ∙ e))
     (inr (
       c.in-Less.ensures,
-      c.shape_at_end.result,
+      c.shape_at_end.result.now,
       c.shape_at_end.ensures.shape,
       c.shape_at_end.ensures.worth c.piece-piece.result.now c.piece-piece.ensures,
       on,
     )))
-    c.step.ensures.ok
+    c.go_along.ensures.ok
 
 pub returns-in_default : goal.returns-in_default
 returns-in_default g c = λ p e.

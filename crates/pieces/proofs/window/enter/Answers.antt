@@ -11,7 +11,7 @@ use Rattle.value_laws.specs.Members.{ShapeLaws}
 use Rattle.pieces.specs.Chains.{stop}
 use Rattle.pieces.specs.Windows.{high_place}
 use Rattle.pieces.proofs.Ends.{at_most_itself, at_most_of_same, at_most_trans}
-use Rattle.pieces.proofs.Meeting.{none_level, none_rises, on_ok_two}
+use Rattle.pieces.proofs.Meeting.{none_last, none_level, none_rises, on_ok_two}
 use Rattle.pieces.proofs.Moving.{best_with_none, keeps_told, reached_on, tells_more}
 use Rattle.std.proofs.lemmas.Bool.{false≢true}
 use Rattle.std.proofs.lemmas.Option.{IfSome_then}
@@ -36,6 +36,9 @@ reached-next-requires-clause-to g c = le_trans (le_of_at_most (place c.args.met.
 pub reached-next-requires-clause-at_within : goal.reached-next-requires-clause-at_within
 reached-next-requires-clause-at_within g c = subst (λ s. IsWithin (2 ^ 34) s.at) (sym c.until.ensures.value)
     (within g (goal.at.reached-next-requires-clause-at_within g c).Start)
+
+pub tell-requires-clause-alone : goal.tell-requires-clause-alone
+tell-requires-clause-alone g c = λ h. none_last g.P.Shape (assumption g.met.P.Shape) c.args.way.now.side c.of_none.result c.of_none.ensures.value
 
 pub tell-requires-clause-rises : goal.tell-requires-clause-rises
 tell-requires-clause-rises g c = none_rises g.P.Shape (assumption g.met.P.Shape) c.args.way.now.side c.of_none.result c.of_none.ensures.value

@@ -13,7 +13,7 @@ use Rattle.rational.proofs.Sames.{symᵉ, transᵉ}
 use Rattle.frac128.specs.Cuts.{place}
 use Rattle.value_laws.specs.Members.{ShapeLaws}
 use Rattle.pieces.specs.Chains.{end, stop}
-use Rattle.pieces.specs.Steps.{FallOff, HasCounted, StepsGive, steps_end}
+use Rattle.pieces.specs.Steps.{AreSteps, FallOff, HasCounted, StepsGive, steps_end}
 use Rattle.pieces.specs.Sliding.{last_end}
 use Rattle.pieces.specs.Windows.{high_place, low_place}
 use Rattle.pieces.proofs.Bests.{best_value}
@@ -85,6 +85,9 @@ returns-then-not-precedes-clause-past g c t a u =
 
 pub is_hidden-requires : goal.is_hidden-requires
 is_hidden-requires g c = record {
+  steps = subst (λ b. AreSteps g.P.Shape c.args.way.now.side b c.args.window.now.steps.items) (sym c.until-at.ensures.value) c.requires.keeps.steps;
+  small = c.requires.can.small;
+  near = c.requires.can.near c.args.piece.now.shape c.requires.piece.has;
   within = best_within g.P.Shape (assumption g.met.P.Shape) c.args.s.now c.args.way.now c.requires.can.normal (place c.args.from.now) c.args.piece.now
       c.requires.piece (place c.args.best.now) c.requires.best c.requires.can.limited;
 }

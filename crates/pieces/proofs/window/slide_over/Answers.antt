@@ -10,7 +10,7 @@ use Rattle.pieces.specs.Chains.{begin_at, end, stop}
 use Rattle.pieces.specs.Windows.{IsPieceFrom, Stands}
 use Rattle.pieces.proofs.ChainLemmas.{to_stop}
 use Rattle.pieces.proofs.Ends.{at_most_itself}
-use Rattle.pieces.proofs.Meeting.{none_level, none_rises, on_ok_two}
+use Rattle.pieces.proofs.Meeting.{none_last, none_level, none_rises, on_ok_two}
 use Rattle.pieces.proofs.OverWindow.{piece_from, sees_nothing, stands_blind, tells_all}
 use Rattle.pieces.proofs.Standing.{last_begin, next_begin}
 use Rattle.std.proofs.lemmas.Bool.{false≢true}
@@ -24,6 +24,9 @@ use Rattle.pieces.proofs.Played.{plays_told, told_cause_none}
 use Rattle.pieces.proofs.window.slide_over.Given.{Over}
 use Rattle.pieces.proofs.window.slide_over.Goals.{Start, After-loop-i, After-of_none-none}
 use Rattle.pieces.proofs.window.slide_over.Goals as goal
+
+pub tell-requires-clause-alone : goal.tell-requires-clause-alone
+tell-requires-clause-alone g c = λ h. none_last g.P.Shape (assumption g.met.P.Shape) c.args.way.now.side c.of_none-none.result c.of_none-none.ensures.value
 
 pub tell-requires-clause-rises : goal.tell-requires-clause-rises
 tell-requires-clause-rises g c = none_rises g.P.Shape (assumption g.met.P.Shape) c.args.way.now.side c.of_none-none.result c.of_none-none.ensures.value
@@ -91,6 +94,9 @@ all g c =
     let at : place c.loop-i.from ≡ stop chain =
     c.loop-i.invariant.begins ∙ ap (λ n. begin_at chain.from chain.pieces n) last ∙ last_begin chain.from chain.pieces in
     subst (λ s. Stands g.P.Shape chain c.args.way.now s s c.loop-i.window) at c.loop-i.invariant.stands
+
+pub tell-requires-2-clause-alone : goal.tell-requires-2-clause-alone
+tell-requires-2-clause-alone g c = λ h. none_last g.P.Shape (assumption g.met.P.Shape) c.args.way.now.side c.of_none-none.result c.of_none-none.ensures.value
 
 pub tell-requires-2-clause-rises : goal.tell-requires-2-clause-rises
 tell-requires-2-clause-rises g c = none_rises g.P.Shape (assumption g.met.P.Shape) c.args.way.now.side c.of_none-none.result c.of_none-none.ensures.value

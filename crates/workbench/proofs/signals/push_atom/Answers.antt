@@ -26,7 +26,7 @@ returns-in-Ok-clause-after g c =
     let to = last_time 0 case.trace.rows in
     let before = c.requires.before in
     record {
-      stands = c.in-Ok.ensures.stands from to (atom_input shape reading case i c.args.signal c.requires.signal) before.stands;
+      stands = c.in-Ok.ensures.stands from to (atom_input shape reading case i c.args.chain c.requires.chain) before.stands;
       told = c.in-Ok.ensures.told from to (setting_of shape reading case.trace) (over_ends shape reading case) before.stands
-          (atom_tells shape reading case i a c.args.signal at sub c.requires.bound rows c.requires.signal) before.told;
+          (atom_tells shape reading case i a c.args.chain at sub c.requires.bound rows c.requires.chain) before.told;
     }

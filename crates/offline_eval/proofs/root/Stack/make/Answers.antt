@@ -12,7 +12,7 @@ use Rattle.offline_eval.specs.Places.{reach_before}
 use Rattle.offline_eval.proofs.Evaluating.{all_more, fault_is, reach_within}
 use Rattle.offline_eval.proofs.ChildrenKept.{kept_agrees, stack_next, stack_on}
 use Rattle.offline_eval.proofs.Places.{sum_on}
-use Rattle.offline_eval.specs.Forms.{of_knots}
+use Rattle.offline_eval.specs.Forms.{of_pieces}
 use Rattle.offline_eval.proofs.root.Stack.make.Goals as goal
 
 pub of_node-requires-clause-kind : goal.of_node-requires-clause-kind
@@ -26,10 +26,10 @@ pub of_node-requires-clause-sound : goal.of_node-requires-clause-sound
 of_node-requires-clause-sound g c =
     let nodes = c.args.formula.now.nodes in
     let i = c.args.i in
-    subst (AreSound (of_knots g.P.Shape) c.args.from c.args.to 4294967295) (sym c.deref.ensures.value)
-    (all_more (of_knots g.P.Shape) c.args.from c.args.to (reach_before nodes i) 4294967295 c.self.inside.done.items
+    subst (AreSound (of_pieces g.P.Shape) c.args.from c.args.to 4294967295) (sym c.deref.ensures.value)
+    (all_more (of_pieces g.P.Shape) c.args.from c.args.to (reach_before nodes i) 4294967295 c.self.inside.done.items
     (reach_within nodes i c.len.ensures.well_formed.nodes.reach)
-    (subst (IsStack (of_knots g.P.Shape) c.args.from c.args.to nodes i) (sym c.self.view_is) c.requires.stands).sound)
+    (subst (IsStack (of_pieces g.P.Shape) c.args.from c.args.to nodes i) (sym c.self.view_is) c.requires.stands).sound)
 
 pub keep-requires-clause-children : goal.keep-requires-clause-children
 keep-requires-clause-children g c =
@@ -47,15 +47,15 @@ returns-else-is_err-clause-stands g c =
     let nodes = c.args.formula.now.nodes in
     let i = c.args.i in
     let n = c.node-next.result.now in
-    let y = c.in-Ok.signal in
+    let y = c.in-Ok.chain in
     let old = c.self.inside.done.items in
     let new = c.keep.new.done.items in
-    let given : AreGivenUp (of_knots shape) c.args.from c.args.to (children n) (old ++ y ∷ []) new =
+    let given : AreGivenUp (of_pieces shape) c.args.from c.args.to (children n) (old ++ y ∷ []) new =
     search (rules, c.keep.ensures, c.if-is_err.false, c.is_err.ensures) in
-    let st = subst (IsStack (of_knots shape) c.args.from c.args.to nodes i) (sym c.self.view_is) c.requires.stands in
-    let sound = subst (AreSound (of_knots shape) c.args.from c.args.to (reach_before nodes i)) (sym c.deref.ensures.value) st.sound in
-    stack_on (of_knots shape) c.args.from c.args.to nodes i (children n) old new y c.requires.inside given
-    (subst (λ k. IsSound (of_knots shape) c.args.from c.args.to k y) (sym (sum_on own_reach nodes i n c.node-next.ensures.node))
+    let st = subst (IsStack (of_pieces shape) c.args.from c.args.to nodes i) (sym c.self.view_is) c.requires.stands in
+    let sound = subst (AreSound (of_pieces shape) c.args.from c.args.to (reach_before nodes i)) (sym c.deref.ensures.value) st.sound in
+    stack_on (of_pieces shape) c.args.from c.args.to nodes i (children n) old new y c.requires.inside given
+    (subst (λ k. IsSound (of_pieces shape) c.args.from c.args.to k y) (sym (sum_on own_reach nodes i n c.node-next.ensures.node))
     (c.in-Ok.ensures.sound (reach_before nodes i) sound)) st
 
 pub returns-else-is_err-clause-told : goal.returns-else-is_err-clause-told
@@ -64,24 +64,24 @@ returns-else-is_err-clause-told g c s over was =
     let nodes = c.args.formula.now.nodes in
     let i = c.args.i in
     let n = c.node-next.result.now in
-    let y = c.in-Ok.signal in
+    let y = c.in-Ok.chain in
     let old = c.self.inside.done.items in
     let new = c.keep.new.done.items in
     let order = c.len.ensures.well_formed.nodes.post_order in
-    let st = subst (TellsStack (of_knots shape) nodes s i) (sym c.self.view_is) was in
+    let st = subst (TellsStack (of_pieces shape) nodes s i) (sym c.self.view_is) was in
     let count = ap length c.self.view_is ∙ c.requires.stands.count in
-    let given : AreGivenUp (of_knots shape) c.args.from c.args.to (children n) (old ++ y ∷ []) new =
+    let given : AreGivenUp (of_pieces shape) c.args.from c.args.to (children n) (old ++ y ∷ []) new =
     search (rules, c.keep.ensures, c.if-is_err.false, c.is_err.ensures) in
-    let before = subst (TellAt (of_knots shape) s (kept nodes i)) (sym c.deref.ensures.value) st.told in
+    let before = subst (TellAt (of_pieces shape) s (kept nodes i)) (sym c.deref.ensures.value) st.told in
     let same : tree_of (kept nodes i) i n ≡ subformula nodes i =
     kept_agrees nodes i order n c.node-next.ensures.node ∙ sym c.node-next.ensures.subformula in
-    stack_next (of_knots shape) nodes s c.args.from c.args.to i n old new y (record {
+    stack_next (of_pieces shape) nodes s c.args.from c.args.to i n old new y (record {
       order = order;
       there = c.node-next.ensures.node;
       count = count;
       over = over;
       given = given;
-      own = subst (λ t. TellsValue (of_knots shape) s t y) same (c.in-Ok.ensures.told s (kept nodes i) i over before);
+      own = subst (λ t. TellsValue (of_pieces shape) s t y) same (c.in-Ok.ensures.told s (kept nodes i) i over before);
     }) st
 
 pub returns-in-Err-clause-wide : goal.returns-in-Err-clause-wide
@@ -90,8 +90,8 @@ returns-in-Err-clause-wide g c s over was =
     let nodes = c.args.formula.now.nodes in
     let i = c.args.i in
     let n = c.node-next.result.now in
-    let before = subst (TellAt (of_knots shape) s (kept nodes i)) (sym c.deref.ensures.value)
-    (subst (TellsStack (of_knots shape) nodes s i) (sym c.self.view_is) was).told in
+    let before = subst (TellAt (of_pieces shape) s (kept nodes i)) (sym c.deref.ensures.value)
+    (subst (TellsStack (of_pieces shape) nodes s i) (sym c.self.view_is) was).told in
     let same : tree_of (kept nodes i) i n ≡ subformula nodes i =
     kept_agrees nodes i c.len.ensures.well_formed.nodes.post_order n c.node-next.ensures.node ∙ sym c.node-next.ensures.subformula in
     subst (IsFault shape nodes s) (sym c.at_node.ensures)

@@ -1,4 +1,6 @@
-use Rattle.std.proofs.Common.{rules, ◌≡◌, ◌^◌, [], refl, sym, ◌∙◌, subst}
+use Rattle.std.proofs.Common.{rules, arith, ◌≡◌, ◌<◌, ◌^◌, ℕ, List, [], ◌∷◌, drop, length, refl, sym, ap, ◌∙◌, subst}
+use Rattle.std.specs.Prelude.{slice_index_or}
+use Rattle.std.specs.VecDeque.{deque_len}
 use Rattle.std.proofs.lemmas.Bool.{false≢true}
 use Rattle.std.proofs.lemmas.List.{nil_from_length}
 use Rattle.std.proofs.lemmas.Result.{on_ok_weaker}
@@ -14,13 +16,17 @@ use Rattle.pieces.proofs.Ends.{at_most_itself, at_most_of_before}
 use Rattle.pieces.proofs.SlidingLemmas.{told_rest, told_fault, told_part, told_step}
 use Rattle.pieces.proofs.sliding.Sliding.tell.Goals as goal
 
+-- a list whose first element is known is that and the rest
+first_apart : {X : Type 0} (xs : List X) (n : ℕ) (x : X) → n ≡ length xs → 0 < n → x ≡ slice_index_or xs 0 x → xs ≡ x ∷ drop 1 xs
+first_apart [] n x len some e = absurd (omega (arith, len, some))
+first_apart (y ∷ ys) n x len some e = ap (λ z. z ∷ ys) (sym e)
+
 pub returns-in_default-clause-told : goal.returns-in_default-clause-told
 returns-in_default-clause-told g c =
-    let none' : c.pop_front.new.self.items ≡ [] = nil_from_length c.pop_front.new.self.items (search rules) in
-    let none : c.loop-side.self.steps.items ≡ [] = c.in_default.ensures.items ∙ none' in
+    let none : c.loop-side.self.steps.items ≡ [] = nil_from_length c.loop-side.self.steps.items (search rules) in
     let later = subst (λ s. Before s (place c.args.until.now)) c.until.ensures.value (c.precedes.ensures.0 c.loop-side-test.true) in
     on_ok_weaker c.put.result (λ goes. told_rest g.P.Shape c.args.side c.args.gap.now c.args.self.now c.loop-side.self c.loop-side.invariant.told
-    (record { out = c.put.new.self; steps = c.pop_front.new.self }) c.args.until.now none none' later goes) c.put.ensures.ok
+    (record { out = c.put.new.self; steps = c.loop-side.self.steps }) c.args.until.now none none later goes) c.put.ensures.ok
 
 pub write-requires-clause-rises : goal.write-requires-clause-rises
 write-requires-clause-rises g c = λ t u a k m. c.requires.rises t u
@@ -28,52 +34,62 @@ write-requires-clause-rises g c = λ t u a k m. c.requires.rises t u
 
 pub write-requires-clause-most : goal.write-requires-clause-most
 write-requires-clause-most g c =
-    at_most_of_before (place c.args.until.now) (place c.in-Some.first.until) (c.precedes-in-loop-side.ensures.0 c.if-precedes.true)
+    at_most_of_before (place c.args.until.now) (place c.in-Some.first.now.until) (c.precedes-in-loop-side.ensures.0 c.if-precedes.true)
 
 pub returns-in_err-write-clause-wide : goal.returns-in_err-write-clause-wide
-returns-in_err-write-clause-wide g c = on_err_anyway c.from_residual.result
-    (told_fault g.P.Shape c.args.side c.args.gap.now c.args.self.now c.loop-side.self c.loop-side.invariant.told c.in-Some.first
-    c.pop_front.new.self.items c.args.until.now (place c.args.until.now) c.write.new.fault c.in-Some.ensures.items
-    (at_most_of_before (place c.args.until.now) (place c.in-Some.first.until) (c.precedes-in-loop-side.ensures.0 c.if-precedes.true))
+returns-in_err-write-clause-wide g c =
+    let xs = c.loop-side.self.steps.items in
+    let items = first_apart xs (deque_len c.loop-side.self.steps) c.in-Some.first.now (search rules) (search rules) (search rules) in
+    on_err_anyway c.from_residual.result
+    (told_fault g.P.Shape c.args.side c.args.gap.now c.args.self.now c.loop-side.self c.loop-side.invariant.told c.in-Some.first.now
+    (drop 1 xs) c.args.until.now (place c.args.until.now) c.write.new.fault items
+    (at_most_of_before (place c.args.until.now) (place c.in-Some.first.now.until) (c.precedes-in-loop-side.ensures.0 c.if-precedes.true))
     (at_most_itself (place c.args.until.now)) c.in_err-write.ensures.wide)
 
 pub returns-then-precedes-clause-told : goal.returns-then-precedes-clause-told
 returns-then-precedes-clause-told g c =
+    let xs = c.loop-side.self.steps.items in
+    let items = first_apart xs (deque_len c.loop-side.self.steps) c.in-Some.first.now (search rules) (search rules) (search rules) in
     let before = c.precedes-in-loop-side.ensures.0 c.if-precedes.true in
     told_part g.P.Shape c.args.side c.args.gap.now c.args.self.now c.loop-side.self c.loop-side.invariant.told
-    (record { out = c.write.new.out; steps = c.push_front_reserved.new.self }) c.in-Some.first c.pop_front.new.self.items c.args.until.now
-    c.in-Some.ensures.items (subst (λ s. Before s (place c.args.until.now)) c.until.ensures.value (c.precedes.ensures.0 c.loop-side-test.true))
-    (at_most_of_before (place c.args.until.now) (place c.in-Some.first.until) before) c.in_ok-write.ensures.ok c.push_front_reserved.ensures.items before
+    (record { out = c.write.new.out; steps = c.loop-side.self.steps }) c.in-Some.first.now (drop 1 xs) c.args.until.now
+    items (subst (λ s. Before s (place c.args.until.now)) c.until.ensures.value (c.precedes.ensures.0 c.loop-side-test.true))
+    (at_most_of_before (place c.args.until.now) (place c.in-Some.first.now.until) before) c.in_ok-write.ensures.ok items before
     c.loop-side.invariant.told.steps
 
 pub write-requires-in-loop-side-clause-rises : goal.write-requires-in-loop-side-clause-rises
 write-requires-in-loop-side-clause-rises g c = λ t u a k m. c.requires.rises t u
     (le_trans (le_of_at_most (stop c.args.self.now.out) (stop c.loop-side.self.out) c.loop-side.invariant.told.on) a) k
-    (le_trans m (le_of_at_most (place c.in-Some.first.until) (place c.args.until.now)
-    (at_most_of_not_before (place c.in-Some.first.until) (place c.args.until.now)
+    (le_trans m (le_of_at_most (place c.in-Some.first.now.until) (place c.args.until.now)
+    (at_most_of_not_before (place c.in-Some.first.now.until) (place c.args.until.now)
     (λ b. false≢true (sym c.if-precedes.false ∙ c.precedes-in-loop-side.ensures.1 b)))))
 
 pub loop-side-preserved : goal.loop-side-preserved
 loop-side-preserved g c =
+    let xs = c.loop-side.self.steps.items in
+    let items = first_apart xs (deque_len c.loop-side.self.steps) c.in-Some.first.now (search rules) (search rules) (search rules) in
     let written = c.in_ok-write-2.ensures.ok in
-    let step = (subst (AreSteps g.P.Shape c.args.side (stop c.loop-side.self.out)) c.in-Some.ensures.items c.loop-side.invariant.told.steps).0 in
+    let step = (subst (AreSteps g.P.Shape c.args.side (stop c.loop-side.self.out)) items c.loop-side.invariant.told.steps).0 in
     record {
       told = told_step g.P.Shape c.args.side c.args.gap.now c.args.self.now c.loop-side.self c.loop-side.invariant.told
-          (record { out = c.write-in-loop-side.new.out; steps = c.pop_front.new.self }) c.in-Some.first c.pop_front.new.self.items c.in-Some.first.until
-          c.in-Some.ensures.items step.later (at_most_itself (place c.in-Some.first.until)) written refl refl c.loop-side.invariant.told.steps;
+          (record { out = c.write-in-loop-side.new.out; steps = c.pop_front.new.self }) c.in-Some.first.now (drop 1 xs) c.in-Some.first.now.until
+          items step.later (at_most_itself (place c.in-Some.first.now.until)) written c.pop_front.ensures.rest refl c.loop-side.invariant.told.steps;
       order = subst (λ s. AtMost s (place c.args.until.now)) (sym written.ends)
-          (at_most_of_not_before (place c.in-Some.first.until) (place c.args.until.now)
+          (at_most_of_not_before (place c.in-Some.first.now.until) (place c.args.until.now)
           (λ b. false≢true (sym c.if-precedes.false ∙ c.precedes-in-loop-side.ensures.1 b)));
       within = subst (λ s. IsWithin (2 ^ 34) s.at) (sym written.ends) step.within;
       still = c.in_ok-write-2.ensures.still;
     }
 
 pub returns-in_err-write-2-clause-wide : goal.returns-in_err-write-2-clause-wide
-returns-in_err-write-2-clause-wide g c = on_err_anyway c.from_residual-in_err-write-2.result
-    (told_fault g.P.Shape c.args.side c.args.gap.now c.args.self.now c.loop-side.self c.loop-side.invariant.told c.in-Some.first
-    c.pop_front.new.self.items c.in-Some.first.until (place c.args.until.now) c.write-in-loop-side.new.fault c.in-Some.ensures.items
-    (at_most_itself (place c.in-Some.first.until))
-    (at_most_of_not_before (place c.in-Some.first.until) (place c.args.until.now)
+returns-in_err-write-2-clause-wide g c =
+    let xs = c.loop-side.self.steps.items in
+    let items = first_apart xs (deque_len c.loop-side.self.steps) c.in-Some.first.now (search rules) (search rules) (search rules) in
+    on_err_anyway c.from_residual-in_err-write-2.result
+    (told_fault g.P.Shape c.args.side c.args.gap.now c.args.self.now c.loop-side.self c.loop-side.invariant.told c.in-Some.first.now
+    (drop 1 xs) c.in-Some.first.now.until (place c.args.until.now) c.write-in-loop-side.new.fault items
+    (at_most_itself (place c.in-Some.first.now.until))
+    (at_most_of_not_before (place c.in-Some.first.now.until) (place c.args.until.now)
     (λ b. false≢true (sym c.if-precedes.false ∙ c.precedes-in-loop-side.ensures.1 b))) c.in_err-write-2.ensures.wide)
 
 pub returns-clause-ends : goal.returns-clause-ends

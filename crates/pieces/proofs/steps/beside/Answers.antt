@@ -4,10 +4,10 @@ use Rattle.frac128.specs.Value.{value}
 use Rattle.frac128.specs.Cuts.{place}
 use Rattle.pieces.specs.Best.{IsNoWorse}
 use Rattle.pieces.proofs.Bests.{favour_less, favour_second}
-use Rattle.pieces.proofs.StepLemmas.{hidden_of, stays_by_shape, stays_by_other, goes_on_with}
-use Rattle.pieces.proofs.steps.outlasting.Given.{Over}
-use Rattle.pieces.proofs.steps.outlasting.Goals.{in-Some+in_default-favour, in_default, After-favour-2}
-use Rattle.pieces.proofs.steps.outlasting.Goals as goal
+use Rattle.pieces.proofs.StepLemmas.{hidden_of, stays_by_other, goes_on_with}
+use Rattle.pieces.proofs.steps.beside.Given.{Over}
+use Rattle.pieces.proofs.steps.beside.Goals.{in-Some+in_default-favour, in_default, After-favour-2}
+use Rattle.pieces.proofs.steps.beside.Goals as goal
 
 -- the constant is no worse than the step's other shape, if there is one
 others : (g : Over) (c : After-favour-2 g) (q : g.row.P.Denot) → c.args.step.now.other ≡ Some q
@@ -35,15 +35,9 @@ returns-in_default-favour-2 g c =
     (value_at (g.P.Shape.function c.args.constant.now) (value c.args.begin.now.time)) c.favour-2.ensures c.in_default-favour-2.not-Less)
     (others g (goal.at.returns-in_default-favour-2 g c).After-favour-2)
 
-pub returns-in-Less-favour-2 : goal.returns-in-Less-favour-2
-returns-in-Less-favour-2 g c =
+pub returns-in-Less-favour : goal.returns-in-Less-favour
+returns-in-Less-favour g c =
     goes_on_with g.P.Shape c.args.side (place c.args.begin.now) c.args.step.now c.args.constant.now c.requires.is c.requires.level
     (favour_less c.args.side (value_at (g.P.Shape.function c.args.step.now.shape) (value c.args.begin.now.time))
     (value_at (g.P.Shape.function c.args.constant.now) (value c.args.begin.now.time)) c.in-Less-favour.ensures)
-    (others g (goal.at.returns-in-Less-favour-2 g c).After-favour-2)
-
-pub returns-in_default-favour-3 : goal.returns-in_default-favour-3
-returns-in_default-favour-3 g c =
-    stays_by_shape g.P.Shape c.args.side (place c.args.begin.now) c.args.step.now c.args.constant.now c.requires.is c.requires.level
-    (favour_second c.args.side c.favour-3.result (value_at (g.P.Shape.function c.args.constant.now) (value c.args.step.now.until.time))
-    (value_at (g.P.Shape.function c.args.step.now.shape) (value c.args.step.now.until.time)) c.favour-3.ensures c.in_default-favour-3.not-Less)
+    (others g (goal.at.returns-in-Less-favour g c).After-favour-2)
