@@ -18,8 +18,12 @@ module _ (Stands Owes : Case → List ℕ → Type 0) (kind : Stream) where
   open_by_none r c old made t = record {
     more = [];
     stands = λ bytes rows s. subst (λ b. StandsFor r b (rows ++ [])) (sym (append-nil bytes)) (subst (StandsFor r bytes) (sym (append-nil rows)) s);
-    opened = ([], sym (append-nil old), subst (λ m. IsOpen Stands Owes kind (with_rows [] c) m) (sym (append-nil made))
-        (subst (λ rows. IsOpen Stands Owes kind (record c { trace = record c.trace { rows = rows } }) made) (sym (append-nil c.trace.rows)) t));
+    opened = (
+      [],
+      sym (append-nil old),
+      subst (λ m. IsOpen Stands Owes kind (with_rows [] c) m) (sym (append-nil made))
+          (subst (λ rows. IsOpen Stands Owes kind (record c { trace = record c.trace { rows = rows } }) made) (sym (append-nil c.trace.rows)) t),
+    );
   }
 
 module _ {F : Type 0} (Stands Owes : F → Case → List ℕ → Type 0) (kind : Stream) where
