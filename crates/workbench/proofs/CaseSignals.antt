@@ -139,7 +139,7 @@ module _ {P : Type 0} (shape : ShapeOf P) (reading : Trace → Reading) (c : Cas
 
 -- a chain from just before a time to just after one has a piece
 pub some_piece : {P : Type 0} (chain : Chain P) → chain.from.after ≡ false → (chains.stop chain).after ≡ true → 0 < length chain.pieces
-some_piece chain first last = by_pieces chain.from chain.pieces first last
+some_piece {P = P} chain first last = by_pieces chain.from chain.pieces first last
   where
     by_pieces : (from : Place) (ps : List (Piece P)) → from.after ≡ false → (chains.stop_from from ps).after ≡ true → 0 < length ps
     by_pieces from [] first last = absurd (false≢true (sym first ∙ last))
