@@ -153,6 +153,30 @@ def random_rows(dice, rows):
     return tick, "".join(line + "\n" for line in lines)
 
 
+def growth(before, now):
+    """The exponent by which a time grew from half as many rows."""
+    return math.log2(now / before) if before else 0
+
+
+def is_slow(options, before, now):
+    """Whether a random case takes long, or much longer than over half the rows."""
+    return now > 2 or (now > options.show and growth(before, now) > 1.2)
+
+
+def random_case(options, case, rows, folder):
+    """One run of a random formula over random rows: its seconds, its status, its formula."""
+    dice = random.Random(f"{options.seed} {case}")
+    tick, text = random_rows(random.Random(f"{options.seed} rows {case}"), rows)
+    far = dice.random() < 0.5
+    body = random_formula(dice, rows * tick, far, dice.randint(1, 4))
+    formula = dice.choice(["eventually", "eventually", "always"]) + f"[0,{rows * tick}] ({body})"
+    path = os.path.join(folder, "random")
+    with open(path, "w") as out:
+        out.write(text)
+    status, seconds, _ = run(options.program, "explain", formula, path, options.limit)
+    return seconds, status, formula
+
+
 def search(options, folder):
     """Random formulas over random rows: a line for each that takes long, or much longer than over half the rows."""
     flagged, failed, began = 0, 0, time.monotonic()
@@ -160,25 +184,17 @@ def search(options, folder):
         if time.monotonic() - began > options.time:
             print(f"the time is up after {case} formulas")
             break
-        took, names = [], []
-        for rows in (options.rows // 2, options.rows):
-            dice = random.Random(f"{options.seed} {case}")
-            tick, text = random_rows(random.Random(f"{options.seed} rows {case}"), rows)
-            far = dice.random() < 0.5
-            body = random_formula(dice, rows * tick, far, dice.randint(1, 4))
-            formula = dice.choice(["eventually", "eventually", "always"]) + f"[0,{rows * tick}] ({body})"
-            path = os.path.join(folder, "random")
-            with open(path, "w") as out:
-                out.write(text)
-            status, seconds, _ = run(options.program, "explain", formula, path, options.limit)
-            took.append((seconds, status))
-            names.append(formula)
-        (before, _), (now, status) = took
+        before, _, _ = random_case(options, case, options.rows // 2, folder)
+        now, status, formula = random_case(options, case, options.rows, folder)
+        if is_slow(options, before, now):
+            # A machine that does other work takes longer now and then: the least of three runs counts.
+            for _ in range(2):
+                before = min(before, random_case(options, case, options.rows // 2, folder)[0])
+                now = min(now, random_case(options, case, options.rows, folder)[0])
         failed += status == 1
-        growth = math.log2(now / before) if before else 0
-        if status is None or now > 2 or (now > options.show and growth > 1.2):
+        if status is None or is_slow(options, before, now):
             flagged += 1
-            print(f"case {case}: {now:.2f} s, growth {growth:.2f}, status {status}: {names[1]}")
+            print(f"case {case}: {now:.2f} s, growth {growth(before, now):.2f}, status {status}: {formula}")
     print(f"{flagged} flagged; {failed} violations of seed {options.seed} over {options.rows} rows")
 
 
@@ -226,8 +242,8 @@ def measure(options, folder):
             for command in options.commands:
                 status, took, memory = run(options.program, command, texts[1][family], paths[1], options.limit)
                 _, before, _ = run(options.program, command, texts[0][family], paths[0], options.limit) if took > options.show else (0, 0, 0)
-                growth = math.log2(took / before) if before and status is not None else float("nan")
-                found.append((took, command, family, name, status, growth, memory))
+                grown = growth(before, took) if before and status is not None else float("nan")
+                found.append((took, command, family, name, status, grown, memory))
                 if status is None or took > options.report:
                     print(f"  {command} {family} over {name}: {took:.2f} s", file=sys.stderr)
     return found
@@ -258,9 +274,9 @@ def main():
         found = sorted(measure(options, folder), reverse=True)
     print(f"{'command':8} {'formula':20} {'trace':11} {'status':>6} {'seconds':>8} {'us/row':>7} {'growth':>6} {'MB':>6}")
     for command in options.commands:
-        for took, _, family, name, status, growth, memory in [case for case in found if case[1] == command][:options.top]:
+        for took, _, family, name, status, grown, memory in [case for case in found if case[1] == command][:options.top]:
             ended = "limit" if status is None else status
-            print(f"{command:8} {family:20} {name:11} {ended:>6} {took:8.2f} {took / options.rows * 1e6:7.1f} {growth:6.2f} {memory:6.0f}")
+            print(f"{command:8} {family:20} {name:11} {ended:>6} {took:8.2f} {took / options.rows * 1e6:7.1f} {grown:6.2f} {memory:6.0f}")
 
 
 if __name__ == "__main__":

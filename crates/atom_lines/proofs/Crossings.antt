@@ -19,7 +19,7 @@ use Rattle.stl_syntax.specs.Truth.{compares}
 use Rattle.stl_syntax.specs.declared.rel.Rel.{Rel}
 use Rattle.atom_lines.specs.declared.gap.Gap.{Gap}
 use Rattle.atom_lines.specs.Gaps.{along, Passes}
-use Rattle.atom_lines.proofs.Signs.{compare_alike, compare_apart}
+use Rattle.atom_lines.proofs.Signs.{compare_alike, compare_apart, sign_of}
 
 -- two whole numbers on one side of 0
 record AreBelow (e f : ℤ) : Type 0 where
@@ -39,13 +39,8 @@ record AreAbove (e f : ℤ) : Type 0 where
   one : (pos 0 <ℤ e) ⊎ (pos 0 <ℤ f)
   sum : pos 0 <ℤ (e +ℤ f)
 
-side : (z : ℤ) → (z <ℤ pos 0) ⊎ (z ≡ pos 0) ⊎ (pos 0 <ℤ z)
-side (pos zero) = inr (inl refl)
-side (pos (suc n)) = inr (inr (omega (arith, ints)))
-side (negsuc n) = inl (omega (arith, ints))
-
 ends_of : (e f : ℤ) → ¬ (((e <ℤ pos 0) × (pos 0 <ℤ f)) ⊎ ((pos 0 <ℤ e) × (f <ℤ pos 0))) → AreBelow e f ⊎ AreZero e f ⊎ AreAbove e f
-ends_of e f n = by_side (side e) (side f)
+ends_of e f n = by_side (sign_of e) (sign_of f)
   where
     by_side : (e <ℤ pos 0) ⊎ (e ≡ pos 0) ⊎ (pos 0 <ℤ e) → (f <ℤ pos 0) ⊎ (f ≡ pos 0) ⊎ (pos 0 <ℤ f) → AreBelow e f ⊎ AreZero e f ⊎ AreAbove e f
     by_side (inl a) (inl b) = inl (record { first = omega (arith, ints); second = omega (arith, ints); one = inl a; sum = omega (arith, ints) })
@@ -219,6 +214,51 @@ module _ (g : Gap) where
   -- and where it does not there is one truth on the gap
   pub one_truth : (rel : Rel) (t : Rational) → ¬ Passes g → first <ʳ t → t <ʳ second → test rel t ≡ compares rel (whole (g.from +ℤ g.to))
   one_truth rel t n a b = let s = sign_between t n a b in compare_alike rel s.0 (at (along g) t) (whole (g.from +ℤ g.to)) s.1 s.2
+
+  -- where the comparison is the same at both ends, it is so between them
+  pub even_truth : (rel : Rel) (t : Rational) → compares rel (whole g.from) ≡ compares rel (whole g.to) → first <ʳ t → t <ʳ second
+      → test rel t ≡ compares rel (whole g.from)
+  even_truth rel t e a b = one_truth rel t stays a b ∙ by_ends (ends_of g.from g.to stays)
+    where
+      stays : Passes g → ⊥
+      stays (inl h) = compare_apart rel (whole g.from) (whole g.to) (lt_whole h.0) (lt_whole h.1) e
+      stays (inr h) = compare_apart rel (whole g.to) (whole g.from) (lt_whole h.1) (lt_whole h.0) (sym e)
+
+      by_ends : AreBelow g.from g.to ⊎ AreZero g.from g.to ⊎ AreAbove g.from g.to → compares rel (whole (g.from +ℤ g.to)) ≡ compares rel (whole g.from)
+      by_ends (inl s) = elim s.one [
+        | inl l ↦ compare_alike rel Less (whole (g.from +ℤ g.to)) (whole g.from) (lt_whole s.sum) (lt_whole l)
+        | inr l ↦ compare_alike rel Less (whole (g.from +ℤ g.to)) (whole g.to) (lt_whole s.sum) (lt_whole l) ∙ sym e
+      ]
+      by_ends (inr (inl s)) = ap (λ z. compares rel (whole z)) (s.sum ∙ sym s.first)
+      by_ends (inr (inr s)) = elim s.one [
+        | inl l ↦ compare_alike rel Greater (whole (g.from +ℤ g.to)) (whole g.from) (lt_whole s.sum) (lt_whole l)
+        | inr l ↦ compare_alike rel Greater (whole (g.from +ℤ g.to)) (whole g.to) (lt_whole s.sum) (lt_whole l) ∙ sym e
+      ]
+
+  -- where the sum does not begin at 0 and does not pass it, the comparison stays what it is at the first row
+  pub held_truth : (rel : Rel) (t : Rational) → g.from ≢ pos 0 → (Passes g → ⊥) → first <ʳ t → t <ʳ second → test rel t ≡ compares rel (whole g.from)
+  held_truth rel t n stays a b = one_truth rel t stays a b ∙ by_ends (sign_of g.from) (ends_of g.from g.to stays)
+    where
+      by_ends : (g.from <ℤ pos 0) ⊎ (g.from ≡ pos 0) ⊎ (pos 0 <ℤ g.from) → AreBelow g.from g.to ⊎ AreZero g.from g.to ⊎ AreAbove g.from g.to
+          → compares rel (whole (g.from +ℤ g.to)) ≡ compares rel (whole g.from)
+      by_ends (inl l) (inl s) = compare_alike rel Less (whole (g.from +ℤ g.to)) (whole g.from) (lt_whole s.sum) (lt_whole l)
+      by_ends (inl l) (inr (inl s)) = absurd (n s.first)
+      by_ends (inl l) (inr (inr s)) = absurd (let h = s.first in omega (arith, ints, h, l))
+      by_ends (inr (inl e)) s = absurd (n e)
+      by_ends (inr (inr l)) (inl s) = absurd (let h = s.first in omega (arith, ints, h, l))
+      by_ends (inr (inr l)) (inr (inl s)) = absurd (n s.first)
+      by_ends (inr (inr l)) (inr (inr s)) = compare_alike rel Greater (whole (g.from +ℤ g.to)) (whole g.from) (lt_whole s.sum) (lt_whole l)
+
+  -- where it begins at 0 the comparison is what it is at the second row
+  pub truth_from_zero : (rel : Rel) (t : Rational) → g.from ≡ pos 0 → first <ʳ t → t <ʳ second → test rel t ≡ compares rel (whole g.to)
+  truth_from_zero rel t e a b = one_truth rel t stays a b ∙ ap (λ z. compares rel (whole z)) sum
+    where
+      stays : Passes g → ⊥
+      stays (inl h) = let l = h.0 in omega (arith, ints, e, l)
+      stays (inr h) = let l = h.0 in omega (arith, ints, e, l)
+
+      sum : (g.from +ℤ g.to) ≡ g.to
+      sum = omega (arith, ints, e)
 
   -- a sum that passes 0 has a rise
   pub size_positive : Passes g → 0 < unsigned_abs g.from + unsigned_abs g.to

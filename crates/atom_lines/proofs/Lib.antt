@@ -10,3 +10,4 @@ pub mod Limited
 pub mod GrowingLemmas
 pub mod WayLemmas
 mod MarginWayLemmas
+mod LegLemmas

@@ -1,6 +1,6 @@
 -- How an atom's truth goes over the gaps of a block of rows, in each trace in which the block stands.
 use Rattle.std.proofs.Common.{◌≡◌, ◌≢◌, ℕ, suc, ℤ, pos, ◌+◌, ◌-◌, ◌<◌, ◌≤◌, ◌^◌, ◌⊎◌, inl, inr, Bool}
-use Rattle.std.proofs.Common.{true, false, not, nat_abs, ◌≤ℤ◌, to_z, of_z, [], length, Some, refl, sym, ap, ◌∙◌, subst, arith}
+use Rattle.std.proofs.Common.{true, false, not, nat_abs, ◌-ℤ◌, ◌≤ℤ◌, to_z, of_z, List, [], ◌∷◌, length, Some, refl, sym, ap, ◌∙◌, subst, arith}
 use Rattle.std.specs.Prelude.{slice_get, MatchBool}
 use Rattle.std.proofs.lemmas.Option.{slice_get-get_or, same_Some}
 use Rattle.rational.specs.Time.{Rational, ◌≤ʳ◌, ◌<ʳ◌, ◌≈◌, whole}
@@ -16,19 +16,19 @@ use Rattle.stl_syntax.specs.declared.atom.Atom.{Atom}
 use Rattle.stl_syntax.specs.declared.rel.Rel.{Rel}
 use Rattle.stl_syntax.proofs.TruthLemmas.{same_expression}
 use Rattle.atom_lines.specs.declared.gap.Gap.{Gap}
+use Rattle.atom_lines.specs.declared.bound_atom.BoundTerm.{BoundTerm}
 use Rattle.atom_lines.specs.declared.bound_atom.BoundAtom.{BoundAtom}
 use Rattle.atom_lines.specs.declared.passage.Passage.{Passage}
 use Rattle.atom_lines.specs.declared.passage.Passage.TheVariants.{Steady, Turns}
 use Rattle.atom_lines.specs.Binding.{Binding, IsAtomNode, IsFor, HasRow, AreNeighbours}
-use Rattle.atom_lines.specs.Gaps.{along, AreOfSign}
+use Rattle.atom_lines.specs.Gaps.{along, IsEven}
 use Rattle.atom_lines.specs.Growing.{IsReach, IsReachAt}
 use Rattle.atom_lines.specs.Passages.{HasBlock, IsTurning, IsWay, TellsPassage, TurnsInside, crossing_time}
 use Rattle.atom_lines.specs.Rows.{row_of, values_at}
 use Rattle.atom_lines.specs.Steps.{IsStep}
 use Rattle.atom_lines.specs.Sums.{reach}
-use Rattle.atom_lines.proofs.Adding.{reach_small, read_back}
-use Rattle.atom_lines.proofs.Crossings.{IsTurn}
-use Rattle.atom_lines.proofs.Limited.{one_sign}
+use Rattle.atom_lines.proofs.Adding.{one_of_ramps, one_of_steps, reach_small, read_back}
+use Rattle.atom_lines.proofs.Crossings.{IsTurn, even_truth}
 use Rattle.atom_lines.proofs.Signs.{compare_same}
 use Rattle.atom_lines.proofs.SumLemmas.{atom_binding, expression_along, expression_at_row}
 
@@ -147,18 +147,14 @@ module _ (b : Binding) (i : ℕ) (k : BoundAtom) (here : slice_get b.atoms i ≡
       (subst (λ n. TellsPassage (whole (pos n)) (row_time (row_of block (suc r))) (λ t. compares k.rel (at (along g) t)) p) s.first
       (subst (λ n. TellsPassage (whole (pos g.first)) (whole (pos n)) (λ t. compares k.rel (at (along g) t)) p) s.second h))
 
-  -- where the sum keeps its sign over a gap, the truth stays what it was
-  pub stays_on : (r : ℕ) (g : Gap) (next : ℤ) (from : Rational) → IsStep k block r g next → AreOfSign g next
+  -- where the comparison is the same about a gap, the truth stays what it was
+  pub stays_on : (r : ℕ) (g : Gap) (next : ℤ) (from : Rational) → IsStep k block r g next → IsEven k.rel g next
       → ((t : Rational) → from ≤ʳ t → t ≤ʳ row_time (row_of block r) → holds_at a tr t ≡ holds_at a tr from) → from ≤ʳ row_time (row_of block r)
       → (t : Rational) → from ≤ʳ t → t ≤ʳ row_time (row_of block (suc r)) → holds_at a tr t ≡ holds_at a tr from
-  stays_on r g next from s signs so_far begins t low high = by_place (le_or_lt t (row_time (row_of block r)))
+  stays_on r g next from s even so_far begins t low high = by_place (le_or_lt t (row_time (row_of block r)))
     where
-      one : (compares k.rel (whole g.from) ≡ compares k.rel (whole next))
-          × ((t : Rational) → whole (pos g.first) <ʳ t → t <ʳ whole (pos g.second) → compares k.rel (at (along g) t) ≡ compares k.rel (whole next))
-      one = one_sign g next k.rel signs
-
-      was : compares k.rel (whole next) ≡ holds_at a tr from
-      was = sym one.0 ∙ sym (at_row r g.from (row_time (row_of block r)) (let h = s.within in omega (arith, h)) s.from (same_refl (row_time (row_of block r))))
+      was : compares k.rel (whole g.from) ≡ holds_at a tr from
+      was = sym (at_row r g.from (row_time (row_of block r)) (let h = s.within in omega (arith, h)) s.from (same_refl (row_time (row_of block r))))
           ∙ so_far (row_time (row_of block r)) begins (le_of_same (same_refl (row_time (row_of block r))))
 
       by_place : (t ≤ʳ row_time (row_of block r)) ⊎ (row_time (row_of block r) <ʳ t) → holds_at a tr t ≡ holds_at a tr from
@@ -166,9 +162,9 @@ module _ (b : Binding) (i : ℕ) (k : BoundAtom) (here : slice_get b.atoms i ≡
       by_place (inr l) = elim (lt_or_same_or_gt t (row_time (row_of block (suc r)))) [
         | inl m ↦
             on_gap r g next t s l m
-            ∙ one.1 t (subst (λ n. whole (pos n) <ʳ t) (sym s.first) l) (subst (λ n. t <ʳ whole (pos n)) (sym s.second) m) ∙ was
+            ∙ even_truth g k.rel t even.over (subst (λ n. whole (pos n) <ʳ t) (sym s.first) l) (subst (λ n. t <ʳ whole (pos n)) (sym s.second) m) ∙ was
         | inr o ↦ elim o [
-          | inl e ↦ at_row (suc r) next t s.within s.at_next e ∙ was
+          | inl e ↦ at_row (suc r) next t s.within s.at_next e ∙ sym even.behind ∙ was
           | inr m ↦ absurd (not_lt_of_le high m)
         ]
       ]
@@ -179,12 +175,31 @@ module _ (b : Binding) (i : ℕ) (k : BoundAtom) (here : slice_get b.atoms i ≡
   stays_there r t low high = compare_same a.rel (same_expression a tr (same_of_le high low))
 
   -- and it stays over one gap more
-  pub stays_next : (r m : ℕ) (g : Gap) (next : ℤ) → (row_of block r).time ≤ (row_of block m).time → IsStep k block m g next → AreOfSign g next
+  pub stays_next : (r m : ℕ) (g : Gap) (next : ℤ) → (row_of block r).time ≤ (row_of block m).time → IsStep k block m g next → IsEven k.rel g next
       → ((t : Rational) → row_time (row_of block r) ≤ʳ t → t ≤ʳ row_time (row_of block m) → holds_at a tr t ≡ holds_at a tr (row_time (row_of block r)))
       → (t : Rational) → row_time (row_of block r) ≤ʳ t → t ≤ʳ row_time (row_of block (suc m)) → holds_at a tr t ≡ holds_at a tr (row_time (row_of block r))
-  stays_next r m g next order s signs so_far =
-      stays_on m g next (row_time (row_of block r)) s signs so_far
+  stays_next r m g next order s even so_far =
+      stays_on m g next (row_time (row_of block r)) s even so_far
       (le_whole (let l : pos (row_of block r).time ≤ℤ pos (row_of block m).time = omega (arith, ints, order) in l))
+
+one_item : (ts : List BoundTerm) → length ts ≡ 1 → (t : BoundTerm) × (ts ≡ t ∷ [])
+one_item [] e = absurd (omega (arith, e))
+one_item (t ∷ []) e = (t, refl)
+one_item (t ∷ s ∷ ts) e = absurd (omega (arith, e))
+
+-- on a gap the sum of one term goes to what it was, or to what it is at the next row; so the comparison turns at one of the rows, if at all
+pub even_of_one : (k : BoundAtom) (block : Trace) (m : ℕ) (g : Gap) (next : ℤ) → length k.terms.items ≡ 1 → IsStep k block m g next
+    → compares k.rel (whole g.from) ≡ compares k.rel (whole next) → IsEven k.rel g next
+even_of_one k block m g next one s same = record { over = by_step t.0.step refl; behind = same }
+  where
+    t : (t : BoundTerm) × (k.terms.items ≡ t ∷ [])
+    t = one_item k.terms.items one
+
+    by_step : (b : Bool) → t.0.step ≡ b → compares k.rel (whole g.from) ≡ compares k.rel (whole g.to)
+    by_step true e = ap (λ z. compares k.rel (whole z)) (s.from
+        ∙ sym (ap (λ z. z -ℤ k.limit) (one_of_steps k.terms.items t.0 (values_at block m) (values_at block (suc m)) t.1 e)) ∙ sym s.to)
+    by_step false e = same ∙ ap (λ z. compares k.rel (whole z)) (s.at_next
+        ∙ sym (ap (λ z. z -ℤ k.limit) (one_of_ramps k.terms.items t.0 (values_at block m) (values_at block (suc m)) t.1 e)) ∙ sym s.to)
 
 -- the sum at the next row
 pub reach_size : (k : BoundAtom) (block : Trace) (r : ℕ) (g : Gap) (next : ℤ) → nat_abs k.limit ≤ 1073741824 → IsStep k block r g next → nat_abs next ≤ 2 ^ 31

@@ -12,3 +12,4 @@ pub mod Signs
 pub mod Passages
 pub mod Steps
 pub mod MarginWays
+pub mod Legs

@@ -42,6 +42,29 @@ pub struct Way {
     pub last: bool,
 }
 
+/// A place at which a truth turns.
+#[derive(Clone, Copy, Debug)]
+pub struct Turning {
+    /// The time.
+    pub at: Crossing,
+    /// Whether it turns just after that time, and not just before it.
+    pub after: bool,
+}
+
+/// How an atom's truth goes from a row of a trace to a later one, by where it turns: it stays what it is at the first up to the row before
+/// the last, may turn once on the gap behind that row, and may turn once more at the last.
+#[derive(Clone, Copy, Debug)]
+pub struct Leg {
+    /// The row at which the leg ends.
+    pub row: usize,
+    /// How far the atom's sum lies above its constant there.
+    pub sum: i64,
+    /// Where its truth turns on the gap before that row, if it does: no earlier than right behind the gap's begin.
+    pub turn: Option<Turning>,
+    /// Whether its truth at that row is another one than just before it.
+    pub jumps: bool,
+}
+
 /// How an atom's margin goes from a row of a trace to a later one: along one line, or as one constant.
 #[derive(Clone, Copy, Debug)]
 pub struct MarginWay {

@@ -4,8 +4,9 @@ ghost use Rattle.rational.specs.Rational.{◌≈◌, whole};
 ghost use Rattle.rational.specs.Line.{at};
 ghost use Rattle.frac128.specs.Value.{value, denominator};
 ghost use Rattle.stl_syntax.specs.Truth.{compares};
-ghost use Rattle.atom_lines.specs.Gaps.{along, AreOfSign, Passes};
+ghost use Rattle.atom_lines.specs.Gaps.{along, AreOfSign, IsEven, Passes};
 ghost use Rattle.atom_lines.specs.Pieces.{TellsGap};
+ghost use Rattle.atom_lines.specs.Signs.{least_sum};
 
 use crate::gap::Gap;
 use frac128::Frac;
@@ -40,16 +41,16 @@ fn holds_above(rel: Rel) -> bool
     }
 }
 
-/// Whether a comparison holds at the constant.
+/// The least sum above the constant from which on a comparison is what it is above the constant; below that it is the other.
 #[inline(always)]
-fn holds_there(rel: Rel) -> bool
-    ensures { result ≡ compares rel (whole (pos 0)) }
+fn least_of(rel: Rel) -> i64
+    ensures { result ≡ least_sum rel }
 {
     match rel {
-        Rel::AtLeast => true,
-        Rel::Above => false,
-        Rel::AtMost => true,
-        Rel::Below => false,
+        Rel::AtLeast => 0,
+        Rel::Above => 1,
+        Rel::AtMost => 1,
+        Rel::Below => 0,
     }
 }
 
@@ -58,11 +59,8 @@ fn holds_there(rel: Rel) -> bool
 pub(crate) fn truth_at(rel: Rel, value: i64) -> Truth
     ensures { result.holds ≡ compares rel (whole value) }
 {
-    if value == 0 {
-        return Truth::of(holds_there(rel));
-    }
     let above = holds_above(rel);
-    if value > 0 {
+    if value >= least_of(rel) {
         return Truth::of(above);
     }
     Truth::of(!above)
@@ -114,6 +112,18 @@ pub(crate) fn keeps_sign(gap: &Gap, next: i64) -> bool
         return gap.to > 0 && next > 0;
     }
     gap.from < 0 && gap.to < 0 && next < 0
+}
+
+/// Whether a comparison is the same at both ends of the gap, and at the row behind it, where the sum lies `next` above the constant.
+#[inline(always)]
+pub(crate) fn keeps_truth(rel: Rel, gap: &Gap, next: i64) -> bool
+    ensures { IsTrue result → IsEven rel gap.now next }
+{
+    let holds = truth_at(rel, gap.from).holds();
+    if truth_at(rel, gap.to).holds() != holds {
+        return false;
+    }
+    truth_at(rel, next).holds() == holds
 }
 
 /// The truth of a comparison on the open gap, and at its end, where the sum lies `next` above the constant.

@@ -6,11 +6,12 @@ ghost use Rattle.stl_syntax.specs.Truth.{compares, holds_at};
 ghost use Rattle.stl_syntax.specs.Trace.{Trace as Recorded, row_time};
 ghost use Rattle.stl_syntax.specs.declared.atom.Atom.{Atom};
 ghost use Rattle.atom_lines.specs.Binding.{IsAtomNode, IsFor};
-ghost use Rattle.atom_lines.specs.Gaps.{along, AreOfSign, Passes};
+ghost use Rattle.atom_lines.specs.Gaps.{along, IsEven, Passes};
 ghost use Rattle.atom_lines.specs.Growing.{IsReach, IsReachAt};
 ghost use Rattle.atom_lines.specs.Passages.{HasBlock, IsWay, TellsPassage, crossing_time};
+ghost use Rattle.atom_lines.specs.Points.{IsTruthAt, IsTruthOn};
 ghost use Rattle.atom_lines.specs.Rows.{row_of};
-ghost use Rattle.atom_lines.specs.Steps.{IsStep};
+ghost use Rattle.atom_lines.specs.Steps.{IsStep, StaysTo};
 ghost use Rattle.atom_lines.specs.Sums.{IsAtomSound};
 
 use crate::bound::Bound;
@@ -20,15 +21,23 @@ use crate::gap::Gap;
 use crate::passage::{Crossing, Passage, Way};
 use crate::points::gap_on;
 use crate::sum::reach_of;
-use crate::truth::{changes_sign, keeps_sign, truth_at};
+use crate::truth::{TruthPiece, changes_sign, keeps_truth, truth_at, truth_onward};
 use stl_syntax::Rel;
 use trace_reader::Trace;
+use value_laws::Truth;
 
 /// The gap behind a row, and the sum at the next row.
 #[derive(Clone, Copy)]
 pub(crate) struct Step {
     pub(crate) gap: Gap,
     pub(crate) next: i64,
+}
+
+/// A row up to which the truth stays what it is, and the step behind it.
+#[derive(Clone, Copy)]
+pub(crate) struct Stay {
+    pub(crate) at: usize,
+    pub(crate) step: Step,
 }
 
 /// The time `first + past / rise`.
@@ -50,7 +59,7 @@ fn crossing_at(first: u32, past: u64, rise: u64) -> Crossing
 
 /// The time inside the gap at which a sum that changes its sign is 0.
 #[inline(always)]
-fn turning(gap: &Gap) -> Crossing
+pub(crate) fn turning(gap: &Gap) -> Crossing
     requires { Passes gap.now }
     ensures { at (along gap.now) (crossing_time result) ≈ whole (pos 0) }
 {
@@ -94,15 +103,67 @@ pub(crate) fn step_from(atom: &BoundAtom, trace: &Trace, r: usize, next: usize, 
 
 /// Whether the truth stays what it is over a step that is not the last.
 #[inline(always)]
-fn stays(at: usize, last: usize, step: &Step) -> bool
+fn stays(rel: Rel, at: usize, last: usize, step: &Step) -> bool
     requires { at < last }
     ensures more { IsTrue result → at + 1 < last }
-    ensures sign { IsTrue result → AreOfSign step.now.gap step.now.next }
+    ensures even { IsTrue result → IsEven rel step.now.gap step.now.next }
 {
     if at + 1 >= last {
         return false;
     }
-    keeps_sign(&step.gap, step.next)
+    keeps_truth(rel, &step.gap, step.next)
+}
+
+/// How far the atom's truth stays what it is from row `r` on, where its sum is `from`: to the first row with a gap behind it over which, or
+/// at whose end, it may turn, or to the row before row `last`.
+#[inline(always)]
+pub(crate) fn stay_from(atom: &BoundAtom, trace: &Trace, r: usize, last: usize, from: i64) -> Stay
+    requires sound { IsAtomSound (length trace.now.header.columns) atom.now }
+    requires before { r < last }
+    requires within { last < length trace.now.rows }
+    requires from { IsReach atom.now trace.now r from }
+    ensures { StaysTo atom.now trace.now r last result.at result.step.gap result.step.next }
+{
+    let mut at = r;
+    let mut step = step_from(atom, trace, r, r + 1, from);
+    while stays(atom.rel, at, last, &step) {
+        at += 1;
+        step = step_from(atom, trace, at, at + 1, step.next);
+    }
+    Stay { at, step }
+}
+
+/// Whether the truth of an atom of one term stays what it is over a step that is not the last. On the gap its sum is that at one of the two
+/// rows, or lies between the two, so it is asked at these alone.
+#[inline(always)]
+fn stays_of_one(rel: Rel, at: usize, last: usize, step: &Step) -> bool
+    requires { at < last }
+    ensures more { IsTrue result → at + 1 < last }
+    ensures same { IsTrue result → compares rel (whole step.now.gap.from) ≡ compares rel (whole step.now.next) }
+{
+    if at + 1 >= last {
+        return false;
+    }
+    truth_at(rel, step.next).holds() == truth_at(rel, step.gap.from).holds()
+}
+
+/// The same as `stay_from`, for an atom of one term.
+#[inline(always)]
+pub(crate) fn stay_of_one(atom: &BoundAtom, trace: &Trace, r: usize, last: usize, from: i64) -> Stay
+    requires one { length atom.now.terms.items ≡ 1 }
+    requires sound { IsAtomSound (length trace.now.header.columns) atom.now }
+    requires before { r < last }
+    requires within { last < length trace.now.rows }
+    requires from { IsReach atom.now trace.now r from }
+    ensures { StaysTo atom.now trace.now r last result.at result.step.gap result.step.next }
+{
+    let mut at = r;
+    let mut step = step_from(atom, trace, r, r + 1, from);
+    while stays_of_one(atom.rel, at, last, &step) {
+        at += 1;
+        step = step_from(atom, trace, at, at + 1, step.next);
+    }
+    Stay { at, step }
 }
 
 /// How the atom's truth goes from row `r` on, where its sum is `from`: to the first row with a gap before it over which it may turn, or to the
@@ -118,17 +179,12 @@ pub fn way_from(bound: &Bound, node: u32, trace: &Trace, r: usize, last: usize, 
     ensures last { result.row ≤ last }
 {
     let atom = bound.atom(node);
-    let mut at = r;
-    let mut step = step_from(atom, trace, r, r + 1, from);
-    while stays(at, last, &step) {
-        at += 1;
-        step = step_from(atom, trace, at, at + 1, step.next);
-    }
-    let holds = truth_at(atom.rel, step.next).holds();
+    let stay = stay_from(atom, trace, r, last, from);
+    let holds = truth_at(atom.rel, stay.step.next).holds();
     Way {
-        row: at + 1,
-        sum: step.next,
-        passage: passage_over(atom.rel, &step.gap),
+        row: stay.at + 1,
+        sum: stay.step.next,
+        passage: passage_over(atom.rel, &stay.step.gap),
         last: holds,
     }
 }
@@ -146,4 +202,40 @@ pub fn standing(bound: &Bound, node: u32, trace: &Trace, r: usize) -> (i64, bool
     let row = row_at(trace, r);
     let sum = reach_of(atom, &row, &row);
     (sum, truth_at(atom.rel, sum).holds())
+}
+
+/// The atom's truth at row `r` of a trace.
+#[inline(always)]
+pub fn truth_at_row(bound: &Bound, node: u32, trace: &Trace, r: usize) -> Truth
+    requires atom { IsAtomNode bound.now node }
+    requires columns { length trace.now.header.columns ≡ bound.now.width }
+    requires within { r < length trace.now.rows }
+    ensures { IsTruthAt bound.now node (row_of trace.now r) result.holds }
+{
+    let atom = bound.atom(node);
+    let row = row_at(trace, r);
+    truth_at(atom.rel, reach_of(atom, &row, &row))
+}
+
+/// The atom's truth on the open gap behind row `r` of a trace, and at the next row.
+#[inline(always)]
+pub fn truth_from_row(
+    bound: &Bound,
+    node: u32,
+    trace: &Trace,
+    r: usize,
+    next: usize,
+) -> (TruthPiece, Truth)
+    requires atom { IsAtomNode bound.now node }
+    requires columns { length trace.now.header.columns ≡ bound.now.width }
+    requires next { next ≡ r + 1 }
+    requires within { next < length trace.now.rows }
+    ensures piece { IsTruthOn bound.now node (row_of trace.now r) (row_of trace.now next) result.0 }
+    ensures point { IsTruthAt bound.now node (row_of trace.now next) result.1.holds }
+{
+    let atom = bound.atom(node);
+    let row = row_at(trace, r);
+    let from = reach_of(atom, &row, &row);
+    let step = step_from(atom, trace, r, next, from);
+    truth_onward(atom.rel, &step.gap, step.next)
 }

@@ -11,7 +11,7 @@ pub fn turns_are_few()
     ensures { TurnsAreFew }
 {}
 
-/// So the verdicts that describe it on the stretch are at most twice as many, and one: as few as the rows allow, however long the trace.
+/// The verdicts that describe a formula on a stretch are at most twice as many as its truth may turn there, and one, however long the trace.
 pub fn verdicts_are_few()
     ensures { VerdictsAreFew }
 {}
@@ -28,7 +28,7 @@ pub fn moves_are_few()
     ensures { MovesAreFew }
 {}
 
-/// So what an edge of the streaming network holds in a run is bounded by the rows in and about the stretch that its reader may still need, however
+/// What an edge of the streaming network holds in a run is bounded by the rows in and about the stretch that its reader may still need, however
 /// long the trace.
 pub fn edges_are_few()
     ensures { EdgesAreFew }

@@ -30,8 +30,8 @@ fn stretch(alloc: Global, on: &Domain, from: Turn, to: Turn) -> Result<Times, Me
     ensures { IfOk result (λ s. IsOf on.now s) }
 {
     let mut set = Times::constant(alloc, false);
-    set.set_from(from, true)?;
-    set.set_from(to, false)?;
+    set.turn(from)?;
+    set.turn(to)?;
     Ok(set)
 }
 

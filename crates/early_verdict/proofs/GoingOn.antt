@@ -149,14 +149,14 @@ module _ (header : Header) (width : ℕ) (r : Row) (rows : List Row) (ok : AreRo
       (λ k e. settled_not header width r rows [] k p t (record { above = f; below = e }) d) ok l
 
 -- the end of the input: what the root shows then
-pub end_final : {f : Formula} {b : Binding} {header : Header} {r : Row} {rows : List Row} {begin : ℕ} {before : Option Row} {last : Row} {e : Entry}
-    {live shown new new_shown : List Sets}
-    → IsOpen f b header (r ∷ rows) begin before live shown → ComesOn f.nodes b e None last live new shown new_shown
+pub end_final : {f : Formula} {b : Binding} {header : Header} {r : Row} {rows : List Row} {begin : ℕ} {before previous : Option Row} {last : Row}
+    {e : Entry} {live shown new new_shown : List Sets}
+    → IsOpen f b header (r ∷ rows) begin before live shown → ComesOn f.nodes b e previous last live new shown new_shown
     → e.ended ≡ true → Happens e (Some (trace_of header (r ∷ rows))) (trace_of header (r ∷ rows))
     → Final (trace_of header (r ∷ rows)) (IsShown new_shown (length f.nodes - 1)) (lists_at new_shown (length f.nodes - 1))
     (subformula f.nodes (length f.nodes - 1))
     × IsShown new_shown (length f.nodes - 1) (row_time r)
-end_final {f} {header = header} {r = r} {rows = rows} {last = last} {e = e} {live = live} {shown = shown} {new = new} {new_shown = new_shown}
+end_final {f} {header = header} {r = r} {rows = rows} {previous = previous} {last = last} {e = e} {live = live} {shown = shown} {new = new} {new_shown = new_shown}
     o on ended happens = (
       all_final tr o.formed (live_on on.stepped on.shows s.have) on.tidy.0 on.tidy.1
           (sound_of on.stepped on.shows s.have
@@ -180,6 +180,6 @@ end_final {f} {header = header} {r = r} {rows = rows} {last = last} {e = e} {liv
     fit : AllFit f.nodes true tr new new_shown
     fit = subst (λ y. AllFit f.nodes y tr new new_shown) ended
         (on.fits (Some tr) tr happens s.have
-        (all_go (r ∷ rows) e (Some tr) None last o.bound o.so_far
-        (λ a. subst (λ y. MatchBool y (Some tr ≡ Some tr) (IsNextRow a (Some tr) tr None last)) (sym ended) refl))
+        (all_go (r ∷ rows) e (Some tr) previous last o.bound o.so_far
+        (λ a. subst (λ y. MatchBool y (Some tr ≡ Some tr) (IsNextRow a (Some tr) tr previous last)) (sym ended) refl))
         s.fit)

@@ -10,6 +10,8 @@ pub mod EndedSets
 pub mod AllSets
 pub mod AtomSets
 mod TurningLemmas
+mod BlockLemmas
+mod Answering
 pub mod LookLemmas
 pub mod FitLemmas
 pub mod Places

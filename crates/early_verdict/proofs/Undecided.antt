@@ -55,9 +55,9 @@ open_next f b header rows begin last live shown q some o =
     let w = some_rows rows q (sym o.ends ∙ some) in (w.0, w.1, w.2, subst (λ l. IsOpen f b header l begin last live shown) w.2 o)
 
 -- once the input has ended, what the root says is the truth
-module _ {f : Formula} {b : Binding} {header : Header} {r : Row} {rows : List Row} {begin : ℕ} {before : Option Row} {last : Row} {e : Entry}
-    {live shown new new_shown : List Sets} (o : IsOpen f b header (r ∷ rows) begin before live shown)
-    (on : ComesOn f.nodes b e None last live new shown new_shown) (ended : e.ended ≡ true)
+module _ {f : Formula} {b : Binding} {header : Header} {r : Row} {rows : List Row} {begin : ℕ} {before previous : Option Row}
+    {last : Row} {e : Entry} {live shown new new_shown : List Sets} (o : IsOpen f b header (r ∷ rows) begin before live shown)
+    (on : ComesOn f.nodes b e previous last live new shown new_shown) (ended : e.ended ≡ true)
     (happens : Happens e (Some (trace_of header (r ∷ rows))) (trace_of header (r ∷ rows))) where
   count : length new_shown ≡ length f.nodes
   count = on.shows.count ∙ o.sets_are.1.have.shown_count

@@ -12,7 +12,9 @@ use Rattle.atom_lines.specs.Binding.{Binding, IsBound}
 use Rattle.growing_sets.specs.Spans.{IsOn}
 use Rattle.early_verdict.specs.Fitting.{lists_at}
 use Rattle.early_verdict.specs.Living.{NetStands}
+use Rattle.trace_reader.specs.Reader.{Reader, StandsFor}
 use Rattle.early_verdict.specs.declared.sets.Sets.{Sets}
+use Rattle.early_verdict.specs.declared.progress.Progress.{Progress}
 use Rattle.early_verdict.specs.declared.early.Decided.{Decided}
 use Rattle.early_verdict.specs.declared.early.EarlyFault.{EarlyFault}
 use Rattle.early_verdict.specs.declared.early.EarlyFault.TheVariants.{Stopped, Memory}
@@ -140,3 +142,30 @@ IsFault old new Memory = (old.stopped ≡ false) × (new.stopped ≡ true)
 -- the verdict is the truth at the start
 abbrev pub IsTruthAtStart : Subformula → Trace → Bool → Type 0
 IsTruthAtStart p tr holds = MatchBool holds (Truth p tr (start tr)) (¬ (Truth p tr (start tr)))
+
+-- what is kept over these parts, with that last row, while the input goes on
+abbrev pub kept_of : Formula → Binding → Header → Option Row → Progress → Kept
+kept_of f b header last p = record {
+  nodes = f.nodes;
+  header = header;
+  bound = b;
+  live = p.net.live.items;
+  shown = p.net.shown.items;
+  begin = p.begin;
+  last = last;
+  decided = p.decided;
+  ended = false;
+  stopped = false;
+}
+
+-- one of some rows more is the first that decides, as the answer says; or none of them is
+abbrev pub IsBlockAnswer : Subformula → Header → List Row → List Row → Option Decided → Type 0
+IsBlockAnswer p header rows more None = NoneDecides p header rows → NoneDecides p header (rows ++ more)
+IsBlockAnswer p header rows more (Some d) = NoneDecides p header rows × WasDecided p header (rows ++ more) d
+
+-- it took some rows more, which are these bytes
+pub record HasTakenRows (before after : Reader) (old new : Kept) (rows : List Row) (taken : List ℕ) (answer : Option Decided) : Type 0 where
+  pub more : List Row
+  pub read : (bytes : List ℕ) (all : List Row) → StandsFor before bytes all → StandsFor after (bytes ++ taken) (all ++ more)
+  pub stands : Stands new (rows ++ more) false
+  pub answers : IsBlockAnswer (root old.nodes) old.header rows more answer

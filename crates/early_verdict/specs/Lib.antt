@@ -10,3 +10,5 @@ pub mod Tops
 pub mod Adding
 pub mod Making
 pub mod Deciding
+pub mod BlockRows
+pub mod Answers

@@ -2,20 +2,24 @@
 ghost use Rattle.std.specs.Prelude.{◌≡◌, ◌<◌, ◌⊎◌, IfOk, OnOk, IfSome, Option, length, pos, true, false};
 ghost use Rattle.rational.specs.Rational.{whole};
 ghost use Rattle.rational.specs.Time.{Rational, ◌≤ʳ◌};
-ghost use Rattle.stl_syntax.specs.Trace.{Trace, start};
+ghost use Rattle.stl_syntax.specs.Trace.{Row as ARow, Trace, row_time, start};
+ghost use Rattle.stl_syntax.specs.Truth.{holds_at};
 ghost use Rattle.stl_syntax.specs.declared.atom.Atom.{Atom};
 ghost use Rattle.atom_lines.specs.Binding.{AreNeighbours, IsAtomNode, IsFor};
+ghost use Rattle.atom_lines.specs.Pieces.{TellsGap};
+ghost use Rattle.atom_lines.specs.Points.{IsTruthAt};
 ghost use Rattle.early_verdict.specs.Adding.{AddsOnce, AfterRow, BetweenRows, HasAdded, HasGrown, HasRested, IsNextRow, Piece, Turns, before_row};
 ghost use Rattle.rational.specs.Places.{Same};
 ghost use Rattle.frac128.specs.Cuts.{place};
 ghost use Rattle.growing_sets.specs.Spans.{Lies};
 ghost use Rattle.early_verdict.specs.Fitting.{AreSetsTidy, AtomFits, HasStepped};
 ghost use Rattle.early_verdict.specs.Happening.{Was};
+ghost use Rattle.early_verdict.specs.BlockRows.{own_row, previous_row};
 
+use crate::block_row::BlockRow;
 use crate::sets::Sets;
-use atom_lines::{Bound, TruthPiece, truth_piece, truth_point};
+use atom_lines::{Bound, TruthPiece};
 use frac128::{Cut, Memory};
-use trace_reader::Row;
 
 /// Just before a time in ticks.
 pub(crate) fn before_tick(n: u32) -> Cut
@@ -63,25 +67,15 @@ fn turn(own: &mut Sets, pending: Pending, holds: bool, at: Cut) -> Result<Pendin
     Ok(Pending { holds, from: at })
 }
 
-/// The truth with which the gap between two rows ends. The times before it in the gap are added.
-fn through_gap(
-    own: &mut Sets,
-    bound: &Bound,
-    node: u32,
-    first: &Row,
-    row: &Row,
-) -> Result<Pending, Memory>
+/// The truth with which a gap between two rows ends, on which the atom is as the piece says. Its times before that are added.
+fn through_gap(own: &mut Sets, first: u32, piece: &TruthPiece) -> Result<Pending, Memory>
     requires own { AreSetsTidy own.old }
-    requires atom { IsAtomNode bound.now node }
-    requires first { length first.now.values ≡ bound.now.width }
-    requires second { length row.now.values ≡ bound.now.width }
-    requires later { first.now.time < row.now.time }
     ensures grown { OnOk result (HasGrown own.old own.new) }
-    ensures added { IfOk result (λ pending. (a : Atom) (tr : Trace) → IsFor bound.now node a tr → AreNeighbours tr first.now row.now
-        → AddsOnce pending (before_row row.now) (BetweenRows a tr first.now row.now) own.old own.new) }
+    ensures added { IfOk result (λ pending. (a : Atom) (tr : Trace) (q r : ARow) → first ≡ q.time → q.time < r.time
+        → TellsGap (row_time q) (row_time r) (holds_at a tr) piece.now → AddsOnce pending (before_row r) (BetweenRows a tr q r) own.old own.new) }
 {
-    let from = after_tick(first.time());
-    match truth_piece(bound, node, first, row) {
+    let from = after_tick(first);
+    match piece {
         TruthPiece::Whole(truth) => Ok(Pending {
             holds: truth.holds(),
             from,
@@ -96,8 +90,8 @@ fn through_gap(
                 holds: before.holds(),
                 from,
             };
-            let there = turn(own, begun, point.holds(), Cut { time: at, side: 0 })?;
-            turn(own, there, after.holds(), Cut { time: at, side: 1 })
+            let there = turn(own, begun, point.holds(), Cut { time: *at, side: 0 })?;
+            turn(own, there, after.holds(), Cut { time: *at, side: 1 })
         }
     }
 }
@@ -111,33 +105,27 @@ pub(crate) fn rest(own: &mut Sets)
     own.no.rest();
 }
 
-/// The truth at a row, `holds`, from the place on from which it is so. The times after the row before up to there are added.
-fn up_to_row(
-    own: &mut Sets,
-    bound: &Bound,
-    node: u32,
-    before: &Option<Row>,
-    row: &Row,
-    holds: bool,
-) -> Result<Pending, Memory>
+/// The truth at a row, from the place on from which it is so. The times after the row before up to there are added.
+fn up_to_row(own: &mut Sets, bound: &Bound, node: u32, next: &BlockRow) -> Result<Pending, Memory>
     requires own { AreSetsTidy own.old }
     requires atom { IsAtomNode bound.now node }
-    requires first { IfSome before.now (λ r. length r.values ≡ bound.now.width) }
-    requires second { length row.now.values ≡ bound.now.width }
-    requires later { IfSome before.now (λ r. r.time < row.now.time) }
+    requires columns { length next.now.block.now.header.columns ≡ bound.now.width }
     ensures grown { OnOk result (HasGrown own.old own.new) }
-    ensures holds { IfOk result (λ pending. pending.holds ≡ holds) }
-    ensures added { IfOk result (λ pending. (a : Atom) (tr : Trace) → IsFor bound.now node a tr → IfSome before.now (λ q. AreNeighbours tr q row.now)
-        → AddsOnce pending (before_row row.now) (AfterRow a tr before.now row.now) own.old own.new) }
+    ensures holds { IfOk result (λ pending. IsTruthAt bound.now node (own_row next.now) pending.holds) }
+    ensures added { IfOk result (λ pending. (a : Atom) (tr : Trace) → IsFor bound.now node a tr
+        → IfSome (previous_row next.now) (λ q. AreNeighbours tr q (own_row next.now))
+        → AddsOnce pending (before_row (own_row next.now)) (AfterRow a tr (previous_row next.now) (own_row next.now)) own.old own.new) }
 {
-    let at = before_tick(row.time());
-    match before {
-        None => Ok(Pending { holds, from: at }),
-        Some(first) => {
-            let pending = through_gap(own, bound, node, first, row)?;
-            turn(own, pending, holds, at)
-        }
+    let at = before_tick(next.time());
+    if next.is_first() {
+        return Ok(Pending {
+            holds: next.truth(bound, node).holds(),
+            from: at,
+        });
     }
+    let (piece, there) = next.truth_since(bound, node);
+    let pending = through_gap(own, next.time_before(), &piece)?;
+    turn(own, pending, there.holds(), at)
 }
 
 /// Adds the times after the row before, up to the row.
@@ -145,22 +133,19 @@ pub(crate) fn step_atom(
     own: &mut Sets,
     bound: &Bound,
     node: u32,
-    before: &Option<Row>,
-    row: &Row,
+    next: &BlockRow,
 ) -> Result<(), Memory>
     requires own { AreSetsTidy own.old }
     requires atom { IsAtomNode bound.now node }
-    requires first { IfSome before.now (λ r. length r.values ≡ bound.now.width) }
-    requires second { length row.now.values ≡ bound.now.width }
-    requires later { IfSome before.now (λ r. r.time < row.now.time) }
+    requires columns { length next.now.block.now.header.columns ≡ bound.now.width }
     ensures stepped { OnOk result (HasStepped own.old own.new) }
-    ensures fits { OnOk result ((a : Atom) (old : Option Trace) (tr : Trace) → IsFor bound.now node a tr → IsNextRow a old tr before.now row.now
+    ensures fits { OnOk result ((a : Atom) (old : Option Trace) (tr : Trace) → IsFor bound.now node a tr
+        → IsNextRow a old tr (previous_row next.now) (own_row next.now)
         → ((t : Rational) → Lies own.old.yes.bounds t ⊎ Lies own.old.no.bounds t → start tr ≤ʳ t)
         → Was old (λ o. AtomFits a o) own.old → AtomFits a tr own.new) }
 {
     rest(own);
-    let holds = truth_point(bound, node, row).holds();
-    let pending = up_to_row(own, bound, node, before, row, holds)?;
-    add_truth(own, holds, pending.from, after_tick(row.time()))?;
+    let pending = up_to_row(own, bound, node, next)?;
+    add_truth(own, pending.holds, pending.from, after_tick(next.time()))?;
     Ok(())
 }

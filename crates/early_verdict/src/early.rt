@@ -2,20 +2,20 @@
 //!
 //! An early verdict stands for the rows that it took, and whether they have ended. It stores none of them: what its sets tell is what the
 //! rows settle, whatever they were; and of that it keeps what a later answer may look at.
-ghost use Rattle.std.specs.Prelude.{◌≡◌, ◌<◌, ◌++◌, ◌∷◌, [], List, length, IfOk, IfSome, IsSome, MatchResult, None, true, false, option_map};
-ghost use Rattle.stl_syntax.specs.Trace.{Row as ARow, Trace as ATrace};
-ghost use Rattle.early_verdict.specs.Living.{NetStands};
+ghost use Rattle.std.specs.Prelude.{◌≡◌, ◌<◌, ◌≤◌, ◌++◌, ◌∷◌, [], List, length, take, IfErr, IfOk, IfSome, IsSome, MatchResult, true, false};
+ghost use Rattle.stl_syntax.specs.Trace.{Row as ARow};
 ghost use Rattle.stl_syntax.specs.Formula.{root};
 ghost use Rattle.atom_lines.specs.Binding.{IsBound};
+ghost use Rattle.trace_reader.specs.Taken.{HasTraceSoFar};
 
-use crate::entries::{end_sets, root_verdict, take_row};
-use crate::letting::let_go;
+use crate::entries::end_sets;
+use crate::progress::Progress;
 use crate::sets::Net;
 use atom_lines::Bound;
 use std::alloc::Global;
 use std::marker::Model;
 use stl_syntax::Formula;
-use trace_reader::{Header, Row};
+use trace_reader::{Header, Row, Rows, Trace};
 
 /// A verdict at the start, and the time of the row that decided it, in ticks.
 #[derive(Clone, Copy, Debug, PartialEq, Eq)]
@@ -33,6 +33,15 @@ pub enum EarlyFault {
     Memory,
 }
 
+/// Rows that a piece begins with.
+#[derive(Clone, Copy, Debug)]
+pub struct Taken {
+    /// How many bytes they are.
+    pub bytes: usize,
+    /// What one of them decided, if it was the first that did.
+    pub decided: Option<Decided>,
+}
+
 /// What the rows of a trace have decided of a formula at the start.
 ///
 /// Contracts see it as `Kept`. `Stands` says when it stands for rows.
@@ -40,13 +49,10 @@ pub enum EarlyFault {
 pub struct Early {
     alloc: Global,
     formula: Formula,
-    header: Header,
     bound: Bound,
-    /// The sets of each node; none before the first row, and none once a row has decided.
-    net: Net,
-    begin: u32,
-    last: Option<Row>,
-    decided: Option<Decided>,
+    /// The last row, alone, behind which rows are read by blocks; before the first row there is none.
+    block: Trace,
+    progress: Progress,
     ended: bool,
     stopped: bool,
 }
@@ -56,69 +62,38 @@ impl Model for Early {
 
     ghost Value = { Kept };
 
-    ghost use Rattle.early_verdict.specs.Deciding.{HasPast};
+    ghost use Rattle.std.specs.Prelude.{◌≡◌, ◌≤◌, false, length};
+    ghost use Rattle.early_verdict.specs.Deciding.{HasPast, last_of};
 
     ghost view = { λ e. record {
       nodes = e.formula.nodes;
-      header = e.header;
+      header = e.block.header;
       bound = e.bound;
-      live = e.net.live.items;
-      shown = e.net.shown.items;
-      begin = e.begin;
-      last = e.last;
-      decided = e.decided;
+      live = e.progress.net.live.items;
+      shown = e.progress.net.shown.items;
+      begin = e.progress.begin;
+      last = last_of e.block.rows;
+      decided = e.progress.decided;
       ended = e.ended;
       stopped = e.stopped;
     } };
 
     ghost invariant = { λ e. HasPast (record {
       nodes = e.formula.nodes;
-      header = e.header;
+      header = e.block.header;
       bound = e.bound;
-      live = e.net.live.items;
-      shown = e.net.shown.items;
-      begin = e.begin;
-      last = e.last;
-      decided = e.decided;
+      live = e.progress.net.live.items;
+      shown = e.progress.net.shown.items;
+      begin = e.progress.begin;
+      last = last_of e.block.rows;
+      decided = e.progress.decided;
       ended = e.ended;
       stopped = e.stopped;
-    }) };
-}
-
-/// The verdict with the time of the row that decided it.
-fn decided_at(at: u32, verdict: Option<bool>) -> Option<Decided>
-    ensures { result ≡ option_map (λ holds. record { at = at; holds = holds }) verdict }
-{
-    match verdict {
-        Some(holds) => Some(Decided { at, holds }),
-        None => None,
-    }
-}
-
-/// So many rows come between two times that the sets let go: what that costs is a small part of what the rows themselves cost.
-const ROWS_BETWEEN: u32 = 31;
-
-/// Lets go, now and then, of what no later answer needs; of all sets, once a row has decided.
-fn let_go_by(net: &mut Net, formula: &Formula, decided: &Option<Decided>)
-    requires { decided.now ≡ None → (tr : ATrace) × NetStands formula.now.nodes tr net.old.live.items net.old.shown.items }
-    ensures { decided.now ≡ None → (tr : ATrace) → NetStands formula.now.nodes tr net.old.live.items net.old.shown.items
-        → NetStands formula.now.nodes tr net.new.live.items net.new.shown.items }
-{
-    if decided.is_some() {
-        net.live.clear();
-        net.shown.clear();
-        return;
-    }
-    if net.rows < ROWS_BETWEEN {
-        net.rows += 1;
-        return;
-    }
-    net.rows = 0;
-    let_go(net, formula);
+    }) × (e.stopped ≡ false → length e.block.rows ≤ 1) };
 }
 
 impl Early {
-    ghost use Rattle.early_verdict.specs.Deciding.{IsAnswer, IsFault, IsFed, IsFor, IsOver, IsTruthAtStart, Stands, trace_of};
+    ghost use Rattle.early_verdict.specs.Deciding.{HasTakenRows, IsAnswer, IsFault, IsFed, IsFor, IsOver, IsTruthAtStart, Stands, trace_of};
 
     /// Nothing is decided yet; it takes no memory. It stands for no rows.
     pub fn new(alloc: Global, formula: Formula, bound: Bound, header: Header) -> Early
@@ -133,16 +108,17 @@ impl Early {
         Early {
             alloc,
             formula,
-            header,
             bound,
-            net: Net {
-                live: Vec::new(alloc),
-                shown: Vec::new(alloc),
-                rows: 0,
+            block: Trace::new(alloc, header),
+            progress: Progress {
+                net: Net {
+                    live: Vec::new(alloc),
+                    shown: Vec::new(alloc),
+                    rows: 0,
+                },
+                begin: 0,
+                decided: None,
             },
-            begin: 0,
-            last: None,
-            decided: None,
             ended: false,
             stopped: false,
         }
@@ -152,7 +128,7 @@ impl Early {
     pub fn decided(&self) -> Option<Decided>
         ensures { result ≡ self.now.decided }
     {
-        self.decided
+        self.progress.decided
     }
 
     /// Takes the next row. Some exactly where it is the first that decides.
@@ -172,32 +148,60 @@ impl Early {
         if self.stopped {
             return Err(EarlyFault::Stopped);
         }
-        let Ok(kept) = row.copy() else {
+        let from = self.block.rows();
+        let Ok(()) = self.block.push(row) else {
             self.stopped = true;
             return Err(EarlyFault::Memory);
         };
-        if self.decided.is_some() {
-            self.last = Some(kept);
-            return Ok(None);
-        }
-        let Ok(begin) = take_row(
-            self.alloc,
-            &mut self.net,
-            &self.formula,
-            &self.bound,
-            self.begin,
-            &self.last,
-            row,
-        ) else {
+        let Ok(decided) = self
+            .progress
+            .take_rows(self.alloc, &self.formula, &self.bound, &self.block, from)
+        else {
             self.stopped = true;
             return Err(EarlyFault::Memory);
         };
-        let decided = decided_at(row.time(), root_verdict(&self.net.shown, begin));
-        let_go_by(&mut self.net, &self.formula, &decided);
-        self.begin = begin;
-        self.last = Some(kept);
-        self.decided = decided;
+        self.block.keep_last();
         Ok(decided)
+    }
+
+    /// Takes rows that the piece begins with, as `Rows::take_rows`; before the first row it takes none.
+    ///
+    /// # Errors
+    ///
+    /// As `feed`.
+    pub fn take_rows(&mut self, rows: &mut Rows, piece: &[u8]) -> Result<Taken, EarlyFault>
+        requires open { self.old.ended ≡ false }
+        requires rows { self.old.stopped ≡ false → (all : List ARow) × Stands self.old all false × HasTraceSoFar rows.old (trace_of self.old.header all) }
+        ensures within { IfOk result (λ t. t.bytes ≤ length piece.now) }
+        ensures taken { IfOk result (λ t. (all : List ARow) → Stands self.old all false → HasTraceSoFar rows.old (trace_of self.old.header all)
+            → HasTakenRows rows.old rows.new self.old self.new all (take t.bytes piece.now) t.decided) }
+        ensures fault { IfErr result (IsFault self.old self.new) }
+        ensures kept { (rows.new.limits ≡ rows.old.limits) × (rows.new.least ≡ rows.old.least) × (rows.new.heading ≡ rows.old.heading) }
+        ensures same { IsFor self.old self.new }
+    {
+        if self.stopped {
+            return Err(EarlyFault::Stopped);
+        }
+        let from = self.block.rows();
+        if from == 0 {
+            return Ok(Taken {
+                bytes: 0,
+                decided: None,
+            });
+        }
+        let Ok(bytes) = rows.take_rows(piece, &mut self.block) else {
+            self.stopped = true;
+            return Err(EarlyFault::Memory);
+        };
+        let Ok(decided) = self
+            .progress
+            .take_rows(self.alloc, &self.formula, &self.bound, &self.block, from)
+        else {
+            self.stopped = true;
+            return Err(EarlyFault::Memory);
+        };
+        self.block.keep_last();
+        Ok(Taken { bytes, decided })
     }
 
     /// The end of the input: the truth at the start.
@@ -218,16 +222,16 @@ impl Early {
         if self.stopped {
             return Err(EarlyFault::Stopped);
         }
-        if let Some(decided) = self.decided {
+        if let Some(decided) = self.progress.decided {
             self.ended = true;
             return Ok(decided.holds);
         }
         let Ok(holds) = end_sets(
-            &mut self.net,
+            &mut self.progress.net,
             &self.formula,
             &self.bound,
-            self.begin,
-            &self.last,
+            self.progress.begin,
+            &self.block,
         ) else {
             self.stopped = true;
             return Err(EarlyFault::Memory);

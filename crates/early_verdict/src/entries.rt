@@ -1,5 +1,5 @@
 //! Rows and the end of the input, as they come to the sets of all nodes.
-ghost use Rattle.std.specs.Prelude.{◌≡◌, ◌<◌, ◌++◌, ◌∷◌, ◌↔◌, [], ℕ, List, Option, length, pos, slice_get, IfOk, IfSome, IsTrue, OnOk, Some, None, true, false};
+ghost use Rattle.std.specs.Prelude.{◌≡◌, ◌<◌, ◌++◌, ◌∷◌, ◌↔◌, [], ℕ, List, Option, length, pos, slice_get, IfOk, IsTrue, OnOk, Some, None, true, false};
 ghost use Rattle.stl_syntax.specs.Trace.{Header, Row as ARow};
 ghost use Rattle.stl_syntax.specs.Formula.{root};
 ghost use Rattle.rational.specs.Rational.{whole};
@@ -8,9 +8,11 @@ ghost use Rattle.early_verdict.specs.Happening.{Happens, IsEntry};
 ghost use Rattle.stl_syntax.specs.declared.node.Node.{Node as ANode};
 ghost use Rattle.early_verdict.specs.Standing.{AllEmpty, AllTidy, LeafIsBound};
 ghost use Rattle.early_verdict.specs.Living.{ComesOn};
-ghost use Rattle.early_verdict.specs.Deciding.{IsOpen, IsTruthAtStart, IsVerdict, SetsAre, last_after, trace_of};
+ghost use Rattle.early_verdict.specs.Deciding.{IsOpen, IsTruthAtStart, IsVerdict, SetsAre, last_after, last_of, trace_of};
+ghost use Rattle.early_verdict.specs.BlockRows.{own_row, previous_row};
 
 use crate::atoms::{after_tick, before_tick};
+use crate::block_row::BlockRow;
 use crate::entry::Entry;
 use crate::making::{all_sets, shown_of};
 use crate::net::step_all;
@@ -20,7 +22,7 @@ use frac128::Memory;
 use growing_sets::Grown;
 use std::alloc::Global;
 use stl_syntax::Formula;
-use trace_reader::Row;
+use trace_reader::Trace;
 
 /// The first row of a trace.
 fn first_entry(time: u32) -> Entry
@@ -85,8 +87,7 @@ fn step_sets(
     net: &mut Net,
     formula: &Formula,
     bound: &Bound,
-    before: &Option<Row>,
-    row: &Row,
+    next: &BlockRow,
     entry: &Entry,
 ) -> Result<(), Memory>
     requires count { length net.old.live.items ≡ length formula.now.nodes }
@@ -96,21 +97,11 @@ fn step_sets(
     requires entry { IsEntry entry.now }
     requires none { entry.now.first ≡ true → AllEmpty net.old.live.items }
     requires atoms { (i : ℕ) (n : ANode) → slice_get formula.now.nodes i ≡ Some n → LeafIsBound bound.now i n }
-    requires first { IfSome before.now (λ r. length r.values ≡ bound.now.width) }
-    requires second { length row.now.values ≡ bound.now.width }
-    requires later { IfSome before.now (λ r. r.time < row.now.time) }
-    ensures { OnOk result (ComesOn formula.now.nodes bound.now entry.now before.now row.now net.old.live.items net.new.live.items
+    requires columns { length next.now.block.now.header.columns ≡ bound.now.width }
+    ensures { OnOk result (ComesOn formula.now.nodes bound.now entry.now (previous_row next.now) (own_row next.now) net.old.live.items net.new.live.items
         net.old.shown.items net.new.shown.items) }
 {
-    step_all(
-        &mut net.live,
-        &mut net.shown,
-        formula,
-        bound,
-        before,
-        row,
-        entry,
-    )?;
+    step_all(&mut net.live, &mut net.shown, formula, bound, next, entry)?;
     Ok(())
 }
 
@@ -120,22 +111,23 @@ fn take_first(
     net: &mut Net,
     formula: &Formula,
     bound: &Bound,
-    row: &Row,
+    next: &BlockRow,
 ) -> Result<(), Memory>
     requires open { (header : Header) × IsOpen formula.now bound.now header [] 0 None net.old.live.items net.old.shown.items }
-    requires width { length row.now.values ≡ bound.now.width }
+    requires columns { length next.now.block.now.header.columns ≡ bound.now.width }
+    requires first { next.now.at ≡ 0 }
     ensures { OnOk result ((header : Header) → IsOpen formula.now bound.now header [] 0 None net.old.live.items net.old.shown.items
-        → SetsAre formula.now.nodes header row.now.time net.new.live.items net.new.shown.items (row.now ∷ [])) }
+        → SetsAre formula.now.nodes header (own_row next.now).time net.new.live.items net.new.shown.items (own_row next.now ∷ [])) }
 {
-    let live = all_sets(alloc, formula, row.time())?;
+    let live = all_sets(alloc, formula, next.time())?;
     let shown = shown_of(alloc, &live)?;
     *net = Net {
         live,
         shown,
         rows: 0,
     };
-    let entry = first_entry(row.time());
-    step_sets(net, formula, bound, &None, row, &entry)?;
+    let entry = first_entry(next.time());
+    step_sets(net, formula, bound, next, &entry)?;
     Ok(())
 }
 
@@ -145,22 +137,18 @@ fn take_next(
     formula: &Formula,
     bound: &Bound,
     begin: u32,
-    last: &Option<Row>,
-    row: &Row,
+    next: &BlockRow,
 ) -> Result<(), Memory>
     requires open { (header : Header) × (r : ARow) × (rows : List ARow)
-        × IsOpen formula.now bound.now header (r ∷ rows) begin last.now net.old.live.items net.old.shown.items }
-    requires width { length row.now.values ≡ bound.now.width }
-    requires later { IfSome last.now (λ q. q.time < row.now.time) }
+        × IsOpen formula.now bound.now header (r ∷ rows) begin (previous_row next.now) net.old.live.items net.old.shown.items }
+    requires columns { length next.now.block.now.header.columns ≡ bound.now.width }
+    requires after { 0 < next.now.at }
     ensures { OnOk result ((header : Header) (r : ARow) (rows : List ARow)
-        → IsOpen formula.now bound.now header (r ∷ rows) begin last.now net.old.live.items net.old.shown.items
-        → SetsAre formula.now.nodes header begin net.new.live.items net.new.shown.items (r ∷ (rows ++ row.now ∷ []))) }
+        → IsOpen formula.now bound.now header (r ∷ rows) begin (previous_row next.now) net.old.live.items net.old.shown.items
+        → SetsAre formula.now.nodes header begin net.new.live.items net.new.shown.items (r ∷ (rows ++ own_row next.now ∷ []))) }
 {
-    let Some(before) = last else {
-        unreachable!();
-    };
-    let entry = next_entry(begin, before.time(), row.time());
-    step_sets(net, formula, bound, last, row, &entry)?;
+    let entry = next_entry(begin, next.time_before(), next.time());
+    step_sets(net, formula, bound, next, &entry)?;
     Ok(())
 }
 
@@ -171,26 +159,21 @@ pub(crate) fn take_row(
     formula: &Formula,
     bound: &Bound,
     begin: u32,
-    last: &Option<Row>,
-    row: &Row,
+    next: &BlockRow,
 ) -> Result<u32, Memory>
-    requires open { (header : Header) × (rows : List ARow) × IsOpen formula.now bound.now header rows begin last.now net.old.live.items net.old.shown.items }
-    requires width { length row.now.values ≡ bound.now.width }
-    requires later { IfSome last.now (λ q. q.time < row.now.time) }
-    ensures { IfOk result
-        (λ start. (header : Header) (rows : List ARow) → IsOpen formula.now bound.now header rows begin last.now net.old.live.items net.old.shown.items
-        → SetsAre formula.now.nodes header start net.new.live.items net.new.shown.items (rows ++ row.now ∷ [])) }
+    requires open { (header : Header) × (rows : List ARow)
+        × IsOpen formula.now bound.now header rows begin (previous_row next.now) net.old.live.items net.old.shown.items }
+    requires columns { length next.now.block.now.header.columns ≡ bound.now.width }
+    ensures { IfOk result (λ start. (header : Header) (rows : List ARow)
+        → IsOpen formula.now bound.now header rows begin (previous_row next.now) net.old.live.items net.old.shown.items
+        → SetsAre formula.now.nodes header start net.new.live.items net.new.shown.items (rows ++ own_row next.now ∷ [])) }
 {
-    match last {
-        None => {
-            take_first(alloc, net, formula, bound, row)?;
-            Ok(row.time())
-        }
-        Some(_) => {
-            take_next(net, formula, bound, begin, last, row)?;
-            Ok(begin)
-        }
+    if next.is_first() {
+        take_first(alloc, net, formula, bound, next)?;
+        return Ok(next.time());
     }
+    take_next(net, formula, bound, begin, next)?;
+    Ok(begin)
 }
 
 /// Whether the tick is one of the set's times.
@@ -217,25 +200,24 @@ pub(crate) fn root_verdict(sets: &[Sets], start: u32) -> Option<bool>
     None
 }
 
-/// The truth at the start, once the input has ended after that row.
+/// The truth at the start, once the input has ended after the last row of the block.
 pub(crate) fn end_sets(
     net: &mut Net,
     formula: &Formula,
     bound: &Bound,
     begin: u32,
-    last: &Option<Row>,
+    block: &Trace,
 ) -> Result<bool, Memory>
     requires open { (header : Header) × (r : ARow) × (rows : List ARow)
-        × IsOpen formula.now bound.now header (r ∷ rows) begin last.now net.old.live.items net.old.shown.items }
+        × IsOpen formula.now bound.now header (r ∷ rows) begin (last_of block.now.rows) net.old.live.items net.old.shown.items }
+    requires columns { length block.now.header.columns ≡ bound.now.width }
     ensures { IfOk result (λ holds. (header : Header) (r : ARow) (rows : List ARow)
-        → IsOpen formula.now bound.now header (r ∷ rows) begin last.now net.old.live.items net.old.shown.items
+        → IsOpen formula.now bound.now header (r ∷ rows) begin (last_of block.now.rows) net.old.live.items net.old.shown.items
         → IsTruthAtStart (root formula.now.nodes) (trace_of header (r ∷ rows)) holds) }
 {
-    let Some(row) = last else {
-        unreachable!();
-    };
-    let entry = end_entry(begin, row.time());
-    step_sets(net, formula, bound, &None, row, &entry)?;
+    let last = BlockRow::new(block, block.rows() - 1);
+    let entry = end_entry(begin, last.time());
+    step_sets(net, formula, bound, &last, &entry)?;
     match root_verdict(&net.shown, begin) {
         Some(holds) => Ok(holds),
         None => unreachable!(),

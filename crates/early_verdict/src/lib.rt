@@ -2,11 +2,12 @@
 //!
 //! `Early` keeps two sets of times for each node of a formula: those at which it is certainly true, and those at which it is certainly
 //! false. Each set grows by what its inputs gained at a row, and lets go of the times that no later answer looks at. No row is kept but
-//! the last.
+//! the last, behind which rows are read by blocks.
 #![tactic(auto)]
 
 mod anew;
 mod atoms;
+mod block_row;
 mod connectives;
 mod early;
 mod entries;
@@ -16,8 +17,9 @@ mod looks;
 mod making;
 mod net;
 mod operators;
+mod progress;
 mod runs;
 mod sets;
 mod tops;
 
-pub use early::{Decided, Early, EarlyFault};
+pub use early::{Decided, Early, EarlyFault, Taken};

@@ -1,5 +1,5 @@
 //! One entry over the sets of all nodes, in post-order.
-ghost use Rattle.std.specs.Prelude.{◌≡◌, ◌≤◌, ◌<◌, ◌+◌, ◌≢◌, ℕ, OnOk, IfOk, IfSome, List, Option, Some, None, Bool, true, false, length, slice_get, take};
+ghost use Rattle.std.specs.Prelude.{◌≡◌, ◌≤◌, ◌<◌, ◌+◌, ◌≢◌, ℕ, OnOk, List, Option, Some, None, Bool, true, false, length, slice_get, take};
 ghost use Rattle.stl_syntax.specs.Trace.{Trace, start};
 ghost use Rattle.stl_syntax.specs.Formula.{HasChildrenBelow};
 ghost use Rattle.stl_syntax.specs.declared.node.Node.{Node as ANode};
@@ -8,8 +8,10 @@ ghost use Rattle.early_verdict.specs.Happening.{Happens, IsEntry, Was};
 ghost use Rattle.early_verdict.specs.declared.sets.Sets.{Sets as ASets};
 ghost use Rattle.early_verdict.specs.Standing.{AllEmpty, AllTidy, HadAll, HasParts, LeafGoes, LeafIsBound, StepsAt};
 ghost use Rattle.early_verdict.specs.Living.{ComesOn, HasShown, ShowsAt};
+ghost use Rattle.early_verdict.specs.BlockRows.{own_row, previous_row};
 
 use crate::atoms::{rest, step_atom};
+use crate::block_row::BlockRow;
 use crate::entry::Entry;
 use crate::operators::step_operator;
 use crate::sets::Sets;
@@ -17,7 +19,6 @@ use atom_lines::Bound;
 use frac128::Memory;
 use growing_sets::take_in;
 use stl_syntax::{Formula, Node};
-use trace_reader::Row;
 
 /// Steps the sets of a node.
 fn step_node(
@@ -25,8 +26,7 @@ fn step_node(
     node: &Node,
     below: &[Sets],
     bound: &Bound,
-    before: &Option<Row>,
-    row: &Row,
+    next: &BlockRow,
     entry: &Entry,
 ) -> Result<(), Memory>
     requires own { AreSetsTidy own.old }
@@ -36,13 +36,11 @@ fn step_node(
     requires entry { IsEntry entry.now }
     requires none { entry.now.first ≡ true → AreEmpty own.old }
     requires atom { LeafIsBound bound.now (length below.now) node.now }
-    requires first { IfSome before.now (λ r. length r.values ≡ bound.now.width) }
-    requires second { length row.now.values ≡ bound.now.width }
-    requires later { IfSome before.now (λ r. r.time < row.now.time) }
+    requires columns { length next.now.block.now.header.columns ≡ bound.now.width }
     ensures stepped { OnOk result (HasStepped own.old own.new) }
     ensures fits { OnOk result ((old : Option Trace) (tr : Trace) (was : ℕ → Lists) → Happens entry.now old tr
         → HadAll old tr was below.now → HasParts node.now own.old below.now
-        → LeafGoes bound.now (length below.now) entry.now old tr before.now row.now own.old node.now
+        → LeafGoes bound.now (length below.now) entry.now old tr (previous_row next.now) (own_row next.now) own.old node.now
         → Was old (λ o. Fits node.now false o was) own.old → Fits node.now entry.now.ended tr (lists_at below.now) own.new) }
 {
     match node {
@@ -51,7 +49,7 @@ fn step_node(
                 rest(own);
                 return Ok(());
             }
-            step_atom(own, bound, below.len() as u32, before, row)?;
+            step_atom(own, bound, below.len() as u32, next)?;
             Ok(())
         }
         _ => step_operator(own, node, below, entry),
@@ -65,8 +63,7 @@ fn step_at(
     i: usize,
     node: &Node,
     bound: &Bound,
-    before: &Option<Row>,
-    row: &Row,
+    next: &BlockRow,
     entry: &Entry,
 ) -> Result<(), Memory>
     requires within { i < length live.old }
@@ -78,19 +75,17 @@ fn step_at(
     requires entry { IsEntry entry.now }
     requires none { entry.now.first ≡ true → (s : ASets) → slice_get live.old i ≡ Some s → AreEmpty s }
     requires atom { LeafIsBound bound.now i node.now }
-    requires first { IfSome before.now (λ r. length r.values ≡ bound.now.width) }
-    requires second { length row.now.values ≡ bound.now.width }
-    requires later { IfSome before.now (λ r. r.time < row.now.time) }
+    requires columns { length next.now.block.now.header.columns ≡ bound.now.width }
     ensures { OnOk result ((stepped : StepsAt i live.old live.new)
         × ((old : Option Trace) (tr : Trace) (was : ℕ → Lists) → Happens entry.now old tr
         → HadAll old tr was (take i shown.now) → HasParts node.now stepped.was (take i shown.now)
-        → LeafGoes bound.now i entry.now old tr before.now row.now stepped.was node.now
+        → LeafGoes bound.now i entry.now old tr (previous_row next.now) (own_row next.now) stepped.was node.now
         → Was old (λ o. Fits node.now false o was) stepped.was → Fits node.now entry.now.ended tr (lists_at (take i shown.now)) stepped.is)) }
 {
     let (_, from) = live.split_at_mut(i);
     let own = &mut from[0];
     let below = &shown[..i];
-    step_node(own, node, below, bound, before, row, entry)
+    step_node(own, node, below, bound, next, entry)
 }
 
 /// Shows what the sets at a place gained.
@@ -121,8 +116,7 @@ pub(crate) fn step_all(
     shown: &mut [Sets],
     formula: &Formula,
     bound: &Bound,
-    before: &Option<Row>,
-    row: &Row,
+    next: &BlockRow,
     entry: &Entry,
 ) -> Result<(), Memory>
     requires count { length live.old ≡ length formula.now.nodes }
@@ -132,23 +126,12 @@ pub(crate) fn step_all(
     requires entry { IsEntry entry.now }
     requires none { entry.now.first ≡ true → AllEmpty live.old }
     requires atoms { (i : ℕ) (n : ANode) → slice_get formula.now.nodes i ≡ Some n → LeafIsBound bound.now i n }
-    requires first { IfSome before.now (λ r. length r.values ≡ bound.now.width) }
-    requires second { length row.now.values ≡ bound.now.width }
-    requires later { IfSome before.now (λ r. r.time < row.now.time) }
-    ensures { OnOk result (ComesOn formula.now.nodes bound.now entry.now before.now row.now live.old live.new shown.old shown.new) }
+    requires columns { length next.now.block.now.header.columns ≡ bound.now.width }
+    ensures { OnOk result (ComesOn formula.now.nodes bound.now entry.now (previous_row next.now) (own_row next.now) live.old live.new shown.old shown.new) }
 {
     let count = formula.len();
     for i in 0..count {
-        step_at(
-            live,
-            shown,
-            i as usize,
-            formula.node(i),
-            bound,
-            before,
-            row,
-            entry,
-        )?;
+        step_at(live, shown, i as usize, formula.node(i), bound, next, entry)?;
         show_at(shown, live, i as usize)?;
     }
     Ok(())

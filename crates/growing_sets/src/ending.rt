@@ -6,6 +6,7 @@ ghost use Rattle.growing_sets.specs.Spans.{AreTidy, EndBefore, IsPutIn};
 ghost use Rattle.growing_sets.specs.Ending.{BelongsAt, IsLast};
 ghost use Rattle.growing_sets.specs.declared.stretch.Stretch.{Stretch as AStretch};
 
+use crate::order::precedes;
 use crate::stretch::Stretch;
 use crate::stretches::Stretches;
 use frac128::{Cut, Memory};
@@ -22,6 +23,7 @@ pub(crate) enum End {
 }
 
 /// Where a stretch belongs that begins at the cut.
+#[inline(always)]
 pub(crate) fn end_for(spans: &Stretches, cut: &Cut) -> End
     requires { AreTidy spans.now.items }
     ensures { BelongsAt (place cut.now) spans.now.items result }
@@ -29,16 +31,17 @@ pub(crate) fn end_for(spans: &Stretches, cut: &Cut) -> End
     let Some(last) = spans.last() else {
         return End::Behind;
     };
-    if last.to.precedes(cut) {
+    if precedes(&last.to, cut) {
         return End::Behind;
     }
-    if cut.precedes(&last.from) {
+    if precedes(cut, &last.from) {
         return End::Anywhere;
     }
     End::In(last)
 }
 
 /// Puts the part behind all stretches of the list.
+#[inline(always)]
 pub(crate) fn put_last(
     spans: &mut Stretches,
     part: &Stretch,
@@ -58,6 +61,7 @@ pub(crate) fn put_last(
 }
 
 /// Puts a stretch in the place of the last one.
+#[inline(always)]
 fn set_last(spans: &mut Stretches, stretch: Stretch)
     ensures { (front : List AStretch) (last : AStretch) → spans.old.items ≡ front ++ last ∷ [] → spans.new.items ≡ front ++ stretch ∷ [] }
 {
@@ -69,6 +73,7 @@ fn set_last(spans: &mut Stretches, stretch: Stretch)
 }
 
 /// Lengthens the last stretch up to where the part ends, which begins in it or at its end.
+#[inline(always)]
 pub(crate) fn lengthen(
     spans: &mut Stretches,
     last: &Stretch,
@@ -81,7 +86,7 @@ pub(crate) fn lengthen(
     requires reaches { ¬ (Before (place last.now.to) (place part.now.from)) }
     ensures { OnOk result (IsPutIn part.now spans.old.items spans.new.items fresh.old.items fresh.new.items) }
 {
-    if !last.to.precedes(&part.to) {
+    if !precedes(&last.to, &part.to) {
         return Ok(());
     }
     let gap = Stretch {

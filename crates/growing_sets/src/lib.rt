@@ -8,6 +8,7 @@ mod ending;
 mod grown;
 mod held;
 mod lasting;
+mod order;
 mod pointwise;
 mod reach;
 mod seeing;

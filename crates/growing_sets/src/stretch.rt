@@ -5,6 +5,7 @@ ghost use Rattle.rational.specs.Time.{HasTimeBetween};
 ghost use Rattle.frac128.specs.Value.{value};
 ghost use Rattle.frac128.specs.Cuts.{is_after};
 
+use crate::order::precedes;
 use frac128::Cut;
 
 /// The times between two places, of which there are some. Times are in ticks.
@@ -47,7 +48,7 @@ impl Stretch {
     {
         let from = from.later(bounds.from);
         let to = to.earlier(bounds.to);
-        if !from.precedes(&to) {
+        if !precedes(&from, &to) {
             return None;
         }
         Some(Stretch { from, to })

@@ -17,6 +17,7 @@ ghost use Rattle.growing_sets.specs.Spans.{AreTidy, EndBefore, NoneEndsBefore};
 ghost use Rattle.growing_sets.specs.Ending.{IsLast};
 ghost use Rattle.growing_sets.specs.Listed.{IsSpot, joined};
 
+use crate::order::precedes;
 use crate::stretch::Stretch;
 use frac128::{Cut, Memory};
 use std::alloc::Global;
@@ -45,8 +46,23 @@ pub(crate) struct Spot {
     pub(crate) index: usize,
 }
 
+/// A place from the first on and before the second, to be looked at after so many tries: the last, since most of what is looked for lies at
+/// the end or before the last one, and then one in the middle.
+#[inline(always)]
+fn between(low: usize, high: usize, tries: usize) -> usize
+    requires { low < high }
+    ensures above { low ≤ result }
+    ensures below { result < high }
+{
+    if tries < 2 {
+        return high - 1;
+    }
+    low + (high - low) / 2
+}
+
 impl Block {
     /// How many stretches it has.
+    #[inline(always)]
     fn len(&self) -> usize
         ensures { result ≡ length self.now.ring.items }
     {
@@ -62,9 +78,11 @@ impl Block {
     {
         let mut low = 0;
         let mut high = self.ring.len();
+        let mut tries = 0;
         while low < high {
-            let middle = low + (high - low) / 2;
-            if self.ring[middle].to.precedes(cut) {
+            let middle = between(low, high, tries);
+            tries = tries.saturating_add(1);
+            if precedes(&self.ring[middle].to, cut) {
                 low = middle + 1;
             } else {
                 high = middle;
@@ -74,6 +92,7 @@ impl Block {
     }
 
     /// The one at the place.
+    #[inline(always)]
     fn get(&self, at: usize) -> Option<Stretch>
         ensures { result ≡ slice_get self.now.ring.items at }
     {
@@ -84,6 +103,7 @@ impl Block {
     }
 
     /// Puts a stretch in the place of one.
+    #[inline(always)]
     fn set(&mut self, at: usize, stretch: Stretch)
         requires { at < length self.old.ring.items }
         ensures { self.new.ring.items ≡ slice_set self.old.ring.items at stretch }
@@ -108,6 +128,13 @@ impl Block {
         ensures { self.new.ring.items ≡ remove self.old.ring.items at }
     {
         let _ = self.ring.remove(at);
+    }
+
+    /// Takes its first one out, if there is one.
+    fn drop_first(&mut self)
+        ensures { self.new.ring.items ≡ drop 1 self.old.ring.items }
+    {
+        let _ = self.ring.pop_front();
     }
 
     /// Leaves its first one alone.
@@ -148,6 +175,7 @@ impl Block {
     }
 
     /// Puts a stretch behind all of the block.
+    #[inline(always)]
     fn put_last(&mut self, stretch: Stretch) -> Result<(), Memory>
         ensures { OnOk result (self.new.ring.items ≡ self.old.ring.items ++ stretch ∷ []) }
     {
@@ -308,7 +336,17 @@ fn take_out(blocks: &mut Vec<Block>, at: usize)
     blocks[here.block].remove(here.index);
 }
 
+/// Takes the first stretch out.
+fn take_front(blocks: &mut Vec<Block>)
+    requires { 0 < length (joined blocks.old.items) }
+    ensures { joined blocks.new.items ≡ remove (joined blocks.old.items) 0 }
+{
+    let here = spot_of(blocks, 0);
+    blocks[here.block].drop_first();
+}
+
 /// Puts a stretch in the place of the one at the place.
+#[inline(always)]
 fn put_over(blocks: &mut Vec<Block>, at: usize, stretch: Stretch)
     requires { at < length (joined blocks.old.items) }
     ensures { joined blocks.new.items ≡ slice_set (joined blocks.old.items) at stretch }
@@ -318,6 +356,7 @@ fn put_over(blocks: &mut Vec<Block>, at: usize, stretch: Stretch)
 }
 
 /// Puts a stretch behind all, into the last block.
+#[inline(always)]
 fn put_into_last(blocks: &mut Vec<Block>, stretch: Stretch) -> Result<(), Memory>
     requires { 0 < length blocks.old.items }
     ensures { OnOk result (joined blocks.new.items ≡ joined blocks.old.items ++ stretch ∷ []) }
@@ -327,6 +366,7 @@ fn put_into_last(blocks: &mut Vec<Block>, stretch: Stretch) -> Result<(), Memory
 }
 
 /// Puts a stretch behind all.
+#[inline(always)]
 fn put_behind(blocks: &mut Vec<Block>, stretch: Stretch) -> Result<(), Memory>
     ensures { OnOk result (joined blocks.new.items ≡ joined blocks.old.items ++ stretch ∷ []) }
 {
@@ -428,6 +468,7 @@ impl Stretches {
     }
 
     /// Puts a stretch in the place of the one there.
+    #[inline(always)]
     pub(crate) fn set(&mut self, at: usize, stretch: Stretch)
         requires { at < length self.old.items }
         ensures { self.new.items ≡ slice_set self.old.items at stretch }
@@ -440,6 +481,7 @@ impl Stretches {
     /// # Errors
     ///
     /// `Memory` where memory is wanting; none may be left then.
+    #[inline(always)]
     pub(crate) fn push_back(&mut self, stretch: Stretch) -> Result<(), Memory>
         ensures { OnOk result (self.new.items ≡ self.old.items ++ stretch ∷ []) }
     {
@@ -505,7 +547,7 @@ impl Stretches {
         if self.count == 0 {
             return;
         }
-        take_out(&mut self.blocks, 0);
+        take_front(&mut self.blocks);
         self.count -= 1;
     }
 

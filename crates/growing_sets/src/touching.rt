@@ -7,11 +7,13 @@ ghost use Rattle.growing_sets.specs.Steps.{HoldsFrom};
 ghost use Rattle.growing_sets.specs.declared.stretch.Stretch.{Stretch};
 ghost use Rattle.growing_sets.specs.Joining.{Notes};
 
+use crate::order::precedes;
 use crate::stretch::Stretch;
 use crate::stretches::Stretches;
 use frac128::{Cut, Memory};
 
 /// The stretch at the place, if it does not begin after the cut.
+#[inline(always)]
 pub(crate) fn begins_by(spans: &Stretches, at: usize, cut: &Cut) -> Option<Stretch>
     ensures some { IfSome result (λ s. (slice_get spans.now.items at ≡ Some s) × ¬ (Before (place cut.now) (place s.from))) }
     ensures none { IfNone result (BeginsAfter (place cut.now) (drop at spans.now.items)) }
@@ -20,13 +22,14 @@ pub(crate) fn begins_by(spans: &Stretches, at: usize, cut: &Cut) -> Option<Stret
     let Some(next) = spans.get(at) else {
         return None;
     };
-    if cut.precedes(&next.from) {
+    if precedes(cut, &next.from) {
         return None;
     }
     Some(next)
 }
 
 /// The stretch that holds the times just after the cut.
+#[inline(always)]
 pub fn holding(spans: &Stretches, cut: &Cut) -> Option<Stretch>
     requires { AreTidy spans.now.items }
     ensures some { IfSome result (λ s. IsAmong s spans.now.items × HoldsFrom s (place cut.now)) }
@@ -34,7 +37,7 @@ pub fn holding(spans: &Stretches, cut: &Cut) -> Option<Stretch>
 {
     let at = spans.reaching(cut);
     let next = begins_by(spans, at, cut)?;
-    if !cut.precedes(&next.to) {
+    if !precedes(cut, &next.to) {
         return None;
     }
     Some(next)

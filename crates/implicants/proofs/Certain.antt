@@ -7,12 +7,13 @@ use Rattle.std.proofs.lemmas.Option.{slice_get_within, slice_get-get_or, get_or_
 use Rattle.rational.specs.Rational.{IsWithin}
 use Rattle.rational.specs.Time.{Rational, IsIn, Precedes, Within, closed, gap, whole, ◌<ʳ◌, ◌≤ʳ◌, ◌≈◌}
 use Rattle.rational.specs.Extended.{Extended, value_at, finite, ◌≈ᵉ◌, Passes}
-use Rattle.rational.proofs.Order.{le_trans, le_of_lt, le_of_same, ge_of_same, lt_of_le_of_lt, lt_of_lt_of_le, same_refl, same_trans, same_of_le, not_lt_of_le}
+use Rattle.rational.proofs.Order.{le_trans, le_of_lt, le_of_same, ge_of_same, lt_of_le_of_lt, lt_of_lt_of_le, lt_or_same_or_gt, lt_trans}
+use Rattle.rational.proofs.Order.{same_refl, same_trans, same_of_le, not_lt_of_le}
 use Rattle.rational.proofs.AffineLemmas.{bounded_same, same_symᵉ, same_transᵉ, same_reflᵉ}
 use Rattle.rational.proofs.LevelLemmas.{level_is}
 use Rattle.rational.specs.Affine.{IsBounded}
 use Rattle.rational.proofs.Mixed.{within_between, tick_within, within_whole}
-use Rattle.rational.proofs.Lists.{slice_get-append_left, slice_get-append_right}
+use Rattle.rational.proofs.Lists.{slice_get-append_left, slice_get-append_right, slice_get_there}
 use Rattle.frac128.specs.Spans.{interval}
 use Rattle.frac128.specs.Value.{value}
 use Rattle.frac128.specs.declared.frac.Frac.{Frac}
@@ -41,6 +42,7 @@ use Rattle.stl_syntax.proofs.CoverLemmas.{certainties_give_one}
 use Rattle.implicants.specs.Keeping.{remaining}
 use Rattle.implicants.specs.Runs.{IsRun, begins, AreAllCells}
 use Rattle.implicants.specs.Certainty.{stays, known_at, EndsAt, IsAtomCertainty}
+use Rattle.implicants.specs.SameCells.{IsSameUntil, SaysSame}
 use Rattle.implicants.proofs.Strips.{IsCellOn, point_at, gap_at, length_here, to_last, one_cell}
 use Rattle.implicants.proofs.Covering.{IsOver, to_remaining, from_remaining, from_at, to_covered, of_covered}
 
@@ -301,83 +303,113 @@ module _ (nodes : List Node) (tr : Trace) (items : List Item) (left : ℕ) (mark
   rising_next (v ∷ w ∷ times) zero t u r s q = let a : v ≡ t = cc in let b : w ≡ u = cc in subst (λ x. x <ʳ u) a (subst (λ x. v <ʳ x) b r.0)
   rising_next (v ∷ w ∷ times) (suc k) t u r s q = rising_next (w ∷ times) k t u r.1 s q
 
-  -- the gap behind the last cut time of the signal so far, and the next cut time
-  pub record IsNext (c : ℕ) (s : List (Knot Kleene)) (g : IsGrown c s) : Type 0 where
-    -- the next cut time
+  rising_later : (times : List Rational) (k m : ℕ) (t u : Rational) → AreRisingTimes times → slice_get times k ≡ Some t
+      → slice_get times (suc (k + m)) ≡ Some u → t <ʳ u
+  rising_later times k zero t u r s q = rising_next times k t u r s (subst (λ n. slice_get times n ≡ Some u) (let e : suc (k + 0) ≡ suc k = omega arith in e) q)
+  rising_later times k (suc m) t u r s q =
+      let inside : suc (k + m) < length times = let w = slice_get_within times (suc (k + suc m)) u q in omega (arith, w) in
+      let (v, there) = slice_get_there times (suc (k + m)) inside in
+      lt_trans (rising_later times k m t v r s there) (rising_next times (suc (k + m)) v u r there
+      (subst (λ n. slice_get times n ≡ Some u) (let e : suc (k + suc m) ≡ suc (suc (k + m)) = omega arith in e) q))
+
+  -- a later cut time, behind so many gaps more
+  pub record IsNext (c : ℕ) (s : List (Knot Kleene)) (g : IsGrown c s) (gaps : ℕ) : Type 0 where
+    -- that time
     pub u : Rational
     -- it stands behind the last one
-    pub cut : slice_get g.run.times (suc g.k) ≡ Some u
+    pub cut : slice_get g.run.times (suc (g.k + gaps)) ≡ Some u
     -- and is later
     pub rises : g.t <ʳ u
-    -- the cell of the gap between them
-    pub gap_cell : Item
-    -- it stands in the run at its odd place
-    pub gap_here : slice_get g.run.here (suc (g.k + g.k)) ≡ Some gap_cell
-    -- and is the cell of that gap
-    pub gap_is : IsCellOn nodes tr i (gap g.t u) gap_cell
-    -- the cell of the next cut time
+    -- the cell of the time
     pub point_cell : Item
     -- it stands in the run at its even place
-    pub point_here : slice_get g.run.here (suc g.k + suc g.k) ≡ Some point_cell
+    pub point_here : slice_get g.run.here (suc (g.k + gaps) + suc (g.k + gaps)) ≡ Some point_cell
     -- and is the cell of that time
     pub point_is : IsCellOn nodes tr i (closed u u) point_cell
 
-  -- where the run goes on there is a next cut time
-  pub next_of : (c : ℕ) (s : List (Knot Kleene)) (g : IsGrown c s) → i < length nodes → c + 1 < to → IsNext c s g
-  next_of c s g l m = record {
-    u = u;
-    cut = cut;
-    rises = rising_next g.run.times g.k g.t u g.run.cuts.rising g.cut cut;
-    gap_cell = between.0;
-    gap_here = between.1;
-    gap_is = between.2;
-    point_cell = point.0;
-    point_here = point.1;
-    point_is = point.2;
-  }
+  -- where the run goes on so far there is one
+  pub next_of : (c : ℕ) (s : List (Knot Kleene)) (g : IsGrown c s) (gaps : ℕ) → i < length nodes → c + 1 + (gaps + gaps) < to → IsNext c s g gaps
+  next_of c s g gaps l m =
+      let (u, cut) = slice_get_there g.run.times (suc (g.k + gaps)) more in
+      let point = point_at nodes tr i g.run.times g.run.here (suc (g.k + gaps)) u g.run.cells cut in
+      record {
+        u = u;
+        cut = cut;
+        rises = rising_later g.run.times g.k gaps g.t u g.run.cuts.rising g.cut cut;
+        point_cell = point.0;
+        point_here = point.1;
+        point_is = point.2;
+      }
     where
-      more : suc g.k < length g.run.times
+      more : suc (g.k + gaps) < length g.run.times
       more =
           let two = length_here nodes tr i g.run.times g.run.here (run_some g.run l) g.run.cells in
           let end = g.run.end in
           let at = g.at in
           omega (arith, two, end, at, m)
 
-      u : Rational
-      u = get_or g.run.times (suc g.k) g.t
-
-      cut : slice_get g.run.times (suc g.k) ≡ Some (get_or g.run.times (suc g.k) g.t)
-      cut = slice_get-get_or g.run.times (suc g.k) g.t more
-
-      between : (e : Item) × (slice_get g.run.here (suc (g.k + g.k)) ≡ Some e) × IsCellOn nodes tr i (gap g.t (get_or g.run.times (suc g.k) g.t)) e
-      between = gap_at nodes tr i g.run.times g.run.here g.k g.t (get_or g.run.times (suc g.k) g.t) g.run.cells g.cut cut
-
-      point : (e : Item) × (slice_get g.run.here (suc g.k + suc g.k) ≡ Some e) × IsCellOn nodes tr i
-          (closed (get_or g.run.times (suc g.k) g.t) (get_or g.run.times (suc g.k) g.t)) e
-      point = point_at nodes tr i g.run.times g.run.here (suc g.k) (get_or g.run.times (suc g.k) g.t) g.run.cells cut
-
-  -- the next cut time is that of the item at the next place
-  pub next_time : (c : ℕ) (s : List (Knot Kleene)) (g : IsGrown c s) (n : IsNext c s g) (f : Item) → f ≡ get_or items (c + 1) f → value f.on.from ≈ n.u
-  next_time c s g n f h =
-      let place : c + 1 ≡ from + (suc g.k + suc g.k) = let at = g.at in omega (arith, at) in
-      let same = is_cell g.run (suc g.k + suc g.k) n.point_cell f n.point_here (subst (λ m. f ≡ get_or items m f) place h) in
+  -- the next cut time is that of the item at its place
+  pub next_time : (c e : ℕ) (s : List (Knot Kleene)) (g : IsGrown c s) (gaps : ℕ) (n : IsNext c s g gaps) (f : Item) → e ≡ c + 1 + (gaps + gaps)
+      → f ≡ get_or items e f → value f.on.from ≈ n.u
+  next_time c e s g gaps n f is h =
+      let place : e ≡ from + (suc (g.k + gaps) + suc (g.k + gaps)) = let at = g.at in omega (arith, at, is) in
+      let same = is_cell g.run (suc (g.k + gaps) + suc (g.k + gaps)) n.point_cell f n.point_here (subst (λ m. f ≡ get_or items m f) place h) in
       subst (λ e. value e.on.from ≈ n.u) (sym same) n.point_is.begin.time
 
-  -- the next item begins after the signal so far
-  pub next_later : (c : ℕ) (s : List (Knot Kleene)) (g : IsGrown c s) (n : IsNext c s g) (f : Item) → f ≡ get_or items (c + 1) f
-      → knots.stop s <ʳ value f.on.from
-  next_later c s g n f h = lt_of_le_of_lt (le_of_same g.ends) (lt_of_lt_of_le n.rises (ge_of_same (next_time c s g n f h)))
+  -- and begins after the signal so far
+  pub next_later : (c e : ℕ) (s : List (Knot Kleene)) (g : IsGrown c s) (gaps : ℕ) (n : IsNext c s g gaps) (f : Item) → e ≡ c + 1 + (gaps + gaps)
+      → f ≡ get_or items e f → knots.stop s <ʳ value f.on.from
+  next_later c e s g gaps n f is h = lt_of_le_of_lt (le_of_same g.ends) (lt_of_lt_of_le n.rises (ge_of_same (next_time c e s g gaps n f is h)))
 
-  -- a gap and a knot more, made of the next two cells, go on telling what is certain
-  pub grown_more : (c : ℕ) (s x : List (Knot Kleene)) (g : IsGrown c s) (n : IsNext c s g) (f : Item) (p q : Kleene) → f ≡ get_or items (c + 1) f
-      → ((e : Item) → slice_get items c ≡ Some e → p.known ≡ known_at (stays left marks c) e)
-      → ((e : Item) → slice_get items (c + 1) ≡ Some e → q.known ≡ known_at (stays left marks (c + 1)) e)
-      → GoesOn kleene_shape s p f.on.from q x → IsGrown (c + 2) x
-  grown_more c s x g n f p q h known known_next on = record {
+  -- between two cut times a value is certain that all cells there say
+  gives_between : (run : IsRun nodes tr items i from to) (a : Atom) (k gaps : ℕ) (t u x : Rational) (p : Kleene) → subformula nodes i ≡ atom i a
+      → slice_get run.times k ≡ Some t → slice_get run.times (suc (k + gaps)) ≡ Some u → t <ʳ x → x <ʳ u
+      → ((j : ℕ) (e : Item) → suc (k + k) ≤ j → j < suc (suc (k + k)) + (gaps + gaps) → slice_get run.here j ≡ Some e
+      → p.known ≡ known_at (stays left marks (from + j)) e)
+      → Gives (certainties tr left_over) i a x (value_at (kleene_shape.function p) x)
+  gives_between run a k zero t u x p tree at_t at_u above below says =
+      let next = subst (λ n. slice_get run.times n ≡ Some u) (let e : suc (k + 0) ≡ suc k = omega arith in e) at_u in
+      let (e, here, is) = gap_at nodes tr i run.times run.here k t u run.cells at_t next in
+      gives_cell run a (suc (k + k)) e x p tree here is.node is.so (in_gap_cell e t u x is above below) (says (suc (k + k)) e (omega arith) (omega arith) here)
+  gives_between run a k (suc gaps) t u x p tree at_t at_u above below says = by_order
+      (λ h. gives_between run a k gaps t v x p tree at_t cut above h (λ j e low high here. says j e low (let c = high in omega (arith, c)) here))
+      (lt_or_same_or_gt x v)
+    where
+      inside : suc (k + gaps) < length run.times
+      inside = let w = slice_get_within run.times (suc (k + suc gaps)) u at_u in omega (arith, w)
+
+      v : Rational
+      v = (slice_get_there run.times (suc (k + gaps)) inside).0
+
+      cut : slice_get run.times (suc (k + gaps)) ≡ Some v
+      cut = (slice_get_there run.times (suc (k + gaps)) inside).1
+
+      next : slice_get run.times (suc (suc (k + gaps))) ≡ Some u
+      next = subst (λ n. slice_get run.times n ≡ Some u) (let e : suc (k + suc gaps) ≡ suc (suc (k + gaps)) = omega arith in e) at_u
+
+      point : (e : Item) × (slice_get run.here (suc (k + gaps) + suc (k + gaps)) ≡ Some e) × IsCellOn nodes tr i (closed v v) e
+      point = point_at nodes tr i run.times run.here (suc (k + gaps)) v run.cells cut
+
+      behind : (e : Item) × (slice_get run.here (suc (suc (k + gaps) + suc (k + gaps))) ≡ Some e) × IsCellOn nodes tr i (gap v u) e
+      behind = gap_at nodes tr i run.times run.here (suc (k + gaps)) v u run.cells cut next
+
+      by_order : (x <ʳ v → Gives (certainties tr left_over) i a x (value_at (kleene_shape.function p) x)) → (x <ʳ v) ⊎ (x ≈ v) ⊎ (v <ʳ x)
+          → Gives (certainties tr left_over) i a x (value_at (kleene_shape.function p) x)
+      by_order before (inl h) = before h
+      by_order before (inr (inl h)) = gives_cell run a (suc (k + gaps) + suc (k + gaps)) point.0 x p tree point.1 point.2.node point.2.so
+          (in_cut_cell point.0 v x point.2 h) (says (suc (k + gaps) + suc (k + gaps)) point.0 (omega arith) (omega arith) point.1)
+      by_order before (inr (inr h)) = gives_cell run a (suc (suc (k + gaps) + suc (k + gaps))) behind.0 x p tree behind.1 behind.2.node behind.2.so
+          (in_gap_cell behind.0 v u x behind.2 h below) (says (suc (suc (k + gaps) + suc (k + gaps))) behind.0 (omega arith) (omega arith) behind.1)
+
+  -- gaps and a knot more, made of the next cells, of which all but the last say the same, go on telling what is certain
+  pub grown_more : (c e : ℕ) (s x : List (Knot Kleene)) (g : IsGrown c s) (p q : Kleene) (more : IsSameUntil items left marks p c to e)
+      (n : IsNext c s g more.gaps) (f : Item) → f ≡ get_or items e f → SaysSame items left marks q e → GoesOn kleene_shape s p f.on.from q x
+      → IsGrown (e + 1) x
+  grown_more c e s x g p q more n f h known_next on = record {
     run = g.run;
-    k = suc g.k;
+    k = suc (g.k + more.gaps);
     t = n.u;
-    at = (let at = g.at in omega (arith, at));
+    at = (let at = g.at in let is = more.at in omega (arith, at, is));
     cut = n.cut;
     signal = on.signal;
     begins = subst (λ y. y ≈ start tr) (sym on.begins) g.begins;
@@ -386,13 +418,16 @@ module _ (nodes : List Node) (tr : Trace) (items : List Item) (left : ℕ) (mark
   }
     where
       time : value f.on.from ≈ n.u
-      time = next_time c s g n f h
+      time = next_time c e s g more.gaps n f more.at h
 
-      here : c ≡ from + suc (g.k + g.k)
-      here = g.at
+      place : e ≡ from + (suc (g.k + more.gaps) + suc (g.k + more.gaps))
+      place = let at = g.at in let is = more.at in omega (arith, at, is)
 
-      next : c + 1 ≡ from + (suc g.k + suc g.k)
-      next = let at = g.at in omega (arith, at)
+      says : (j : ℕ) (d : Item) → suc (g.k + g.k) ≤ j → j < suc (suc (g.k + g.k)) + (more.gaps + more.gaps) → slice_get g.run.here j ≡ Some d
+          → p.known ≡ known_at (stays left marks (from + j)) d
+      says j d low high here =
+          let at = g.at in let is = more.at in
+          more.same (from + j) (omega (arith, at, low)) (omega (arith, at, is, high)) d (run_item g.run j d here)
 
       by_part : (a : Atom) → subformula nodes i ≡ atom i a → (u : Rational) (v : Extended)
           → IsWorth kleene_shape s u v ⊎ ((knots.stop s <ʳ u) × (u <ʳ value f.on.from) × Passes (kleene_shape.function p) u v) ⊎
@@ -401,18 +436,14 @@ module _ (nodes : List Node) (tr : Trace) (items : List Item) (left : ℕ) (mark
       by_part a tree u v (inl w) = g.worth a tree u v w
       by_part a tree u v (inr (inl w)) =
           gives_alike tr left_over i a u v (value_at (kleene_shape.function p) u) w.2
-          (gives_cell g.run a (suc (g.k + g.k)) n.gap_cell u p tree n.gap_here n.gap_is.node n.gap_is.so
-          (in_gap_cell n.gap_cell g.t n.u u n.gap_is (lt_of_le_of_lt (ge_of_same g.ends) w.0) (lt_of_lt_of_le w.1 (le_of_same time)))
-          (subst (λ m. p.known ≡ known_at (stays left marks m) n.gap_cell) here
-          (known n.gap_cell (subst (λ m. slice_get items m ≡ Some n.gap_cell) (sym here)
-          (run_item g.run (suc (g.k + g.k)) n.gap_cell n.gap_here)))))
+          (gives_between g.run a g.k more.gaps g.t n.u u p tree g.cut n.cut (lt_of_le_of_lt (ge_of_same g.ends) w.0) (lt_of_lt_of_le w.1 (le_of_same time)) says)
       by_part a tree u v (inr (inr w)) =
           gives_alike tr left_over i a u v (value_at (kleene_shape.function q) u) w.1
-          (gives_cell g.run a (suc g.k + suc g.k) n.point_cell u q tree n.point_here n.point_is.node n.point_is.so
+          (gives_cell g.run a (suc (g.k + more.gaps) + suc (g.k + more.gaps)) n.point_cell u q tree n.point_here n.point_is.node n.point_is.so
           (in_cut_cell n.point_cell n.u u n.point_is (same_trans w.0 time))
-          (subst (λ m. q.known ≡ known_at (stays left marks m) n.point_cell) next
-          (known_next n.point_cell (subst (λ m. slice_get items m ≡ Some n.point_cell) (sym next)
-          (run_item g.run (suc g.k + suc g.k) n.point_cell n.point_here)))))
+          (subst (λ m. q.known ≡ known_at (stays left marks m) n.point_cell) place
+          (known_next n.point_cell (subst (λ m. slice_get items m ≡ Some n.point_cell) (sym place)
+          (run_item g.run (suc (g.k + more.gaps) + suc (g.k + more.gaps)) n.point_cell n.point_here)))))
 
   -- the signal so far ends within the domain
   pub grown_within : (c : ℕ) (s : List (Knot Kleene)) (g : IsGrown c s) → start tr ≤ʳ stop tr → Within (start tr) (stop tr) (knots.stop s)

@@ -11,8 +11,7 @@ use Rattle.rational.specs.Extended.{Extended}
 use Rattle.rational.proofs.ExtendedLemmas.{clashᵉ}
 use Rattle.value_laws.specs.Kinds.{kleene_shape}
 use Rattle.value_laws.specs.declared.kleene.Kleene.{Kleene}
-use Rattle.pl_signal.specs.Knots.{IsWorth}
-use Rattle.pl_signal.specs.declared.knot.Knot.{Knot}
+use Rattle.pieces.specs.Chains.{Chain, IsWorth}
 use Rattle.stl_syntax.specs.Trace.{Trace}
 use Rattle.stl_syntax.specs.Formula.{subformula}
 use Rattle.stl_syntax.specs.SupInf.{one, minus_one}
@@ -94,15 +93,15 @@ among_wider P Q f p = record { place = p.place; item = p.item; at = p.at; is = f
 places_apart : (c j : ℕ) → (j < c) ⊎ (j ≡ c) ⊎ (c < j)
 places_apart c j = grind arith
 
--- where a signal is less than best it is not the best
-short_clash : (x : List (Knot Kleene)) (t : Rational) (best : Bool) → MatchBool best (IsOff kleene_shape x t) (IsOn kleene_shape x t)
+-- where a chain is less than best it is not the best
+short_clash : (x : Chain Kleene) (t : Rational) (best : Bool) → MatchBool best (IsOff kleene_shape x t) (IsOn kleene_shape x t)
     → ((v : Extended) → IsWorth kleene_shape x t v → IsBest best v) → ⊥
 short_clash x t true off has = clashᵉ off.v one off.less (has off.v off.worth)
 short_clash x t false on has = clashᵉ minus_one on.v on.more (has on.v on.worth)
 
 module _ (nodes : List Node) (tr : Trace) (all : List Item) (marks : List Bool) (c : ℕ) (signs : List Bool) where
-  -- what a signal shows of the node is lost that is the best wherever the node is certain
-  pub gained_lost : (k : ℕ) (best : Bool) (x : List (Knot Kleene)) (old new : List Run) → best ≡ sign_at signs k → AddsShort kleene_shape k best x old new
+  -- what a chain shows of the node is lost that is the best wherever the node is certain
+  pub gained_lost : (k : ℕ) (best : Bool) (x : Chain Kleene) (old new : List Run) → best ≡ sign_at signs k → AddsShort kleene_shape k best x old new
       → HasBest kleene_shape nodes tr all marks c signs k x → AreLost nodes tr all marks c signs old → AreLost nodes tr all marks c signs new
   gained_lost k best x old new same adds has before = λ some within j r at t inside certain. elim (adds j r at) [
     | inl h ↦ before some within j r h t inside certain
@@ -183,20 +182,20 @@ lost_pushed nodes tr all marks c signs each v before here k w at = elim (pushed_
 
 -- where nodes are less than best by cells that cover no less than those that stay, they are lost
 pub lost_told : (nodes : List Node) (tr : Trace) (all : List Item) (marks : List Bool) (left : ℕ) (signs : List Bool)
-    (signals : List (List (Knot Kleene))) (each : List (Vec Run Global)) → AreToldOfMore kleene_shape nodes tr (remaining left marks all) signals
-    → AreShortEach kleene_shape signs signals each → AreLostFrom nodes tr all marks left signs each
-lost_told nodes tr all marks left signs signals each told short = λ some within r (k, v, at, (j, there)) t inside certain.
+    (chains : List (Chain Kleene)) (each : List (Vec Run Global)) → AreToldOfMore kleene_shape nodes tr (remaining left marks all) chains
+    → AreShortEach kleene_shape signs chains each → AreLostFrom nodes tr all marks left signs each
+lost_told nodes tr all marks left signs chains each told short = λ some within r (k, v, at, (j, there)) t inside certain.
     let x = short k v at j r there in
     let sure = told.told in
-    let here : r.of < length nodes = let w = slice_get_within signals r.of x.0 x.1 in let e = sure.count in omega (arith, w, e) in
+    let here : r.of < length nodes = let w = slice_get_within chains r.of x.0 x.1 in let e = sure.count in omega (arith, w, e) in
     let cover : CoverMore some told.more = (λ i u h.
     let w = within i u h in
     told.covered i u (to_covered (remaining left marks all) i u
     (from_remaining (IsOver i u) left marks all w.place w.item w.at (w.node, w.inside) (stays_one left marks w.place w.is)))) in
     by_sign told.more sure some cover r.of x.0 t here x.1 (sign_at signs r.of) (x.2 t inside) certain
   where
-    by_sign : (more : List Item) → AreCertainties kleene_shape nodes tr more signals → (some : List Item) → CoverMore some more → (k : ℕ)
-        (x : List (Knot Kleene)) (t : Rational) → k < length nodes → slice_get signals k ≡ Some x → (h : Bool)
+    by_sign : (more : List Item) → AreCertainties kleene_shape nodes tr more chains → (some : List Item) → CoverMore some more → (k : ℕ)
+        (x : Chain Kleene) (t : Rational) → k < length nodes → slice_get chains k ≡ Some x → (h : Bool)
         → MatchBool h (IsOff kleene_shape x t) (IsOn kleene_shape x t) → Certain h (subformula nodes k) some tr t → ⊥
-    by_sign more sure some cover k x t l at true off m = off_not_true nodes tr more signals sure k x t l at off some cover m
-    by_sign more sure some cover k x t l at false on m = on_not_false nodes tr more signals sure k x t l at on some cover m
+    by_sign more sure some cover k x t l at true off m = off_not_true nodes tr more chains sure k x t l at off some cover m
+    by_sign more sure some cover k x t l at false on m = on_not_false nodes tr more chains sure k x t l at on some cover m

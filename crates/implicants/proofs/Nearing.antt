@@ -1,35 +1,38 @@
--- Signals that are the best but in runs of their node.
-use Rattle.std.proofs.Common.{◌≡◌, ℕ, ◌-◌, ◌<◌, ◌≤◌, ◌^◌, ◌⊎◌, inl, inr, Bool, true, false, pos, negsuc, List, [], ◌∷◌}
-use Rattle.std.proofs.Common.{Some, refl, sym, subst, arith, rules}
+-- Chains that are the best but in runs of their node.
+use Rattle.std.proofs.Common.{◌≡◌, ◌⊎◌, ℕ, ◌-◌, ◌<◌, ◌≤◌, ◌^◌, inl, inr, Bool, true, false, pos, negsuc, List, []}
+use Rattle.std.proofs.Common.{Some, refl, sym, subst, arith}
 use Rattle.std.specs.Prelude.{slice_get}
-use Rattle.std.proofs.lemmas.Option.{same_Some}
 use Rattle.rational.specs.Rational.{IsWithin}
-use Rattle.rational.specs.Time.{Rational, IsIn, whole, ◌≈◌, ◌≤ʳ◌, ◌<ʳ◌}
+use Rattle.rational.specs.Time.{Rational, whole, ◌≈◌, ◌≤ʳ◌}
 use Rattle.rational.specs.Extended.{Extended, Passes, finite, value_at, ◌≤ᵉ◌, ◌≈ᵉ◌}
-use Rattle.rational.proofs.Order.{le_trans, le_of_same, ge_of_same, same_of_le, lt_of_le_of_lt, lt_of_lt_of_le}
-use Rattle.rational.proofs.TimeLemmas.{IsIn-same, precedes_of_lt}
+use Rattle.rational.specs.Places.{After, AtMost, Before, Place, Same, Upto, begins, ends}
+use Rattle.rational.proofs.Order.{le_of_lt, le_of_same, ge_of_same, le_trans, lt_of_lt_of_le}
 use Rattle.rational.proofs.ExtendedLemmas.{le_transᵉ}
 use Rattle.rational.proofs.LevelLemmas.{level_is}
-use Rattle.rational.proofs.Mixed.{tick_within}
+use Rattle.rational.proofs.PlaceLemmas.{after_at_most, at_most_of_not_before, before_of_at_most, before_same, le_of_at_most, not_before_itself, place_order}
+use Rattle.rational.proofs.PlaceLemmas.{same_places, upto_same}
+use Rattle.frac128.specs.Cuts.{place}
 use Rattle.frac128.specs.Spans.{interval}
 use Rattle.frac128.specs.Value.{value}
+use Rattle.frac128.specs.declared.cut.Cut.{Cut}
 use Rattle.frac128.specs.declared.frac.Frac.{Frac}
-use Rattle.frac128.specs.declared.span.Span.{Span}
 use Rattle.value_laws.specs.Kinds.{kleene_shape}
 use Rattle.value_laws.specs.Values.{kleene_value}
 use Rattle.value_laws.specs.declared.kleene.Kleene.{Kleene}
-use Rattle.pl_signal.specs.declared.knot.Knot.{Knot}
-use Rattle.pl_signal.specs.Knots.{start, stop, IsSignal, IsWorth}
-use Rattle.pl_signal.specs.Building.{GoesOn}
-use Rattle.pl_signal.proofs.Limits.{limited}
-use Rattle.pl_signal.proofs.Values.{worth_at}
+use Rattle.pieces.specs.declared.piece.Piece.{Piece}
+use Rattle.pieces.specs.Chains.{Chain, IsNormal, stop}
+use Rattle.pieces.specs.Knots.{after, before}
+use Rattle.pieces.proofs.ChainLemmas.{to_stop}
+use Rattle.pieces.proofs.Ends.{at_most_of_before, at_most_trans}
 use Rattle.stl_syntax.specs.SupInf.{one, minus_one}
 use Rattle.implicants.specs.Needs.{IsOn}
-use Rattle.implicants.specs.Nearby.{IsBest, IsBestAt, IsBestPoint, IsBestGap, IsBestSoFar, IsBestSignal}
+use Rattle.implicants.specs.Nearby.{CountsFor, GoesUpTo, IsBest, IsBestAt, IsBestChain, IsBestSoFar}
 use Rattle.implicants.specs.declared.runs.Run.{Run}
 use Rattle.implicants.specs.declared.nearby.View.{View}
-use Rattle.implicants.proofs.Uncertain.{start_to_stop, worth_bounded}
+use Rattle.implicants.proofs.Failing.{first_worth}
 use Rattle.implicants.proofs.Needing.{shape_on}
+use Rattle.implicants.proofs.Running.{of_places}
+use Rattle.implicants.proofs.Wholes.{input_over}
 
 -- the best value, also written otherwise
 pub best_alike : (h : Bool) (v w : Extended) → v ≈ᵉ w → IsBest h w → IsBest h v
@@ -44,103 +47,105 @@ best_passes p h t v e passes = best_alike h v (value_at (kleene_shape.function p
     by_known true e = subst (λ o. finite (whole (kleene_value o)) ≤ᵉ value_at (kleene_shape.function p) t) e (level_is (kleene_value p.known) t).at_least
     by_known false e = subst (λ o. value_at (kleene_shape.function p) t ≤ᵉ finite (whole (kleene_value o))) e (level_is (kleene_value p.known) t).at_most
 
--- a span from no later than a gap to no earlier has it
-pub gap_in : (on : Span) (from to : Rational) → value on.from ≤ʳ from → to ≤ʳ value on.to → (t : Rational) → from <ʳ t → t <ʳ to → IsIn (interval on) t
-gap_in on from to begun late t above below = record {
-  above = precedes_of_lt on.from_in (value on.from) t (lt_of_le_of_lt begun above);
-  below = precedes_of_lt on.to_in t (value on.to) (lt_of_lt_of_le below late);
-}
+-- a chain that went on up to a place does not end before it
+reaches : (old new : Chain Kleene) (until : Cut) (p : Kleene) → GoesUpTo kleene_shape old until p new → ¬ Before (stop new) (place until)
+reaches old new until p (inl h) = subst (λ x. ¬ Before (stop x) (place until)) (sym h.1) h.0
+reaches old new until p (inr on) = subst (λ c. ¬ Before c (place until)) (sym on.ends) (not_before_itself (place until))
 
 module _ (runs : List Run) (w : View) where
-  -- a run of the node that has the gap
-  pub run_gap : (j : ℕ) (r : Run) (from to : Rational) (p : Kleene) → slice_get runs j ≡ Some r → r.of ≡ w.of
-      → ((t : Rational) → from <ʳ t → t <ʳ to → IsIn (interval r.on) t) → IsBestGap kleene_shape runs w.of w.best from to p
-  run_gap j r from to p at node has = λ u v above below passes. inr (j, r, at, node, has u above below)
-
-  -- or the time
-  pub run_point : (j : ℕ) (r : Run) (t : Rational) (p : Kleene) → slice_get runs j ≡ Some r → r.of ≡ w.of → IsIn (interval r.on) t
-      → IsBestPoint kleene_shape runs w.of w.best t p
-  run_point j r t p at node has u v same passes = inr (j, r, at, node, IsIn-same (interval r.on) (same_sym' same) has)
-    where
-      same_sym' : {a b : Rational} → a ≈ b → b ≈ a
-      same_sym' e = same_of_le (ge_of_same e) (le_of_same e)
-
-  -- a signal of one knot at the first tick
-  pub near_start : (at : Frac) (p : Kleene) (x : List (Knot Kleene)) → value at ≈ whole (pos w.first) → w.first ≤ w.last
-      → IsBestPoint kleene_shape runs w.of w.best (value at) p → x ≡ record { time = at; point = p; after = p } ∷ [] → IsBestSoFar kleene_shape runs w x
-  near_start at p x begins order best made = subst (IsBestSoFar kleene_shape runs w) (sym made) (record {
-    begins = begins;
-    within = le_trans (le_of_same begins) (record { le = omega (arith, order) });
-    worth = by_worth;
+  -- no pieces yet, from just before the first tick on
+  pub near_start : (at : Frac) (x : Chain Kleene) → value at ≈ whole (pos w.first) → w.first ≤ w.last → x ≡ record { from = before (value at); pieces = [] }
+      → IsBestSoFar kleene_shape runs w x
+  near_start at x begins order made = subst (IsBestSoFar kleene_shape runs w) (sym made) (record {
+    starts = (begins, refl);
+    later = λ t u. u;
+    within = λ t u. le_of_lt (lt_of_lt_of_le u (le_trans (le_of_same begins) ordered));
+    worth = λ t v h. absurd h;
   })
     where
-      by_worth : (t : Rational) (v : Extended) → IsWorth kleene_shape (record { time = at; point = p; after = p } ∷ []) t v → IsBestAt runs w.of w.best t v
-      by_worth t v (inl h) = best t v h.when h.worth
-      by_worth t v (inr (inl h)) = absurd h
-      by_worth t v (inr (inr h)) = absurd h
+      ordered : whole (pos w.first) ≤ʳ whole (pos w.last)
+      ordered = record { le = omega (arith, order) }
 
-  -- which goes on by what is best on a gap and behind it
-  pub near_step : (old new : List (Knot Kleene)) (after : Kleene) (at : Frac) (point : Kleene) → IsBestSoFar kleene_shape runs w old
-      → GoesOn kleene_shape old after at point new → value at ≤ʳ whole (pos w.last)
-      → IsBestGap kleene_shape runs w.of w.best (stop old) (value at) after → IsBestPoint kleene_shape runs w.of w.best (value at) point
-      → IsBestSoFar kleene_shape runs w new
-  near_step old new after at point before on within gap here = record {
-    begins = subst (λ t. t ≈ whole (pos w.first)) (sym on.begins) before.begins;
-    within = subst (λ t. t ≤ʳ whole (pos w.last)) (sym on.ends) within;
-    worth = λ t v h. by_part t v ((on.worth t v).0 h);
+  -- a chain that is the best so far ends within the limits of times
+  pub near_within : (x : Chain Kleene) → IsBestSoFar kleene_shape runs w x → w.last < 2 ^ 32 → IsWithin (2 ^ 34) (stop x).at
+  near_within x far b = (
+    le_trans below (le_trans (ge_of_same far.starts.0) (le_of_at_most x.from (stop x) far.later)),
+    le_trans (le_of_at_most (stop x) (after (whole (pos w.last))) far.within) above,
+  )
+    where
+      below : whole (negsuc (2 ^ 34 - 1)) ≤ʳ whole (pos w.first)
+      below = record { le = omega arith }
+
+      above : whole (pos w.last) ≤ʳ whole (pos (2 ^ 34))
+      above = record { le = omega (arith, b) }
+
+  -- it goes on by a value that is the best, or by one whose times lie in a run
+  near_on : (old new : Chain Kleene) (until : Cut) (p : Kleene) → AtMost (place until) (after (whole (pos w.last)))
+      → ((t : Rational) (v : Extended) → After (stop old) t → Upto (place until) t → Passes (kleene_shape.function p) t v → IsBestAt runs w.of w.best t v)
+      → IsBestSoFar kleene_shape runs w old → GoesUpTo kleene_shape old until p new → IsBestSoFar kleene_shape runs w new
+  near_on old new until p within more far (inl h) = subst (IsBestSoFar kleene_shape runs w) (sym h.1) far
+  near_on old new until p within more far (inr on) = record {
+    starts = subst (λ c. Same c (before (whole (pos w.first)))) (sym on.begins) far.starts;
+    later = to_stop new.from new.pieces on.normal.rising;
+    within = subst (λ c. AtMost c (after (whole (pos w.last)))) (sym on.ends) within;
+    worth = λ t v h. elim ((on.worth t v).0 h) [ inl k ↦ far.worth t v k | inr k ↦ more t v k.0 k.1 k.2 ];
+  }
+
+  module _ (j : ℕ) (r : Run) (from to : Cut) (p q : Kleene) (there : slice_get runs j ≡ Some r) (counts : CountsFor r w)
+      (begin : place from ≡ begins (interval r.on)) (end : place to ≡ ends (interval r.on))
+      (best : (t : Rational) (v : Extended) → Passes (kleene_shape.function p) t v → IsBest w.best v) where
+    in_trace : AtMost (ends (interval r.on)) (after (whole (pos w.last)))
+    in_trace = at_most_of_not_before (ends (interval r.on)) (after (whole (pos w.last))) counts.within
+
+    -- so it goes on up to where a run begins
+    pub near_begin : (old mid : Chain Kleene) → IsBestSoFar kleene_shape runs w old → GoesUpTo kleene_shape old from p mid
+        → IsBestSoFar kleene_shape runs w mid
+    near_begin old mid far up = near_on old mid from p
+        (subst (λ c. AtMost c (after (whole (pos w.last)))) (sym begin) (at_most_trans (begins (interval r.on)) (ends (interval r.on))
+        (after (whole (pos w.last))) (at_most_of_before (begins (interval r.on)) (ends (interval r.on)) counts.some) in_trace))
+        (λ t v a u passes. inl (best t v passes)) far up
+
+    -- and over the run
+    pub near_run : (old mid new : Chain Kleene) → IsBestSoFar kleene_shape runs w old → GoesUpTo kleene_shape old from p mid
+        → GoesUpTo kleene_shape mid to q new → IsBestSoFar kleene_shape runs w new
+    near_run old mid new far up over = near_on mid new to q (subst (λ c. AtMost c (after (whole (pos w.last)))) (sym end) in_trace)
+        (λ t v a u passes. inr (
+          j,
+          r,
+          there,
+          counts.of,
+          of_places (interval r.on) t (subst (λ c. After c t) begin (after_at_most (place from) (stop mid) t reached a)) (subst (λ c. Upto c t) end u),
+        )) (near_begin old mid far up) over
+      where
+        reached : AtMost (place from) (stop mid)
+        reached = at_most_of_not_before (place from) (stop mid) (reaches old mid from p up)
+
+  -- up to just after the last tick
+  pub near_closed : (old new : Chain Kleene) (until : Cut) (p : Kleene) → Same (place until) (after (whole (pos w.last)))
+      → ((t : Rational) (v : Extended) → Passes (kleene_shape.function p) t v → IsBest w.best v) → w.first ≤ w.last → w.last < 2 ^ 32
+      → IsNormal kleene_shape new → GoesUpTo kleene_shape old until p new → IsBestSoFar kleene_shape runs w old → IsBestChain kleene_shape runs w new
+  near_closed old new until p same best order b normal up far = record {
+    normal = normal;
+    input = input_over w.first w.last new (omega (arith, order, b)) b closed.starts (by_order (place_order (stop new) last));
+    worth = closed.worth;
   }
     where
-      by_part : (t : Rational) (v : Extended) → IsWorth kleene_shape old t v ⊎ ((stop old <ʳ t) × (t <ʳ value at) × Passes (kleene_shape.function after) t v)
-          ⊎ ((t ≈ value at) × Passes (kleene_shape.function point) t v) → IsBestAt runs w.of w.best t v
-      by_part t v (inl h) = before.worth t v h
-      by_part t v (inr (inl h)) = gap t v h.0 h.1 h.2
-      by_part t v (inr (inr h)) = here t v h.0 h.1
+      last : Place
+      last = after (whole (pos w.last))
 
-  -- up to the last tick
-  pub near_end : (x : List (Knot Kleene)) → IsBestSoFar kleene_shape runs w x → IsSignal kleene_shape x → whole (pos w.last) ≤ʳ stop x
-      → w.first ≤ w.last → w.last < 2 ^ 32 → IsBestSignal kleene_shape runs w x
-  near_end x before signal late order b =
-      let ends : stop x ≈ whole (pos w.last) = same_of_le before.within late in
-      record {
-        signal = signal;
-        input = record {
-          begins = before.begins;
-          ends = ends;
-          bases = λ p h. (record { le = tt }, search rules);
-          limited = limited kleene_shape x signal (worth_bounded x) (tick_within w.first (omega (arith, order, b)) before.begins) (tick_within w.last b ends);
-        };
-        worth = before.worth;
-      }
+      closed : IsBestSoFar kleene_shape runs w new
+      closed = near_on old new until p (λ t u. upto_same (place until) last t same u) (λ t v a u passes. inl (best t v passes)) far up
 
-  -- closed by the best value
-  pub near_closed : (old new : List (Knot Kleene)) (at : Frac) (p : Kleene) → IsBestSoFar kleene_shape runs w old
-      → GoesOn kleene_shape old p at p new → value at ≈ whole (pos w.last)
-      → ((t : Rational) (v : Extended) → Passes (kleene_shape.function p) t v → IsBest w.best v) → w.first ≤ w.last → w.last < 2 ^ 32
-      → IsBestSignal kleene_shape runs w new
-  near_closed old new at p before on same best order b = near_end new
-      (near_step old new p at p before on (le_of_same same) (λ u v above below passes. inl (best u v passes)) (λ u v here passes. inl (best u v passes)))
-      on.signal (subst (λ t. whole (pos w.last) ≤ʳ t) (sym on.ends) (ge_of_same same)) order b
+      by_order : Before (stop new) last ⊎ Same (stop new) last ⊎ Before last (stop new) → Same (stop new) last
+      by_order (inl h) = absurd (reaches old new until p up (before_same (stop new) last (place until) h (same_places same)))
+      by_order (inr (inl h)) = h
+      by_order (inr (inr h)) = absurd (not_before_itself (stop new) (before_of_at_most (stop new) last (stop new) closed.within h))
 
--- a signal within 32 bits ends within the limits of times
-pub near_within : (first last : ℕ) (x : List (Knot Kleene)) → start x ≈ whole (pos first) → stop x ≤ʳ whole (pos last) → IsSignal kleene_shape x
-    → last < 2 ^ 32 → IsWithin (2 ^ 34) (stop x)
-near_within first last x begins within signal b = (
-  le_trans below (le_trans (ge_of_same begins) (start_to_stop x signal)),
-  le_trans within above,
-)
-  where
-    below : whole (negsuc (2 ^ 34 - 1)) ≤ʳ whole (pos first)
-    below = record { le = omega arith }
-
-    above : whole (pos last) ≤ʳ whole (pos (2 ^ 34))
-    above = record { le = omega (arith, b) }
-
--- a signal whose first point is more than certainly false is on there
-pub begins_is_on : (x : List (Knot Kleene)) (k : Knot Kleene) → slice_get x 0 ≡ Some k → (¬ (k.point.known ≡ Some false))
-    → (t : Rational) → t ≈ start x → IsOn kleene_shape x t
-begins_is_on [] k at h t e = absurd cc
-begins_is_on (l ∷ x) k at h t e = record {
-  v = value_at (kleene_shape.function l.point) t;
-  worth = worth_at kleene_shape (l ∷ x) 0 l t refl e;
-  more = shape_on l.point t (subst (λ k. ¬ (k.point.known ≡ Some false)) (sym (same_Some _ _ at)) h);
+-- a chain whose first piece is more than certainly false is on at its first time
+pub begins_is_on : (x : Chain Kleene) (k : Piece Kleene) → IsNormal kleene_shape x → x.from.after ≡ false → slice_get x.pieces 0 ≡ Some k
+    → (¬ (k.shape.known ≡ Some false)) → (t : Rational) → t ≈ x.from.at → IsOn kleene_shape x t
+begins_is_on x k normal first at h t e = record {
+  v = value_at (kleene_shape.function k.shape) t;
+  worth = first_worth x k t normal first at e;
+  more = shape_on k.shape t h;
 }

@@ -1,6 +1,7 @@
 pub mod Keeping
 pub mod Runs
 pub mod Certainty
+pub mod SameCells
 pub mod Signals
 pub mod Cuts
 pub mod Needs

@@ -1,13 +1,12 @@
 -- What cells leave certain of nodes, and when a cell is needed.
 use Rattle.std.specs.Prelude.{◌≡◌, ◌⊎◌, ℕ, zero, suc, ◌+◌, ◌<◌, Bool, true, false, if◌then◌else◌}
 use Rattle.std.specs.Prelude.{List, length, Some, slice_get, slice_index_or, slice_set}
-use Rattle.rational.specs.Time.{Rational, IsIn, ◌≈◌}
+use Rattle.rational.specs.Time.{Rational, IsIn}
 use Rattle.rational.specs.Extended.{Extended, ◌<ᵉ◌}
 use Rattle.frac128.specs.Spans.{interval}
 use Rattle.value_laws.specs.Members.{ShapeOf}
 use Rattle.value_laws.specs.declared.kleene.Kleene.{Kleene}
-use Rattle.pl_signal.specs.declared.knot.Knot.{Knot}
-use Rattle.pl_signal.specs.Knots.{start, stop, IsWorth}
+use Rattle.pieces.specs.Chains.{Chain, IsWorth}
 use Rattle.stl_syntax.specs.Trace.{Trace}
 use Rattle.stl_syntax.specs.Trace as trace
 use Rattle.stl_syntax.specs.Formula.{Subformula, root, subformula}
@@ -15,7 +14,7 @@ use Rattle.stl_syntax.specs.Kleene.{IsCovered, Must, MustNot}
 use Rattle.stl_syntax.specs.SupInf.{one, minus_one, certainty_setting, HasValues, HasInfs}
 use Rattle.stl_syntax.specs.declared.items.Item.{Item}
 use Rattle.stl_syntax.specs.declared.node.Node.{Node}
-use Rattle.offline_eval.specs.Forms.{of_knots}
+use Rattle.offline_eval.specs.Forms.{of_pieces}
 use Rattle.offline_eval.specs.Evaluation.{TellNodes}
 use Rattle.implicants.specs.Keeping.{CoverMore}
 
@@ -25,27 +24,22 @@ Certain true p items tr t = Must p items tr t
 Certain false p items tr t = MustNot p items tr t
 
 module _ (shape : ShapeOf Kleene) where
-  -- the signal is more than certainly false at t
-  pub record IsOn (x : List (Knot Kleene)) (t : Rational) : Type 0 where
+  -- the chain is more than certainly false at t
+  pub record IsOn (x : Chain Kleene) (t : Rational) : Type 0 where
     pub v : Extended
     pub worth : IsWorth shape x t v
     pub more : minus_one <ᵉ v
 
   -- it is less than certainly true there
-  pub record IsOff (x : List (Knot Kleene)) (t : Rational) : Type 0 where
+  pub record IsOff (x : Chain Kleene) (t : Rational) : Type 0 where
     pub v : Extended
     pub worth : IsWorth shape x t v
     pub less : v <ᵉ one
 
-  -- the second signal goes over the domain of the first
-  pub record IsAlong (x y : List (Knot Kleene)) : Type 0 where
-    pub begins : start y ≈ start x
-    pub ends : stop y ≈ stop x
-
-  -- the signals tell what the items leave certain of each node, and each node has values
-  pub record AreCertainties (nodes : List Node) (tr : Trace) (items : List Item) (signals : List (List (Knot Kleene))) : Type 0 where
-    pub count : length signals ≡ length nodes
-    pub told : TellNodes (of_knots shape) nodes signals (certainty_setting tr items)
+  -- the chains tell what the items leave certain of each node, and each node has values
+  pub record AreCertainties (nodes : List Node) (tr : Trace) (items : List Item) (chains : List (Chain Kleene)) : Type 0 where
+    pub count : length chains ≡ length nodes
+    pub told : TellNodes (of_pieces shape) nodes chains (certainty_setting tr items)
     pub values : (k : ℕ) → k < length nodes
         → HasValues (subformula nodes k) (certainty_setting tr items) × HasInfs (subformula nodes k) (certainty_setting tr items)
 
@@ -80,8 +74,8 @@ pub record MarksNeeded (nodes : List Node) (tr : Trace) (all : List Item) (left 
   pub only : (c : ℕ) → slice_index_or new c false ≡ true → (slice_index_or old c false ≡ true) ⊎ ((c < left) × IsNeeded nodes tr all new c)
 
 module _ (shape : ShapeOf Kleene) where
-  -- the signals tell what certain items leave certain, which cover no less than these
-  pub record AreToldOfMore (nodes : List Node) (tr : Trace) (items : List Item) (signals : List (List (Knot Kleene))) : Type 0 where
+  -- the chains tell what certain items leave certain, which cover no less than these
+  pub record AreToldOfMore (nodes : List Node) (tr : Trace) (items : List Item) (chains : List (Chain Kleene)) : Type 0 where
     pub more : List Item
     pub covered : CoverMore items more
-    pub told : AreCertainties shape nodes tr more signals
+    pub told : AreCertainties shape nodes tr more chains

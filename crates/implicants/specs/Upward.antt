@@ -1,24 +1,24 @@
--- What a cell is tried by: where nodes are less certain than is best, and signals that are no less certain than a node.
+-- What a cell is tried by: where nodes are less certain than is best, and chains that are no less certain than a node.
 use Rattle.std.specs.Prelude.{◌≡◌, ◌⊎◌, ◌<◌, ◌∷◌, ◌++◌, ℕ, Bool, true, false, List, [], Option}
 use Rattle.std.specs.declared.vec.Vec.{Vec}
 use Rattle.std.specs.declared.alloc.Global.{Global}
 use Rattle.std.specs.Prelude.{Some, slice_get, slice_set, slice_index_or, MatchBool, MatchOption}
-use Rattle.rational.specs.Time.{Rational, IsIn, ◌≈◌}
+use Rattle.rational.specs.Time.{Rational, IsIn}
 use Rattle.rational.specs.Extended.{Extended}
+use Rattle.rational.specs.Places.{After, Place, Same, Upto}
 use Rattle.frac128.specs.Spans.{interval}
 use Rattle.frac128.specs.declared.span.Span.{Span}
 use Rattle.value_laws.specs.Members.{ShapeOf}
 use Rattle.value_laws.specs.declared.kleene.Kleene.{Kleene}
-use Rattle.pl_signal.specs.declared.knot.Knot.{Knot}
-use Rattle.pl_signal.specs.Knots.{start, stop, IsSignal, IsWorth}
+use Rattle.pieces.specs.declared.piece.Piece.{Piece}
+use Rattle.pieces.specs.Chains.{Chain, IsNormal, IsWorth, end, stop}
 use Rattle.stl_syntax.specs.Trace.{Trace, first_time, last_time}
 use Rattle.stl_syntax.specs.Formula.{subformula}
 use Rattle.stl_syntax.specs.Cells.{IsChild}
 use Rattle.stl_syntax.specs.Kleene.{IsCovered}
-use Rattle.stl_syntax.specs.declared.atom.Atom.{Atom}
 use Rattle.stl_syntax.specs.declared.items.Item.{Item}
 use Rattle.stl_syntax.specs.declared.node.Node.{Node}
-use Rattle.offline_eval.specs.Forms.{of_knots}
+use Rattle.offline_eval.specs.Forms.{of_pieces}
 use Rattle.offline_eval.specs.Inputs.{IsInput}
 use Rattle.implicants.specs.Certainty.{stays, known_at}
 use Rattle.implicants.specs.Needs.{Certain, IsAmongPlaces, IsNeeded, IsOff, IsOn}
@@ -26,31 +26,28 @@ use Rattle.implicants.specs.Nearby.{IsBest}
 use Rattle.implicants.specs.Signs.{sign_at, AreSigns}
 use Rattle.implicants.specs.declared.runs.Run.{Run}
 
+-- the span has the times of a piece that begins at the place, whose shape is less than certainly what `best` says
+abbrev pub IsShortPiece : Bool → Place → Piece Kleene → Span → Type 0
+IsShortPiece best from p on =
+    (t : Rational) → IsIn (interval on) t → After from t × Upto (end p) t × ¬ (p.shape.known ≡ Some best)
+
 module _ (shape : ShapeOf Kleene) where
-  -- the signal is on at each time of the span
-  abbrev pub IsOnOver : List (Knot Kleene) → Span → Type 0
-  IsOnOver x on = (t : Rational) → IsIn (interval on) t → IsOn shape x t
-
-  -- the new runs are the old ones, and others of the node in which the signal is on
-  abbrev pub AddsOn : ℕ → List (Knot Kleene) → List Run → List Run → Type 0
-  AddsOn k x old new = (j : ℕ) (r : Run) → slice_get new j ≡ Some r → (slice_get old j ≡ Some r) ⊎ ((r.of ≡ k) × IsOnOver x r.on)
-
-  -- the signal is less than certainly what `best` says at each time of the span
-  abbrev pub IsShortOver : Bool → List (Knot Kleene) → Span → Type 0
+  -- the chain is less than certainly what `best` says at each time of the span
+  abbrev pub IsShortOver : Bool → Chain Kleene → Span → Type 0
   IsShortOver best x on = (t : Rational) → IsIn (interval on) t → MatchBool best (IsOff shape x t) (IsOn shape x t)
 
-  -- the new runs are the old ones, and others of the node in which the signal is so
-  abbrev pub AddsShort : ℕ → Bool → List (Knot Kleene) → List Run → List Run → Type 0
+  -- the new runs are the old ones, and others of the node in which the chain is so
+  abbrev pub AddsShort : ℕ → Bool → Chain Kleene → List Run → List Run → Type 0
   AddsShort k best x old new = (j : ℕ) (r : Run) → slice_get new j ≡ Some r → (slice_get old j ≡ Some r) ⊎ ((r.of ≡ k) × IsShortOver best x r.on)
 
-  -- in each run the signal of its node is less than certainly what the node's sign says
-  abbrev pub AreShort : List Bool → List (List (Knot Kleene)) → List Run → Type 0
-  AreShort signs signals runs = (j : ℕ) (r : Run) → slice_get runs j ≡ Some r
-      → (x : List (Knot Kleene)) × (slice_get signals r.of ≡ Some x) × IsShortOver (sign_at signs r.of) x r.on
+  -- in each run the chain of its node is less than certainly what the node's sign says
+  abbrev pub AreShort : List Bool → List (Chain Kleene) → List Run → Type 0
+  AreShort signs chains runs = (j : ℕ) (r : Run) → slice_get runs j ≡ Some r
+      → (x : Chain Kleene) × (slice_get chains r.of ≡ Some x) × IsShortOver (sign_at signs r.of) x r.on
 
   -- so in each run of each list
-  abbrev pub AreShortEach : List Bool → List (List (Knot Kleene)) → List (Vec Run Global) → Type 0
-  AreShortEach signs signals each = (k : ℕ) (v : Vec Run Global) → slice_get each k ≡ Some v → AreShort signs signals v.items
+  abbrev pub AreShortEach : List Bool → List (Chain Kleene) → List (Vec Run Global) → Type 0
+  AreShortEach signs chains each = (k : ℕ) (v : Vec Run Global) → slice_get each k ≡ Some v → AreShort signs chains v.items
 
 -- the run of the span is added, where there is a span
 abbrev pub AddsRun : ℕ → Option Span → List Run → List Run → Type 0
@@ -129,34 +126,33 @@ pub record IsGround (nodes : List Node) (tr : Trace) (all : List Item) (marks : 
     (each : List (Vec Run Global)) : Type 0 where
   pub signed : AreSigns nodes signs
   pub lost : AreLostEach nodes tr all marks c signs each
-  pub leaf : Atom
 
 module _ (shape : ShapeOf Kleene) where
-  -- a signal over the whole trace
-  pub record IsWhole (tr : Trace) (x : List (Knot Kleene)) : Type 0 where
-    pub signal : IsSignal shape x
-    pub input : IsInput (of_knots shape) (first_time tr.rows) (last_time 0 tr.rows) x
+  -- a chain over the whole trace
+  pub record IsWhole (tr : Trace) (x : Chain Kleene) : Type 0 where
+    pub normal : IsNormal shape x
+    pub input : IsInput (of_pieces shape) (first_time tr.rows) (last_time 0 tr.rows) x
 
   -- so is each of them
-  abbrev pub AreWhole : Trace → List (List (Knot Kleene)) → Type 0
-  AreWhole tr xs = (k : ℕ) (x : List (Knot Kleene)) → slice_get xs k ≡ Some x → IsWhole tr x
+  abbrev pub AreWhole : Trace → List (Chain Kleene) → Type 0
+  AreWhole tr xs = (k : ℕ) (x : Chain Kleene) → slice_get xs k ≡ Some x → IsWhole tr x
 
-  -- wherever the node is certainly what its sign says without the cell at place c, the signal is the best
-  abbrev pub HasBest : List Node → Trace → List Item → List Bool → ℕ → List Bool → ℕ → List (Knot Kleene) → Type 0
+  -- wherever the node is certainly what its sign says without the cell at place c, the chain is the best
+  abbrev pub HasBest : List Node → Trace → List Item → List Bool → ℕ → List Bool → ℕ → Chain Kleene → Type 0
   HasBest nodes tr all marks c signs k x =
       (some : List Item) → StayWithout all marks c some → (t : Rational) (v : Extended) → IsWorth shape x t v
       → Certain (sign_at signs k) (subformula nodes k) some tr t → IsBest (sign_at signs k) v
 
   -- so is the one at the node's place
-  abbrev pub HasBestIn : List Node → Trace → List Item → List Bool → ℕ → List Bool → ℕ → List (List (Knot Kleene)) → Type 0
-  HasBestIn nodes tr all marks c signs k xs = (x : List (Knot Kleene)) → slice_get xs k ≡ Some x → HasBest nodes tr all marks c signs k x
+  abbrev pub HasBestIn : List Node → Trace → List Item → List Bool → ℕ → List Bool → ℕ → List (Chain Kleene) → Type 0
+  HasBestIn nodes tr all marks c signs k xs = (x : Chain Kleene) → slice_get xs k ≡ Some x → HasBest nodes tr all marks c signs k x
 
 module _ (shape : ShapeOf Kleene) where
-  -- the new signal goes over the domain of the first, and is the best where both are
-  pub record IsBestOf (best : Bool) (x y r : List (Knot Kleene)) : Type 0 where
-    pub signal : IsSignal shape r
-    pub begins : start r ≈ start x
-    pub ends : stop r ≈ stop x
+  -- the new chain goes over the domain of the first, and is the best where both are
+  pub record IsBestOf (best : Bool) (x y r : Chain Kleene) : Type 0 where
+    pub normal : IsNormal shape r
+    pub begins : Same r.from x.from
+    pub ends : Same (stop r) (stop x)
     pub worth : (t : Rational) (v : Extended) → IsWorth shape r t v → (u w : Extended) × IsWorth shape x t u × IsWorth shape y t w
         × (IsBest best u → IsBest best w → IsBest best v)
 

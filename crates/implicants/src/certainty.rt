@@ -1,5 +1,5 @@
 //! What some of the cells leave certain: Kleene's three values.
-ghost use Rattle.std.specs.Prelude.{◌≡◌, ◌<◌, ◌≤◌, ◌+◌, ◌^◌, length, Some, slice_get, slice_index_or, IfOk, OnOk};
+ghost use Rattle.std.specs.Prelude.{◌≡◌, ◌<◌, ◌≤◌, ◌+◌, ◌^◌, length, Some, slice_get, slice_index_or, IsTrue, IfOk, OnOk};
 ghost use Rattle.rational.specs.Rational.{IsWithin};
 ghost use Rattle.pl_signal.specs.Knots.{stop};
 ghost use Rattle.stl_syntax.specs.declared.atom.Atom.{Atom};
@@ -11,13 +11,15 @@ ghost use Rattle.implicants.specs.Needs.{AreCertainties};
 ghost use Rattle.stl_syntax.specs.declared.items.Item.{Item};
 ghost use Rattle.stl_syntax.specs.Trace.{Trace};
 ghost use Rattle.std.specs.Prelude.{List};
+ghost use Rattle.offline_eval.specs.Evaluation.{AreClosed};
 ghost use Rattle.implicants.specs.Certainty.{stays, known_at, is_false, EndsAt, IsAtomCertainty, AreAtomCertainties};
+ghost use Rattle.implicants.specs.SameCells.{IsSameUntil, SaysSame};
 
 use crate::cells::Cells;
 use crate::trace_ends::{first, last, tick};
 use frac128::{Memory, Steps};
-use offline_eval::laws::told_have_values;
-use offline_eval::{Atoms, EvalFault, Evaluated, eval};
+use offline_eval::laws::chains_have_values;
+use offline_eval::{Atoms, Chains, EvalFault, eval_chains};
 use pl_signal::{Builder, Signal};
 use std::alloc::Global;
 use std::sync::ledger::Ledger;
@@ -70,7 +72,55 @@ pub(crate) fn begin_of(cells: &Cells, i: u32) -> usize
     cells.ends[i as usize - 1]
 }
 
-/// The three-valued signal of the atom at place `i`.
+/// Whether two values are the same certainty.
+fn is_same(a: &Kleene, b: &Kleene) -> bool
+    ensures { IsTrue result → a.now.known ≡ b.now.known }
+{
+    match (a.known(), b.known()) {
+        (Some(x), Some(y)) => x == y,
+        (None, None) => true,
+        _ => false,
+    }
+}
+
+/// Whether the cells at place `e` and behind it say the same as a value.
+fn say_same(cells: &Cells, left: usize, kept: &[bool], e: usize, value: &Kleene) -> bool
+    requires within { e + 1 < length cells.now.all.items }
+    requires marks { length kept.now ≡ length cells.now.all.items }
+    ensures { IsTrue result → SaysSame cells.now.all.items left kept.now value.now e × SaysSame cells.now.all.items left kept.now value.now (e + 1) }
+{
+    if !is_same(&shape_at(cells, left, kept, e), value) {
+        return false;
+    }
+    is_same(&shape_at(cells, left, kept, e + 1), value)
+}
+
+/// The place of the cell of a cut time up to which all cells from place `c` on, which is that of a gap, say the same as a value.
+fn same_until(
+    cells: &Cells,
+    left: usize,
+    kept: &[bool],
+    c: usize,
+    to: usize,
+    value: &Kleene,
+) -> usize
+    requires more { c + 1 < to }
+    requires within { to ≤ length cells.now.all.items }
+    requires marks { length kept.now ≡ length cells.now.all.items }
+    requires first { SaysSame cells.now.all.items left kept.now value.now c }
+    ensures { IsSameUntil cells.now.all.items left kept.now value.now c to result }
+{
+    let mut e = c + 1;
+    while to - e > 2 {
+        if !say_same(cells, left, kept, e, value) {
+            return e;
+        }
+        e += 2;
+    }
+    e
+}
+
+/// The three-valued signal of the atom at place `i`. Cells that say the same one after the other are one step.
 fn atom_of(
     alloc: Global,
     formula: &Formula,
@@ -97,9 +147,10 @@ fn atom_of(
     let mut c = from + 1;
     while to - c > 1 {
         let gap = shape_at(cells, left, kept, c);
-        let point = shape_at(cells, left, kept, c + 1);
-        signal.step(gap, cells.all[c + 1].on.from, point)?;
-        c += 2;
+        let end = same_until(cells, left, kept, c, to, &gap);
+        let point = shape_at(cells, left, kept, end);
+        signal.go_along(&gap, &cells.all[end].on.from, &point)?;
+        c = end + 1;
     }
     ended(signal, stop)
 }
@@ -165,7 +216,7 @@ fn is_known_false(value: &Kleene) -> bool
     }
 }
 
-/// The three-valued signals of all nodes by the first `left` cells and those that are kept. It takes one step.
+/// What the first `left` cells and those that are kept leave certain of each node, as chains. It takes one step.
 pub(crate) fn certainties<L: Ledger>(
     alloc: Global,
     formula: &Formula,
@@ -174,32 +225,34 @@ pub(crate) fn certainties<L: Ledger>(
     left: usize,
     kept: &[bool],
     steps: &mut Steps<L>,
-) -> Result<Evaluated<Kleene>, Memory>
+) -> Result<Chains<Kleene>, Memory>
     requires some { 0 < length trace.now.rows }
     requires cells { AreAllCells formula.now.nodes trace.now cells.now.all.items cells.now.ends.items }
     requires marks { length kept.now ≡ length cells.now.all.items }
     ensures told { IfOk result (AreCertainties ⟦<Kleene as Shape>⟧ formula.now.nodes trace.now (remaining left kept.now cells.now.all.items)) }
+    ensures closed { IfOk result (AreClosed ⟦<Kleene as Shape>⟧) }
     ensures steps { OnOk result (steps.new ≡ steps.old + 1) }
 {
     let atoms = atoms_of(alloc, formula, trace, cells, left, kept)?;
-    told_have_values::<Kleene>();
+    chains_have_values::<Kleene>();
     // For the proof alone: that the formula is well formed is a clause of `len`.
     let _ = formula.len();
-    match eval(alloc, formula, first(trace), last(trace), atoms, steps) {
+    match eval_chains(alloc, formula, first(trace), last(trace), atoms, steps) {
         Ok(nodes) => Ok(nodes),
         Err(EvalFault::Memory) => Err(Memory),
         Err(EvalFault::Wide(_)) => unreachable!(),
     }
 }
 
-/// Whether the formula is certainly false at the start, by the signals of all nodes.
-pub(crate) fn is_certainly_false(formula: &Formula, nodes: &Evaluated<Kleene>) -> bool
-    requires { length nodes.now ≡ length formula.now.nodes }
+/// Whether the formula is certainly false at the start, by the chains of all nodes.
+pub(crate) fn is_certainly_false(formula: &Formula, nodes: &Chains<Kleene>) -> bool
+    requires count { length nodes.now ≡ length formula.now.nodes }
+    requires closed { AreClosed ⟦<Kleene as Shape>⟧ nodes.now }
     ensures { (tr : Trace) (items : List Item) → AreCertainties ⟦<Kleene as Shape>⟧ formula.now.nodes tr items nodes.now
         → TellsFailure result formula.now.nodes tr items }
 {
-    let root = nodes.signal(formula.len() - 1);
-    // For the proof alone: that it is a signal is a clause of `len`.
+    let root = nodes.chain(formula.len() - 1);
+    // For the proof alone: that the chain is normal is a clause of `len`.
     let _ = root.len();
-    is_known_false(&root.knot(0).point)
+    is_known_false(&root.piece(0).shape)
 }

@@ -1,16 +1,23 @@
 //! Cells that do not leave their atom as certain as is best, as runs.
-ghost use Rattle.std.specs.Prelude.{◌≡◌, ◌<◌, ◌≤◌, ◌+◌, ◌*◌, Some, length, slice_get, IsTrue, IfOk, OnOk};
+ghost use Rattle.std.specs.Prelude.{◌≡◌, ◌<◌, ◌≤◌, ◌+◌, ◌*◌, Bool, List, Some, length, slice_get, IsTrue, IfOk, OnOk};
+ghost use Rattle.stl_syntax.specs.declared.atom.Atom.{Atom};
+ghost use Rattle.stl_syntax.specs.declared.node.Node.{Node as ANode};
+ghost use Rattle.stl_syntax.specs.declared.node.Node.TheVariants.{Atom as Leaf};
+ghost use Rattle.implicants.specs.Signs.{sign_at};
 ghost use Rattle.implicants.specs.Runs.{AreAllCells};
-ghost use Rattle.implicants.specs.Upward.{AddsGone, AreGone, AreLost, AreLostEach, IsGone};
+ghost use Rattle.implicants.specs.Upward.{AddsGone, AreGone, AreLost, AreLostEach, HasBest, IsGone, IsWhole};
 
 use crate::cells::Cells;
 use crate::certainty::{begin_of, shape_at};
-use crate::nearby::says;
+use crate::nearby::{View, all_of, few, says};
 use crate::runs::{Run, add, add_list};
+use crate::trace_ends::{first, last};
 use frac128::Memory;
+use pieces::Pieces;
 use std::alloc::Global;
 use stl_syntax::{Formula, Item, Node};
 use trace_reader::Trace;
+use value_laws::{Kleene, Shape};
 
 /// The cell at a place.
 pub(crate) fn cell_at(cells: &Cells, p: usize) -> Item
@@ -80,6 +87,43 @@ pub(crate) fn gone_among(
         add_gone(cells, marks, i, best, tried, j, &mut runs)?;
     }
     Ok(runs)
+}
+
+/// A chain that is no less certain than the atom at place `i` is without the cell at place `c`, where `best` is the atom's sign.
+pub(crate) fn chain_without(
+    alloc: Global,
+    trace: &Trace,
+    cells: &Cells,
+    marks: &[bool],
+    i: u32,
+    best: bool,
+    c: usize,
+) -> Result<Pieces<Kleene>, Memory>
+    requires some { 0 < length trace.now.rows }
+    requires inside { c < length cells.now.all.items }
+    requires marks { length marks.now ≡ length cells.now.all.items }
+    ensures whole { IfOk result (IsWhole ⟦<Kleene as Shape>⟧ trace.now) }
+    ensures best { IfOk result (λ x. (nodes : List ANode) (signs : List Bool) (a : Atom)
+        → AreAllCells nodes trace.now cells.now.all.items cells.now.ends.items
+        → slice_get nodes i ≡ Some (Leaf a) → best ≡ sign_at signs i
+        → HasBest ⟦<Kleene as Shape>⟧ nodes trace.now cells.now.all.items marks.now c signs i x) }
+{
+    let view = View {
+        of: i,
+        best,
+        first: first(trace),
+        last: last(trace),
+    };
+    let gone = gone_among(
+        alloc,
+        cells,
+        marks,
+        i,
+        best,
+        c,
+        Places { from: c, to: c + 1 },
+    )?;
+    few(alloc, &gone, view, all_of(&gone))
 }
 
 /// The cells of the node at place `i` that do not make it what its sign says, as runs, where it is an atom.

@@ -1,22 +1,20 @@
-//! Between which times a signal is less than the best, though the runs of its node do not have it. What is found says where to look, and
-//! nothing is claimed of it.
-ghost use Rattle.offline_eval.specs.Forms.{of_knots};
-ghost use Rattle.offline_eval.specs.Making.{IsFit};
+//! Where a node is newly lost: the times at which its chain is less than the best, though none of its runs has them. What is found says
+//! where to look, and nothing is claimed of it.
 
 use crate::runs::{Run, add_short, has_begin, has_end, run_at, run_for};
 use frac128::{Frac, Memory, Span};
-use pl_signal::Signal;
+use pieces::Pieces;
 use std::alloc::Global;
-use value_laws::{Kleene, Shape};
+use value_laws::Kleene;
 
-/// Between which times something is lost.
+/// Times between which a node is lost: less certain than is best, though no run of it says so yet.
 #[derive(Clone, Copy)]
 pub(crate) struct Region {
     pub(crate) from: Frac,
     pub(crate) to: Frac,
 }
 
-/// From when on the piece is none of the runs; none where one run has all of it.
+/// Where the part of the piece begins that no run has; none where one run has all of it.
 fn lost_from(runs: &[Run], piece: &Span) -> Option<Frac> {
     let j = run_for(runs, piece);
     if j >= runs.len() {
@@ -32,7 +30,7 @@ fn lost_from(runs: &[Run], piece: &Span) -> Option<Frac> {
     Some(on.to)
 }
 
-/// Until when it is none of them, where it is none from a time on.
+/// Where that part ends, which begins at `from`.
 fn lost_to(runs: &[Run], piece: &Span, from: &Frac) -> Frac {
     let j = run_at(runs, &piece.to);
     if j >= runs.len() {
@@ -49,7 +47,7 @@ fn lost_to(runs: &[Run], piece: &Span, from: &Frac) -> Frac {
     }
 }
 
-/// The region of what is lost so far and of what the runs lack of one piece more.
+/// The region that was found so far, with the part of one more piece that no run has.
 fn with_piece(runs: &[Run], piece: &Span, found: Option<Region>) -> Option<Region> {
     let Some(from) = lost_from(runs, piece) else {
         return found;
@@ -64,16 +62,14 @@ fn with_piece(runs: &[Run], piece: &Span, found: Option<Region>) -> Option<Regio
     }
 }
 
-/// Between which times the signal of the node at place `k` is less than the best, though the runs of the node do not have it.
+/// Between which times the chain of the node at place `k` is less than the best, though the runs of the node do not have it.
 pub(crate) fn region_of(
     alloc: Global,
     runs: &[Run],
     k: u32,
     best: bool,
-    x: &Signal<Kleene>,
-) -> Result<Option<Region>, Memory>
-    requires fit { IsFit (of_knots ⟦<Kleene as Shape>⟧) x.now }
-{
+    x: &Pieces<Kleene>,
+) -> Result<Option<Region>, Memory> {
     let mut pieces = Vec::new(alloc);
     add_short(k, best, x, &mut pieces)?;
     let mut found = None;

@@ -1,22 +1,23 @@
-//! Signals of few knots that are no less certain than a node's: the best but in some runs, in which the node is less.
-ghost use Rattle.std.specs.Prelude.{◌≡◌, ◌⊎◌, ◌<◌, ◌≤◌, ◌+◌, ◌*◌, ◌^◌, pos, Bool, false, List, Some, length, slice_get, IsTrue, IfOk, OnOk};
-ghost use Rattle.rational.specs.Time.{Rational, IsIn, whole, ◌≈◌, ◌≤ʳ◌, ◌<ʳ◌};
+//! Chains of few pieces that are no less certain than a node: the best but in some runs, in which the node is less.
+ghost use Rattle.std.specs.Prelude.{◌≡◌, ◌<◌, ◌≤◌, ◌^◌, pos, false, List, Some, length, slice_get, IsTrue, IfOk, OnOk};
+ghost use Rattle.rational.specs.Rational.{IsWithin};
+ghost use Rattle.rational.specs.Time.{Rational, whole};
 ghost use Rattle.rational.specs.Extended.{Extended, Passes};
-ghost use Rattle.frac128.specs.Value.{value};
-ghost use Rattle.frac128.specs.Spans.{interval};
-ghost use Rattle.pl_signal.specs.Knots.{start, stop};
+ghost use Rattle.rational.specs.Places.{Same};
+ghost use Rattle.frac128.specs.Cuts.{place};
+ghost use Rattle.pieces.specs.Chains.{stop};
+ghost use Rattle.pieces.specs.Knots.{after};
 ghost use Rattle.implicants.specs.declared.runs.Run.{Run as ARun};
-ghost use Rattle.implicants.specs.Nearby.{InRun, IsBest, IsBestGap, IsBestPoint, IsBestSignal, IsBestSoFar};
+ghost use Rattle.implicants.specs.Nearby.{CountsFor, GoesUpTo, IsBest, IsBestChain, IsBestSoFar};
 
-use crate::needed::has_time;
 use crate::runs::Run;
 use crate::trace_ends::tick;
-use frac128::{Frac, Memory, Span};
-use pl_signal::{Builder, Signal};
+use frac128::{Cut, Memory};
+use pieces::Pieces;
 use std::alloc::Global;
 use value_laws::{Kleene, Shape};
 
-/// The node whose signal is made, which certainty of it is the best, and the ends of the trace in ticks.
+/// The node whose chain is made, which certainty of it is the best, and the ends of the trace in ticks.
 #[derive(Clone, Copy)]
 pub(crate) struct View {
     pub(crate) of: u32,
@@ -25,8 +26,8 @@ pub(crate) struct View {
     pub(crate) last: u32,
 }
 
-/// Which runs a signal is made of, by their places: of those from `from` up to `to` all that stand before `dense`, and those from `low` up
-/// to `high`.
+/// Which runs a chain is made of, by their places: of those from `from` up to `to` all before `dense`, those from `low` up to `high`,
+/// which lie about what is lost, and the one on either side of these.
 #[derive(Clone, Copy)]
 pub(crate) struct Pick {
     pub(crate) from: usize,
@@ -34,6 +35,17 @@ pub(crate) struct Pick {
     pub(crate) low: usize,
     pub(crate) high: usize,
     pub(crate) to: usize,
+}
+
+/// All of the runs.
+pub(crate) fn all_of(runs: &[Run]) -> Pick {
+    Pick {
+        from: 0,
+        dense: runs.len(),
+        low: 0,
+        high: 0,
+        to: runs.len(),
+    }
 }
 
 /// How many runs of a region are picked from either end of it.
@@ -56,13 +68,6 @@ fn best_value(best: bool) -> Kleene
     Kleene::of(Some(best))
 }
 
-/// Whether the span has the gap between two times.
-fn has_gap(on: &Span, from: &Frac, to: &Frac) -> bool
-    ensures { IsTrue result → (t : Rational) → value from.now <ʳ t → t <ʳ value to.now → IsIn (interval on.now) t }
-{
-    on.from.cmp(from).is_le() && to.cmp(&on.to).is_le()
-}
-
 /// The run at a place.
 pub(crate) fn run_in(runs: &[Run], j: usize) -> Run
     requires { j < length runs.now }
@@ -78,95 +83,69 @@ fn is_of(run: &Run, k: u32) -> bool
     run.of == k
 }
 
-/// The value on the gap between two times, by the run at place `j`: the best one, unless the run is of the node and has the gap.
-fn on_gap(runs: &[Run], view: View, j: usize, from: &Frac, to: &Frac) -> Kleene
-    requires inside { j < length runs.now }
-    ensures { IsBestGap ⟦<Kleene as Shape>⟧ runs.now view.of view.best (value from.now) (value to.now) result }
+/// Just after the last time of the trace.
+fn end_of(view: View) -> Cut
+    ensures { Same (place result) (after (whole (pos view.last))) }
 {
-    let run = run_in(runs, j);
-    if is_of(&run, view.of) && has_gap(&run.on, from, to) {
-        return Kleene::of(Some(!view.best));
+    Cut {
+        time: tick(view.last),
+        side: 1,
     }
-    best_value(view.best)
 }
 
-/// The value at a time, by the run at place `j`: the best one, unless there is a run there which is of the node and has the time.
-fn at_time(runs: &[Run], view: View, j: usize, t: &Frac) -> Kleene
-    ensures { IsBestPoint ⟦<Kleene as Shape>⟧ runs.now view.of view.best (value t.now) result }
+/// Goes on with a value up to a place, where that lies behind what there is.
+fn go_up_to(until: &Cut, value: &Kleene, chain: &mut Pieces<Kleene>) -> Result<(), Memory>
+    requires { IsWithin (2 ^ 34) (stop chain.old).at }
+    ensures { OnOk result (GoesUpTo ⟦<Kleene as Shape>⟧ chain.old until.now value.now chain.new) }
 {
-    if j >= runs.len() {
-        return best_value(view.best);
+    if chain.until().precedes(until) {
+        return chain.put(until, value);
     }
-    let run = run_in(runs, j);
-    if is_of(&run, view.of) && has_time(&run.on, t) {
-        return Kleene::of(Some(!view.best));
-    }
-    best_value(view.best)
+    Ok(())
 }
 
-/// The value at a time, by the run at place `j` and the next one.
-fn at_end(runs: &[Run], view: View, j: usize, t: &Frac) -> Kleene
-    requires inside { j < length runs.now }
-    ensures { IsBestPoint ⟦<Kleene as Shape>⟧ runs.now view.of view.best (value t.now) result }
+/// Whether the run is of the node, and has times, all of them in the trace.
+fn counts(run: &Run, view: View) -> bool
+    ensures { IsTrue result → CountsFor run.now view }
 {
-    let here = at_time(runs, view, j, t);
-    if says(&here, view.best) {
-        return at_time(runs, view, j + 1, t);
+    if !is_of(run, view.of) {
+        return false;
     }
-    here
+    let begin = Cut::begin(&run.on);
+    let end = Cut::end(&run.on);
+    if end_of(view).precedes(&end) {
+        return false;
+    }
+    begin.precedes(&end)
 }
 
-/// Goes on up to a time, where it is later than what there is, by the run at place `j`.
-fn add_step(
-    runs: &[Run],
-    view: View,
-    j: usize,
-    at: &Frac,
-    signal: &mut Builder<Kleene>,
-) -> Result<(), Memory>
+/// Goes on over the run at place `j`, where it counts: with the best value up to where it begins, and with the other up to where it ends.
+fn add_run(runs: &[Run], view: View, j: usize, chain: &mut Pieces<Kleene>) -> Result<(), Memory>
     requires inside { j < length runs.now }
     requires late { view.last < 2 ^ 32 }
-    requires before { IsBestSoFar ⟦<Kleene as Shape>⟧ runs.now view signal.old }
-    ensures { OnOk result (IsBestSoFar ⟦<Kleene as Shape>⟧ runs.now view signal.new) }
+    requires before { IsBestSoFar ⟦<Kleene as Shape>⟧ runs.now view chain.old }
+    ensures { OnOk result (IsBestSoFar ⟦<Kleene as Shape>⟧ runs.now view chain.new) }
 {
-    let from = signal.stop();
-    let stop = tick(view.last);
-    if !from.cmp(at).is_lt() || !at.cmp(&stop).is_le() {
+    let run = run_in(runs, j);
+    if !counts(&run, view) {
         return Ok(());
     }
-    let gap = on_gap(runs, view, j, &from, at);
-    let point = at_end(runs, view, j, at);
-    signal.step(gap, *at, point)
+    go_up_to(&Cut::begin(&run.on), &best_value(view.best), chain)?;
+    go_up_to(&Cut::end(&run.on), &Kleene::of(Some(!view.best)), chain)
 }
 
-/// Goes on over the run at place `j`, as far as it is later than what there is.
-fn add_run(runs: &[Run], view: View, j: usize, signal: &mut Builder<Kleene>) -> Result<(), Memory>
-    requires inside { j < length runs.now }
+/// Ends a chain at the end of the trace, with the best value.
+fn closed(mut chain: Pieces<Kleene>, view: View) -> Result<Pieces<Kleene>, Memory>
+    requires within { IsWithin (2 ^ 34) (stop chain).at }
     requires late { view.last < 2 ^ 32 }
-    requires before { IsBestSoFar ⟦<Kleene as Shape>⟧ runs.now view signal.old }
-    ensures { OnOk result (IsBestSoFar ⟦<Kleene as Shape>⟧ runs.now view signal.new) }
-{
-    let on = run_in(runs, j).on;
-    add_step(runs, view, j, &on.from, signal)?;
-    add_step(runs, view, j, &on.to, signal)
-}
-
-/// Ends a signal at the end of the trace, with the best value.
-fn closed(mut signal: Builder<Kleene>, view: View) -> Result<Signal<Kleene>, Memory>
-    requires begins { start signal ≈ whole (pos view.first) }
-    requires within { stop signal ≤ʳ whole (pos view.last) }
     requires order { view.first ≤ view.last }
-    requires late { view.last < 2 ^ 32 }
-    ensures { IfOk result (λ r. (runs : List ARun) → IsBestSoFar ⟦<Kleene as Shape>⟧ runs view signal
-        → IsBestSignal ⟦<Kleene as Shape>⟧ runs view r) }
+    ensures { IfOk result (λ r. (runs : List ARun) → IsBestSoFar ⟦<Kleene as Shape>⟧ runs view chain
+        → IsBestChain ⟦<Kleene as Shape>⟧ runs view r) }
 {
-    let stop = tick(view.last);
-    if signal.stop().cmp(&stop).is_lt() {
-        let value = best_value(view.best);
-        signal.step(value, stop, value)?;
-        return Ok(signal.finish());
-    }
-    Ok(signal.finish())
+    go_up_to(&end_of(view), &best_value(view.best), &mut chain)?;
+    // For the proof alone: that the chain is normal is a clause of `len`.
+    let _ = chain.len();
+    Ok(chain)
 }
 
 /// The place of the run that is picked after the one at the place before `next`: one run before the first of those about the region, and
@@ -191,25 +170,27 @@ fn next_picked(pick: Pick, next: usize) -> usize
     farther.min(end)
 }
 
-/// The signal that is the best but in some runs of the node.
+/// The chain that is the best but in some runs of the node.
 pub(crate) fn few(
     alloc: Global,
     runs: &[Run],
     view: View,
     pick: Pick,
-) -> Result<Signal<Kleene>, Memory>
+) -> Result<Pieces<Kleene>, Memory>
     requires order { view.first ≤ view.last }
     requires late { view.last < 2 ^ 32 }
-    ensures { IfOk result (IsBestSignal ⟦<Kleene as Shape>⟧ runs.now view) }
+    ensures { IfOk result (IsBestChain ⟦<Kleene as Shape>⟧ runs.now view) }
 {
-    let start = tick(view.first);
-    let value = at_time(runs, view, pick.from, &start);
-    let mut signal = Builder::start(alloc, start, value)?;
+    let start = Cut {
+        time: tick(view.first),
+        side: 0,
+    };
+    let mut chain = Pieces::start(alloc, &start);
     let to = pick.to.min(runs.len());
     let mut j = pick.from;
     while j < to {
-        add_run(runs, view, j, &mut signal)?;
+        add_run(runs, view, j, &mut chain)?;
         j = next_picked(pick, j + 1);
     }
-    closed(signal, view)
+    closed(chain, view)
 }

@@ -1,18 +1,14 @@
 //! Cells that are needed, and of which values and times that is asked.
 ghost use Rattle.std.specs.Prelude.{◌≡◌, ◌<◌, ◌≤◌, false, length, Some, IsTrue, IfOk, IfSome};
-ghost use Rattle.rational.specs.Time.{IsIn};
-ghost use Rattle.frac128.specs.Value.{value};
-ghost use Rattle.frac128.specs.Spans.{interval};
 ghost use Rattle.implicants.specs.Runs.{AreAllCells};
 ghost use Rattle.implicants.specs.Keeping.{remaining};
 ghost use Rattle.implicants.specs.Needs.{AreToldOfMore, MarksNeeded};
 
 use crate::cells::Cells;
 use crate::upward::mark_upward;
-use frac128::{Frac, Memory, Span};
-use offline_eval::Evaluated;
+use frac128::Memory;
+use offline_eval::Chains;
 use std::alloc::Global;
-use std::cmp::Ordering;
 use stl_syntax::Formula;
 use trace_reader::Trace;
 use value_laws::{Kleene, Shape};
@@ -27,23 +23,6 @@ pub(crate) fn is_on(value: &Kleene) -> bool
     }
 }
 
-/// Whether the span has the time.
-pub(crate) fn has_time(on: &Span, t: &Frac) -> bool
-    ensures { IsTrue result → IsIn (interval on.now) (value t.now) }
-{
-    let begun = match on.from.cmp(t) {
-        Ordering::Less => true,
-        Ordering::Equal => on.from_in,
-        Ordering::Greater => false,
-    };
-    let open = match t.cmp(&on.to) {
-        Ordering::Less => true,
-        Ordering::Equal => on.to_in,
-        Ordering::Greater => false,
-    };
-    begun && open
-}
-
 /// A copy of the marks, to be changed for a trial.
 fn same_marks(alloc: Global, kept: &[bool]) -> Result<Vec<bool>, Memory>
     ensures { IfOk result (λ marks. marks.items ≡ kept.now) }
@@ -56,13 +35,13 @@ fn same_marks(alloc: Global, kept: &[bool]) -> Result<Vec<bool>, Memory>
 
 /// The cells that are kept, and before place `left` cells that are needed.
 ///
-/// `nodes` are the signals of what is certain by cells that cover no less than those that stay, where they are at hand.
+/// `nodes` are the chains of what is certain by cells that cover no less than those that stay, where they are at hand.
 pub(crate) fn marked_anew(
     alloc: Global,
     formula: &Formula,
     trace: &Trace,
     cells: &Cells,
-    nodes: &Option<Evaluated<Kleene>>,
+    nodes: &Option<Chains<Kleene>>,
     left: usize,
     tries: usize,
     kept: &[bool],

@@ -1,24 +1,18 @@
 //! Where nodes are less certain than is best, as runs of time.
-ghost use Rattle.std.specs.Prelude.{◌≡◌, ◌⊎◌, ◌||◌, ◌<◌, ◌≤◌, ◌++◌, ◌∷◌, List, [], length, IsTrue, IfOk, IfSome, OnOk};
+ghost use Rattle.std.specs.Prelude.{◌≡◌, ◌⊎◌, ◌||◌, ◌<◌, ◌≤◌, ◌++◌, ◌∷◌, Bool, [], length, IsTrue, IfOk, IfSome, OnOk};
 ghost use Rattle.rational.specs.Time.{Rational, IsIn};
+ghost use Rattle.rational.specs.Places.{Before, Same, begins, ends};
+ghost use Rattle.frac128.specs.Cuts.{place};
 ghost use Rattle.frac128.specs.Spans.{interval};
-ghost use Rattle.stl_syntax.specs.Trace.{start as start_of, stop as stop_of};
-ghost use Rattle.stl_syntax.specs.declared.items.Item.{Item};
-ghost use Rattle.pl_signal.specs.declared.knot.Knot.{Knot};
-ghost use Rattle.offline_eval.specs.Forms.{of_knots};
-ghost use Rattle.offline_eval.specs.Making.{IsFit};
-ghost use Rattle.implicants.specs.Needs.{AreCertainties, IsOff, IsOn};
-ghost use Rattle.implicants.specs.Upward.{AddsOn, AddsRun, AddsShort, AreAmong, AreShortEach, IsOnOver, PutsRun};
+ghost use Rattle.pieces.specs.Chains.{Chain};
+ghost use Rattle.implicants.specs.Upward.{AddsRun, AddsShort, AreAmong, AreShortEach, IsShortOver, IsShortPiece, PutsRun};
 
-use crate::needed::is_on;
-use crate::trace_ends::last;
-use frac128::{Frac, Memory, Span};
-use offline_eval::Evaluated;
-use pl_signal::Signal;
-use signal_ops::neg;
+use crate::nearby::says;
+use frac128::{Cut, Frac, Memory, Span};
+use offline_eval::Chains;
+use pieces::{Piece, Pieces};
 use std::alloc::Global;
 use stl_syntax::Formula;
-use trace_reader::Trace;
 use value_laws::{Kleene, Shape};
 
 /// A span in which a node is less certain than is best.
@@ -26,14 +20,6 @@ use value_laws::{Kleene, Shape};
 pub(crate) struct Run {
     pub(crate) of: u32,
     pub(crate) on: Span,
-}
-
-/// On only where the signal is less than certainly true.
-fn turned(x: &Signal<Kleene>) -> Result<Signal<Kleene>, Memory>
-    requires fit { IsFit (of_knots ⟦<Kleene as Shape>⟧) x.now }
-    ensures { IfOk result (λ r. (t : Rational) → IsOn ⟦<Kleene as Shape>⟧ r t → IsOff ⟦<Kleene as Shape>⟧ x.now t) }
-{
-    neg(x)
 }
 
 /// Whether one of both is so.
@@ -69,29 +55,29 @@ pub(crate) fn add(of: u32, on: Option<Span>, runs: &mut Vec<Run>) -> Result<(), 
     Ok(())
 }
 
-/// The time of a knot, where the signal is on there.
-fn point_on(x: &Signal<Kleene>, p: usize) -> Option<Span>
-    requires { p < length x.now }
-    ensures { IfSome result (IsOnOver ⟦<Kleene as Shape>⟧ x.now) }
+/// The span from one place to another.
+fn span_between(from: &Cut, to: &Cut) -> Span
+    requires { Before (place from.now) (place to.now) }
+    ensures begin { Same (place from.now) (begins (interval result)) }
+    ensures end { Same (place to.now) (ends (interval result)) }
 {
-    let knot = x.knot(p);
-    if is_on(&knot.point) {
-        return Span::make(knot.time, true, knot.time, true);
+    Span {
+        from: from.time,
+        from_in: from.side == 0,
+        to: to.time,
+        to_in: to.side != 0,
     }
-    None
 }
 
-/// The gap behind a knot, where the signal is on there.
-fn gap_on(x: &Signal<Kleene>, p: usize) -> Option<Span>
-    requires { p < length x.now }
-    ensures { IfSome result (IsOnOver ⟦<Kleene as Shape>⟧ x.now) }
+/// The times of a piece that begins at a place, where it is less than certainly what `best` says.
+fn short_span(piece: &Piece<Kleene>, from: &Cut, best: bool) -> Option<Span>
+    requires { Before (place from.now) (place piece.now.until) }
+    ensures { IfSome result (IsShortPiece best (place from.now) piece.now) }
 {
-    let count = x.len();
-    let knot = x.knot(p);
-    if p + 1 < count && is_on(&knot.after) {
-        return Span::make(knot.time, false, x.knot(p + 1).time, false);
+    if says(&piece.shape, best) {
+        return None;
     }
-    None
+    Some(span_between(from, &piece.until))
 }
 
 /// The span so far with one more piece, or the piece alone; what does not go on is added as a run.
@@ -101,10 +87,10 @@ fn grown(
     piece: Option<Span>,
     runs: &mut Vec<Run>,
 ) -> Result<Option<Span>, Memory>
-    ensures so_far { IfOk result (λ o. (x : List (Knot Kleene)) → IfSome so_far (IsOnOver ⟦<Kleene as Shape>⟧ x)
-        → IfSome piece (IsOnOver ⟦<Kleene as Shape>⟧ x) → IfSome o (IsOnOver ⟦<Kleene as Shape>⟧ x)) }
-    ensures added { OnOk result ((x : List (Knot Kleene)) → IfSome so_far (IsOnOver ⟦<Kleene as Shape>⟧ x)
-        → AddsOn ⟦<Kleene as Shape>⟧ of x runs.old.items runs.new.items) }
+    ensures so_far { IfOk result (λ o. (best : Bool) (x : Chain Kleene) → IfSome so_far (IsShortOver ⟦<Kleene as Shape>⟧ best x)
+        → IfSome piece (IsShortOver ⟦<Kleene as Shape>⟧ best x) → IfSome o (IsShortOver ⟦<Kleene as Shape>⟧ best x)) }
+    ensures added { OnOk result ((best : Bool) (x : Chain Kleene) → IfSome so_far (IsShortOver ⟦<Kleene as Shape>⟧ best x)
+        → AddsShort ⟦<Kleene as Shape>⟧ of best x runs.old.items runs.new.items) }
 {
     let Some(next) = piece else {
         add(of, so_far, runs)?;
@@ -120,54 +106,25 @@ fn grown(
     Ok(Some(next))
 }
 
-/// The span so far with what the signal says at a knot and on the gap behind it.
-fn grown_at(
-    of: u32,
-    x: &Signal<Kleene>,
-    p: usize,
-    so_far: Option<Span>,
-    runs: &mut Vec<Run>,
-) -> Result<Option<Span>, Memory>
-    requires inside { p < length x.now }
-    requires before { IfSome so_far (IsOnOver ⟦<Kleene as Shape>⟧ x.now) }
-    ensures so_far { IfOk result (λ o. IfSome o (IsOnOver ⟦<Kleene as Shape>⟧ x.now)) }
-    ensures added { OnOk result (AddsOn ⟦<Kleene as Shape>⟧ of x.now runs.old.items runs.new.items) }
-{
-    let point = point_on(x, p);
-    let first = grown(of, so_far, point, runs)?;
-    let gap = gap_on(x, p);
-    let next = grown(of, first, gap, runs)?;
-    Ok(next)
-}
-
-/// Adds the runs on which the signal is on, each as long as it goes on.
-fn add_on(of: u32, x: &Signal<Kleene>, runs: &mut Vec<Run>) -> Result<(), Memory>
-    ensures { OnOk result (AddsOn ⟦<Kleene as Shape>⟧ of x.now runs.old.items runs.new.items) }
-{
-    let mut so_far = None;
-    for p in 0..x.len() {
-        let next = grown_at(of, x, p, so_far, runs)?;
-        so_far = next;
-    }
-    add(of, so_far, runs)?;
-    Ok(())
-}
-
-/// Adds the runs on which the signal is less than certainly what `best` says.
+/// Adds the runs on which the chain is less than certainly what `best` says, each as long as it goes on.
 pub(crate) fn add_short(
     of: u32,
     best: bool,
-    x: &Signal<Kleene>,
+    x: &Pieces<Kleene>,
     runs: &mut Vec<Run>,
 ) -> Result<(), Memory>
-    requires fit { IsFit (of_knots ⟦<Kleene as Shape>⟧) x.now }
     ensures { OnOk result (AddsShort ⟦<Kleene as Shape>⟧ of best x.now runs.old.items runs.new.items) }
 {
-    if best {
-        let against = turned(x)?;
-        return add_on(of, &against, runs);
+    let mut so_far = None;
+    let mut from = x.from();
+    for p in 0..x.len() {
+        let piece = x.piece(p);
+        let short = short_span(piece, &from, best);
+        let next = grown(of, so_far, short, runs)?;
+        so_far = next;
+        from = piece.until;
     }
-    add_on(of, x, runs)
+    add(of, so_far, runs)
 }
 
 /// Where a node is less than certainly what its sign says.
@@ -175,9 +132,8 @@ pub(crate) fn own_runs(
     alloc: Global,
     of: u32,
     best: bool,
-    x: &Signal<Kleene>,
+    x: &Pieces<Kleene>,
 ) -> Result<Vec<Run>, Memory>
-    requires fit { IsFit (of_knots ⟦<Kleene as Shape>⟧) x.now }
     ensures { IfOk result (λ r. AddsShort ⟦<Kleene as Shape>⟧ of best x.now [] r.items) }
 {
     let mut runs = Vec::new(alloc);
@@ -199,21 +155,17 @@ pub(crate) fn add_list(each: &mut Vec<Vec<Run>>, runs: Vec<Run>) -> Result<(), M
 pub(crate) fn runs_of(
     alloc: Global,
     formula: &Formula,
-    trace: &Trace,
-    nodes: &Evaluated<Kleene>,
+    nodes: &Chains<Kleene>,
     signs: &[bool],
 ) -> Result<Vec<Vec<Run>>, Memory>
-    requires some { 0 < length trace.now.rows }
-    requires told { (items : List Item) × AreCertainties ⟦<Kleene as Shape>⟧ formula.now.nodes trace.now items nodes.now }
+    requires nodes { length nodes.now ≡ length formula.now.nodes }
     requires signs { length signs.now ≡ length formula.now.nodes }
     ensures count { IfOk result (λ r. length r.items ≡ length formula.now.nodes) }
     ensures short { IfOk result (λ r. AreShortEach ⟦<Kleene as Shape>⟧ signs.now nodes.now r.items) }
 {
-    // For the proof alone: that it is a trace, and where it ends, are clauses of these calls.
-    let _ = (trace.rows(), last(trace));
     let mut all: Vec<Vec<Run>> = Vec::new(alloc);
     for k in 0..formula.len() {
-        let own = own_runs(alloc, k, signs[k as usize], nodes.signal(k))?;
+        let own = own_runs(alloc, k, signs[k as usize], nodes.chain(k))?;
         add_list(&mut all, own)?;
     }
     Ok(all)

@@ -1,19 +1,18 @@
-//! Cells that are tried from their atom up: what is lost without the cell is taken on from node to node, by signals of few knots that
+//! Cells that are tried from their atom up: what is lost without the cell is taken on from node to node, by chains of few pieces that
 //! are no less certain than the node.
 ghost use Rattle.std.specs.Prelude.{◌≡◌, ◌⊎◌, ◌<◌, ◌≤◌, ◌+◌, ◌++◌, ◌∷◌, [], ℕ, Bool, true, false, List, Some, length, slice_get, IsTrue, IfOk, IfSome, OnOk};
 ghost use Rattle.rational.specs.Time.{Rational, ◌≈◌};
-ghost use Rattle.pl_signal.specs.Knots.{start};
-ghost use Rattle.pl_signal.specs.declared.knot.Knot.{Knot};
+ghost use Rattle.pieces.specs.Chains.{Chain};
 ghost use Rattle.stl_syntax.specs.Trace.{first_time, last_time};
 ghost use Rattle.stl_syntax.specs.declared.atom.Atom.{Atom};
 ghost use Rattle.stl_syntax.specs.declared.items.Item.{Item};
 ghost use Rattle.stl_syntax.specs.declared.node.Node.{Node as ANode};
 ghost use Rattle.stl_syntax.specs.declared.node.Node.TheVariants.{Atom as Leaf};
-ghost use Rattle.offline_eval.specs.Forms.{of_knots};
-ghost use Rattle.offline_eval.specs.Making.{IsFit};
+ghost use Rattle.offline_eval.specs.Forms.{IsClosed, of_pieces};
+ghost use Rattle.offline_eval.specs.Making.{MayMeet};
 ghost use Rattle.implicants.specs.Runs.{AreAllCells};
 ghost use Rattle.implicants.specs.Keeping.{remaining};
-ghost use Rattle.implicants.specs.Needs.{AreToldOfMore, IsAlong, IsNeeded, IsOn, MarksNeeded};
+ghost use Rattle.implicants.specs.Needs.{AreToldOfMore, IsNeeded, IsOn, MarksNeeded};
 ghost use Rattle.implicants.specs.Signs.{sign_at, AreSigns};
 ghost use Rattle.implicants.specs.Upward.{AddsShort, AreLost, AreLostEach, AreLostFrom, AreOperands, AreWhole, HasBest, HasBestIn, IsBestOf};
 ghost use Rattle.std.specs.declared.vec.Vec.{Vec};
@@ -21,17 +20,17 @@ ghost use Rattle.std.specs.declared.alloc.Global.{Global};
 ghost use Rattle.implicants.specs.Upward.{IsGround, IsWhole, PutsNeeded, Settles, SettlesRun};
 
 use crate::cells::Cells;
-use crate::gone::{Places, cell_at, gone_among, runs_of_cells};
+use crate::gone::{cell_at, chain_without, runs_of_cells};
 use crate::lost::{Region, region_of, touches_region};
-use crate::nearby::{Pick, View, few, run_in};
+use crate::nearby::{Pick, View, all_of, few, run_in};
 use crate::needed::is_on;
 use crate::runs::{Run, own_runs, put_run, run_at, runs_of};
 use crate::signs::{places_above, signs_of};
 use crate::trace_ends::{first, last};
 use frac128::{Frac, Memory};
-use offline_eval::{Evaluated, of_node};
-use pl_signal::{OpFault, Signal};
-use signal_ops::{lower, upper};
+use offline_eval::{Chains, of_node};
+use pieces::{Pieces, lower, upper};
+use pl_signal::OpFault;
 use std::alloc::Global;
 use stl_syntax::{Formula, Node};
 use trace_reader::Trace;
@@ -86,7 +85,7 @@ fn sign_of(ground: &Ground, k: u32) -> bool
     ground.signs[k as usize]
 }
 
-/// What a signal of the node at place `k` is made for.
+/// What a chain of the node at place `k` is made for.
 fn view_at(trace: &Trace, ground: &Ground, k: u32) -> View
     requires some { 0 < length trace.now.rows }
     requires inside { k < length ground.now.signs.items }
@@ -103,7 +102,7 @@ fn view_at(trace: &Trace, ground: &Ground, k: u32) -> View
     }
 }
 
-/// A signal that is no less certain than the node at place `k`, by its runs about a region.
+/// A chain that is no less certain than the node at place `k`, by its runs about a region.
 fn own_at(
     alloc: Global,
     trace: &Trace,
@@ -112,7 +111,7 @@ fn own_at(
     k: u32,
     region: Region,
     look: u32,
-) -> Result<Signal<Kleene>, Memory>
+) -> Result<Pieces<Kleene>, Memory>
     requires some { 0 < length trace.now.rows }
     requires inside { k < length ground.now.signs.items }
     ensures whole { IfOk result (IsWhole ⟦<Kleene as Shape>⟧ trace.now) }
@@ -127,44 +126,34 @@ fn own_at(
     few(alloc, runs, view, pick)
 }
 
-/// The least of two signals.
-fn least_of(x: &Signal<Kleene>, y: &Signal<Kleene>) -> Result<Option<Signal<Kleene>>, Memory>
-    requires left { IsFit (of_knots ⟦<Kleene as Shape>⟧) x.now }
-    requires right { IsFit (of_knots ⟦<Kleene as Shape>⟧) y.now }
-    requires along { IsAlong ⟦<Kleene as Shape>⟧ x.now y.now }
-    ensures { IfOk result (λ o. IfSome o (IsBestOf ⟦<Kleene as Shape>⟧ true x.now y.now)) }
+/// The least of two chains.
+fn least_of(x: &Pieces<Kleene>, y: &Pieces<Kleene>) -> Result<Pieces<Kleene>, Memory>
+    requires { MayMeet (of_pieces ⟦<Kleene as Shape>⟧) x.now y.now }
+    ensures { IfOk result (IsBestOf ⟦<Kleene as Shape>⟧ true x.now y.now) }
 {
     match lower(x, y) {
-        Ok(both) => Ok(Some(both)),
+        Ok(both) => Ok(both),
         Err(OpFault::Memory) => Err(Memory),
-        Err(OpFault::Wide(_)) => Ok(None),
+        Err(OpFault::Wide(_)) => unreachable!(),
     }
 }
 
-/// The greatest of two signals.
-fn greatest_of(x: &Signal<Kleene>, y: &Signal<Kleene>) -> Result<Option<Signal<Kleene>>, Memory>
-    requires left { IsFit (of_knots ⟦<Kleene as Shape>⟧) x.now }
-    requires right { IsFit (of_knots ⟦<Kleene as Shape>⟧) y.now }
-    requires along { IsAlong ⟦<Kleene as Shape>⟧ x.now y.now }
-    ensures { IfOk result (λ o. IfSome o (IsBestOf ⟦<Kleene as Shape>⟧ false x.now y.now)) }
+/// The greatest of two chains.
+fn greatest_of(x: &Pieces<Kleene>, y: &Pieces<Kleene>) -> Result<Pieces<Kleene>, Memory>
+    requires { MayMeet (of_pieces ⟦<Kleene as Shape>⟧) x.now y.now }
+    ensures { IfOk result (IsBestOf ⟦<Kleene as Shape>⟧ false x.now y.now) }
 {
     match upper(x, y) {
-        Ok(both) => Ok(Some(both)),
+        Ok(both) => Ok(both),
         Err(OpFault::Memory) => Err(Memory),
-        Err(OpFault::Wide(_)) => Ok(None),
+        Err(OpFault::Wide(_)) => unreachable!(),
     }
 }
 
-/// The signal that is the best where both are.
-fn best_of(
-    best: bool,
-    x: &Signal<Kleene>,
-    y: &Signal<Kleene>,
-) -> Result<Option<Signal<Kleene>>, Memory>
-    requires left { IsFit (of_knots ⟦<Kleene as Shape>⟧) x.now }
-    requires right { IsFit (of_knots ⟦<Kleene as Shape>⟧) y.now }
-    requires along { IsAlong ⟦<Kleene as Shape>⟧ x.now y.now }
-    ensures { IfOk result (λ o. IfSome o (IsBestOf ⟦<Kleene as Shape>⟧ best x.now y.now)) }
+/// The chain that is the best where both are.
+fn best_of(best: bool, x: &Pieces<Kleene>, y: &Pieces<Kleene>) -> Result<Pieces<Kleene>, Memory>
+    requires { MayMeet (of_pieces ⟦<Kleene as Shape>⟧) x.now y.now }
+    ensures { IfOk result (IsBestOf ⟦<Kleene as Shape>⟧ best x.now y.now) }
 {
     if best {
         return least_of(x, y);
@@ -185,16 +174,15 @@ fn add_touching(run: Run, region: Region, gained: &mut Vec<Run>) -> Result<(), M
     Ok(())
 }
 
-/// Adds the runs about a region in which a signal of the node at place `k` is less than the best.
+/// Adds the runs about a region in which a chain of the node at place `k` is less than the best.
 fn add_gained(
     alloc: Global,
     k: u32,
     best: bool,
-    x: &Signal<Kleene>,
+    x: &Pieces<Kleene>,
     region: Region,
     gained: &mut Vec<Run>,
 ) -> Result<(), Memory>
-    requires fit { IsFit (of_knots ⟦<Kleene as Shape>⟧) x.now }
     ensures { OnOk result (AddsShort ⟦<Kleene as Shape>⟧ k best x.now gained.old.items gained.new.items) }
 {
     let pieces = own_runs(alloc, k, best, x)?;
@@ -213,7 +201,8 @@ fn runs_in(runs: &[Vec<Run>], k: u32) -> &[Run]
     &runs[k as usize]
 }
 
-/// Puts the signal of the node at place `k`, by one of it that is known already; between which times it loses by that one.
+/// Puts the best of `made` and of a chain by the node's own runs at place `k`: neither is less certain than the node is without the cell
+/// that is tried. Adds the runs in which that is less than the best. Gives the region in which `made` is, where no run of the node has it.
 fn put_lost(
     alloc: Global,
     formula: &Formula,
@@ -221,8 +210,8 @@ fn put_lost(
     ground: &Ground,
     runs: &[Vec<Run>],
     k: u32,
-    made: &Signal<Kleene>,
-    done: &mut Vec<Signal<Kleene>>,
+    made: &Pieces<Kleene>,
+    done: &mut Vec<Pieces<Kleene>>,
     gained: &mut Vec<Run>,
 ) -> Result<Option<Region>, Memory>
     requires some { 0 < length trace.now.rows }
@@ -252,9 +241,7 @@ fn put_lost(
     };
     let look = look_at(formula, above_at(ground, k));
     let own = own_at(alloc, trace, ground, here, k, region, look)?;
-    let Some(both) = best_of(best, made, &own)? else {
-        return Ok(None);
-    };
+    let both = best_of(best, made, &own)?;
     add_gained(alloc, k, best, &both, region, gained)?;
     done[k as usize] = both;
     Ok(Some(region))
@@ -314,7 +301,7 @@ fn beside_in(node: &Node, k: u32) -> Beside
     }
 }
 
-/// Puts a signal of the node at a place that is no less certain, where there is such a place.
+/// Puts a chain of the operand beside, by its runs, where there is one.
 fn put_other(
     alloc: Global,
     trace: &Trace,
@@ -323,7 +310,7 @@ fn put_other(
     other: Option<u32>,
     region: Region,
     look: u32,
-    done: &mut Vec<Signal<Kleene>>,
+    done: &mut Vec<Pieces<Kleene>>,
 ) -> Result<(), Memory>
     requires some { 0 < length trace.now.rows }
     requires signs { length ground.now.signs.items ≡ length done.old.items }
@@ -331,7 +318,7 @@ fn put_other(
     requires whole { AreWhole ⟦<Kleene as Shape>⟧ trace.now done.old.items }
     ensures count { length done.new.items ≡ length done.old.items }
     ensures whole { AreWhole ⟦<Kleene as Shape>⟧ trace.now done.new.items }
-    ensures stay { (i : ℕ) (x : List (Knot Kleene)) → slice_get done.new.items i ≡ Some x → (slice_get done.old.items i ≡ Some x)
+    ensures stay { (i : ℕ) (x : Chain Kleene) → slice_get done.new.items i ≡ Some x → (slice_get done.old.items i ≡ Some x)
         ⊎ (other ≡ Some i) }
     ensures best { OnOk result ((i : ℕ) → other ≡ Some i → i < length done.old.items → (nodes : List ANode) (all : List Item) (marks : List Bool) (c : ℕ)
         → AreLostEach nodes trace.now all marks c ground.now.signs.items runs.now
@@ -343,12 +330,13 @@ fn put_other(
     if i as usize >= done.len() {
         return Ok(());
     }
-    let signal = own_at(alloc, trace, ground, runs_in(runs, i), i, region, look)?;
-    done[i as usize] = signal;
+    let own = own_at(alloc, trace, ground, runs_in(runs, i), i, region, look)?;
+    done[i as usize] = own;
     Ok(())
 }
 
-/// Takes what is lost of the node at place `k` on to the one at place `j`.
+/// Makes the chain of the node at place `j` of those of its operands, one of which stands at place `k`, and gives the region that is lost
+/// of it; none where that node is no operand, or where nothing more is lost.
 fn taken_on(
     alloc: Global,
     formula: &Formula,
@@ -358,7 +346,7 @@ fn taken_on(
     k: u32,
     j: u32,
     region: Region,
-    done: &mut Vec<Signal<Kleene>>,
+    done: &mut Vec<Pieces<Kleene>>,
     gained: &mut Vec<Run>,
 ) -> Result<Option<Region>, Memory>
     requires some { 0 < length trace.now.rows }
@@ -393,21 +381,21 @@ fn taken_on(
     let made = match of_node(alloc, from, to, node, done) {
         Ok(made) => made,
         Err(OpFault::Memory) => return Err(Memory),
-        Err(OpFault::Wide(_)) => return Ok(None),
+        Err(OpFault::Wide(_)) => unreachable!(),
     };
-    // For the proof alone: that it is a signal is a clause of `len`.
+    // For the proof alone: that the chain is normal is a clause of `len`.
     let _ = made.len();
     put_lost(alloc, formula, trace, ground, runs, j, &made, done, gained)
 }
 
-/// Whether the signal is less than certainly false at its first time.
-fn begins_short(x: &Signal<Kleene>) -> bool
-    ensures { IsTrue result → (t : Rational) → t ≈ start x.now → IsOn ⟦<Kleene as Shape>⟧ x.now t }
+/// Whether the chain is more than certainly false at its first time.
+fn begins_short(x: &Pieces<Kleene>) -> bool
+    requires { IsClosed ⟦<Kleene as Shape>⟧ x.now }
+    ensures { IsTrue result → (t : Rational) → t ≈ x.now.from.at → IsOn ⟦<Kleene as Shape>⟧ x.now t }
 {
-    // For the proof alone: that it is a signal is a clause of `len`.
+    // For the proof alone: that the chain is normal is a clause of `len`.
     let _ = x.len();
-    let knot = x.knot(0);
-    is_on(&knot.point)
+    is_on(&x.piece(0).shape)
 }
 
 /// Whether a place is above one, and not above another.
@@ -426,7 +414,7 @@ fn loses_root(
     runs: &[Vec<Run>],
     from: u32,
     begun: Region,
-    done: &mut Vec<Signal<Kleene>>,
+    done: &mut Vec<Pieces<Kleene>>,
     gained: &mut Vec<Run>,
 ) -> Result<bool, Memory>
     requires some { 0 < length trace.now.rows }
@@ -482,17 +470,6 @@ fn is_leaf(formula: &Formula, i: u32) -> bool
     }
 }
 
-/// All of so many runs.
-fn all_of(runs: &[Run]) -> Pick {
-    Pick {
-        from: 0,
-        dense: runs.len(),
-        low: 0,
-        high: 0,
-        to: runs.len(),
-    }
-}
-
 /// The place above the one at place `k`, as far as it is known.
 fn above_at(ground: &Ground, k: u32) -> u32 {
     if k as usize >= ground.above.len() {
@@ -501,18 +478,18 @@ fn above_at(ground: &Ground, k: u32) -> u32 {
     ground.above[k as usize]
 }
 
-/// Puts a signal behind the others.
-fn add_signal(done: &mut Vec<Signal<Kleene>>, signal: Signal<Kleene>) -> Result<(), Memory>
-    ensures { OnOk result (done.new.items ≡ done.old.items ++ signal ∷ []) }
+/// Puts a chain behind the others.
+fn add_chain(done: &mut Vec<Pieces<Kleene>>, chain: Pieces<Kleene>) -> Result<(), Memory>
+    ensures { OnOk result (done.new.items ≡ done.old.items ++ chain ∷ []) }
 {
-    if done.push(signal).is_err() {
+    if done.push(chain).is_err() {
         return Err(Memory);
     }
     Ok(())
 }
 
-/// A signal for each node, which says nothing of it yet.
-fn blank(alloc: Global, formula: &Formula, trace: &Trace) -> Result<Vec<Signal<Kleene>>, Memory>
+/// A chain for each node, which says nothing of it yet.
+fn blank(alloc: Global, formula: &Formula, trace: &Trace) -> Result<Vec<Pieces<Kleene>>, Memory>
     requires some { 0 < length trace.now.rows }
     ensures count { IfOk result (λ xs. length xs.items ≡ length formula.now.nodes) }
     ensures whole { IfOk result (λ xs. AreWhole ⟦<Kleene as Shape>⟧ trace.now xs.items) }
@@ -528,8 +505,8 @@ fn blank(alloc: Global, formula: &Formula, trace: &Trace) -> Result<Vec<Signal<K
     };
     let mut done = Vec::new(alloc);
     for k in 0..formula.len() {
-        let signal = few(alloc, &none, view, all_of(&none))?;
-        add_signal(&mut done, signal)?;
+        let chain = few(alloc, &none, view, all_of(&none))?;
+        add_chain(&mut done, chain)?;
     }
     Ok(done)
 }
@@ -544,7 +521,7 @@ fn is_needed(
     runs: &[Vec<Run>],
     marks: &[bool],
     c: usize,
-    done: &mut Vec<Signal<Kleene>>,
+    done: &mut Vec<Pieces<Kleene>>,
     gained: &mut Vec<Run>,
 ) -> Result<bool, Memory>
     requires some { 0 < length trace.now.rows }
@@ -567,22 +544,11 @@ fn is_needed(
     if !is_leaf(formula, i) {
         return Ok(false);
     }
-    // For the proof alone: where the trace ends.
-    let _ = last(trace);
-    let view = view_at(trace, ground, i);
-    if cell.holds != view.best {
+    let best = sign_of(ground, i);
+    if cell.holds != best {
         return Ok(false);
     }
-    let gone = gone_among(
-        alloc,
-        cells,
-        marks,
-        i,
-        view.best,
-        c,
-        Places { from: c, to: c + 1 },
-    )?;
-    let made = few(alloc, &gone, view, all_of(&gone))?;
+    let made = chain_without(alloc, trace, cells, marks, i, best, c)?;
     let Some(region) = put_lost(alloc, formula, trace, ground, runs, i, &made, done, gained)? else {
         return Ok(false);
     };
@@ -622,7 +588,7 @@ fn mark_lost(
     ground: &Ground,
     c: usize,
     runs: &mut Vec<Vec<Run>>,
-    done: &mut Vec<Signal<Kleene>>,
+    done: &mut Vec<Pieces<Kleene>>,
     marks: &mut Vec<bool>,
 ) -> Result<(), Memory>
     requires some { 0 < length trace.now.rows }
@@ -729,13 +695,13 @@ fn mark_from(
 
 /// Marks cells at `tries` places before `left` that are needed.
 ///
-/// `nodes` are the signals of what is certain by cells that cover no less than those that stay, where they are at hand.
+/// `nodes` are the chains of what is certain by cells that cover no less than those that stay, where they are at hand.
 pub(crate) fn mark_upward(
     alloc: Global,
     formula: &Formula,
     trace: &Trace,
     cells: &Cells,
-    nodes: &Option<Evaluated<Kleene>>,
+    nodes: &Option<Chains<Kleene>>,
     left: usize,
     tries: usize,
     marks: &mut Vec<bool>,
@@ -755,7 +721,7 @@ pub(crate) fn mark_upward(
     };
     match nodes {
         Some(nodes) => {
-            let runs = runs_of(alloc, formula, trace, nodes, &ground.signs)?;
+            let runs = runs_of(alloc, formula, nodes, &ground.signs)?;
             mark_from(
                 alloc, formula, trace, cells, &ground, runs, left, tries, marks,
             )

@@ -14,3 +14,5 @@ pub mod Windowed
 pub mod UntilLemmas
 mod ChildrenKept
 pub mod PlainAtoms
+pub mod SignalsAndChains
+pub mod PlainChains

@@ -15,9 +15,8 @@ use Rattle.stl_syntax.specs.declared.node.Node.{Node}
 use Rattle.stl_syntax.specs.declared.node.Node.TheVariants.{Atom as Leaf}
 use Rattle.offline_eval.specs.Forms.{of_knots}
 use Rattle.offline_eval.specs.Inputs.{is_atom, atoms_before, TellAtoms, TellAtomsBelow}
-use Rattle.offline_eval.specs.Making.{AreSound, TellsValue}
-use Rattle.offline_eval.specs.Places.{reach_before, TakesOwn, PlaceStaysSound}
-use Rattle.offline_eval.proofs.Sound.{sound_more}
+use Rattle.offline_eval.specs.Making.{AreSound, IsSound, TellsValue}
+use Rattle.offline_eval.specs.Places.{TakesOwn}
 
 -- what holds anyway holds where an answer is Ok
 pub on_ok : {A E : Type 0} (r : Result A E) {X : Type 0} → X → OnOk r X
@@ -71,13 +70,12 @@ module _ {P : Type 0} where
   other_takes nodes i n old at other all left = left ∙ ap (λ n. drop n all) (sym (atoms_on_other nodes i n at other))
 
 module _ {P : Type 0} (shape : ShapeOf P) where
-  -- the signal that an atom takes is sound
-  pub atom_sound : (from to : ℕ) (nodes : List Node) (i : ℕ) (x : List (Knot P)) (old new xs : List (List (Knot P))) → old ≡ x ∷ new
-      → AreSound (of_knots shape) from to 0 old → PlaceStaysSound shape from to nodes i xs x
-  atom_sound from to nodes i x old new xs e sound all = sound_more (of_knots shape) from to 0 (reach_before nodes (i + 1)) x (omega arith)
-      (sound 0 x (subst (λ o. slice_get o 0 ≡ Some x) (sym e) refl))
+  -- a sound signal stands first
+  pub first_sound : (from to : ℕ) (x : List (Knot P)) (old new : List (List (Knot P))) → old ≡ x ∷ new → AreSound (of_knots shape) from to 0 old
+      → IsSound (of_knots shape) from to 0 x
+  first_sound from to x old new e sound = sound 0 x (subst (λ o. slice_get o 0 ≡ Some x) (sym e) refl)
 
-  -- and tells the atom
+  -- the signal that an atom takes tells the atom
   pub atom_told : {x : List (Knot P)} {new : List (List (Knot P))} (nodes : List Node) (i : ℕ) (a : Atom) (old all : List (List (Knot P))) (s : Setting)
       → slice_get nodes i ≡ Some (Leaf a) → subformula nodes i ≡ tree_of (subformula nodes) i (Leaf a)
       → old ≡ x ∷ new → old ≡ drop (atoms_before nodes i) all → TellAtoms shape nodes all s

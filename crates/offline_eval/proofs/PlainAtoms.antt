@@ -38,7 +38,8 @@ placed_at (Leaf b ∷ nodes) (l ∷ ks) (suc i) a k at h =
 placed_at (n ∷ nodes) ks zero a k at h = absurd (let e = at in cc)
 placed_at (n ∷ nodes) ks (suc i) a k at h = placed_at nodes ks i a k at h
 
-got_mapped : {A B : Type 0} (f : A → B) (xs : List A) (i : ℕ) (x : A) → slice_get xs i ≡ Some x → slice_get (map f xs) i ≡ Some (f x)
+-- an element of a mapped list
+pub got_mapped : {A B : Type 0} (f : A → B) (xs : List A) (i : ℕ) (x : A) → slice_get xs i ≡ Some x → slice_get (map f xs) i ≡ Some (f x)
 got_mapped f [] i x h = absurd (let e = h in cc)
 got_mapped f (y ∷ xs) zero x h = ap (λ z. Some (f z)) (same_Some _ _ h)
 got_mapped f (y ∷ xs) (suc i) x h = got_mapped f xs i x h

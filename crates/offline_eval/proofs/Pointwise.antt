@@ -13,12 +13,13 @@ use Rattle.value_laws.specs.Members.{ShapeLaws}
 use Rattle.pl_signal.specs.declared.faults.WidePair.TheVariants.{Cross, Value}
 use Rattle.pl_signal.specs.declared.faults.OpFault.{OpFault}
 use Rattle.pl_signal.specs.declared.faults.OpFault.TheVariants as F
+use Rattle.pl_signal.specs.declared.joining.Side.TheVariants.{Least, Greatest}
+use Rattle.pl_signal.specs.Joining.{ChosenOf}
 use Rattle.pl_signal.specs.Wide.{HasCause}
 use Rattle.stl_syntax.specs.Formula.{negation, conjunction, disjunction, implication}
 use Rattle.stl_syntax.specs.SupInf.{SupInf}
 use Rattle.pieces.specs.Negating.{Negated}
 pub use Rattle.pieces.proofs.SignalChains.{err_same}
-use Rattle.signal_ops.specs.Pointwise.{LeastOf, GreatestOf}
 use Rattle.offline_eval.specs.Forms.{Form}
 use Rattle.offline_eval.specs.Making.{StaysSound, StaySound, TellsOne, TellsTwo, FaultOfTwo}
 use Rattle.offline_eval.proofs.Along.{tells_along}
@@ -38,12 +39,12 @@ module _ {X P : Type 0} {form : Form X P} (laws : FormLaws form) where
 
   -- so is the least of two
   pub least_of_bounded : (x y : X) → form.IsLimited x → form.IsLimited y → (t : Rational) (v : Extended)
-      → LeastOf (form.IsWorth x) (form.IsWorth y) t v → IsBounded (2 ^ 31) v
+      → ChosenOf Least (form.IsWorth x) (form.IsWorth y) t v → IsBounded (2 ^ 31) v
   least_of_bounded x y l m t v (a, b, f, g, h) = least_bounded (2 ^ 31) a b v h (laws.bounded x l t a f) (laws.bounded y m t b g)
 
   -- and the greatest
   pub greatest_of_bounded : (x y : X) → form.IsLimited x → form.IsLimited y → (t : Rational) (v : Extended)
-      → GreatestOf (form.IsWorth x) (form.IsWorth y) t v → IsBounded (2 ^ 31) v
+      → ChosenOf Greatest (form.IsWorth x) (form.IsWorth y) t v → IsBounded (2 ^ 31) v
   greatest_of_bounded x y l m t v (a, b, f, g, h) = greatest_bounded (2 ^ 31) a b v h (laws.bounded x l t a f) (laws.bounded y m t b g)
 
   -- a signal that tells a function is worth at a time of the domain just what the function says
@@ -65,27 +66,27 @@ module _ {X P : Type 0} {form : Form X P} (laws : FormLaws form) where
 
     -- so is the least of two
     pub both_sound : (x y r : X) → form.IsLimited x → form.IsLimited y
-        → form.Tells (LeastOf (form.IsWorth x) (form.IsWorth y)) (form.start x) (form.stop x) r
+        → form.Tells (ChosenOf Least (form.IsWorth x) (form.IsWorth y)) (form.start x) (form.stop x) r
         → ((p : P) → form.HasShape r p → form.HasShape x p ⊎ form.HasShape y p) → StaySound form 0 x y r
     both_sound x y r l m made shapes =
-        let is = laws.told (LeastOf (form.IsWorth x) (form.IsWorth y)) (form.start x) (form.stop x) r made in
+        let is = laws.told (ChosenOf Least (form.IsWorth x) (form.IsWorth y)) (form.start x) (form.stop x) r made in
         stay_sound form kind 0 x y r (record {
           begins = is.begins;
           ends = is.ends;
-          limited = limited_along laws (LeastOf (form.IsWorth x) (form.IsWorth y)) x r l made (least_of_bounded x y l m);
+          limited = limited_along laws (ChosenOf Least (form.IsWorth x) (form.IsWorth y)) x r l made (least_of_bounded x y l m);
           moved = λ p h m. (p, shapes p h, not_moved (form.shape.base p) (form.shape.base p) refl);
         })
 
     -- and the greatest
     pub either_sound : (x y r : X) → form.IsLimited x → form.IsLimited y
-        → form.Tells (GreatestOf (form.IsWorth x) (form.IsWorth y)) (form.start x) (form.stop x) r
+        → form.Tells (ChosenOf Greatest (form.IsWorth x) (form.IsWorth y)) (form.start x) (form.stop x) r
         → ((p : P) → form.HasShape r p → form.HasShape x p ⊎ form.HasShape y p) → StaySound form 0 x y r
     either_sound x y r l m made shapes =
-        let is = laws.told (GreatestOf (form.IsWorth x) (form.IsWorth y)) (form.start x) (form.stop x) r made in
+        let is = laws.told (ChosenOf Greatest (form.IsWorth x) (form.IsWorth y)) (form.start x) (form.stop x) r made in
         stay_sound form kind 0 x y r (record {
           begins = is.begins;
           ends = is.ends;
-          limited = limited_along laws (GreatestOf (form.IsWorth x) (form.IsWorth y)) x r l made (greatest_of_bounded x y l m);
+          limited = limited_along laws (ChosenOf Greatest (form.IsWorth x) (form.IsWorth y)) x r l made (greatest_of_bounded x y l m);
           moved = λ p h m. (p, shapes p h, not_moved (form.shape.base p) (form.shape.base p) refl);
         })
 
@@ -97,10 +98,10 @@ module _ {X P : Type 0} {form : Form X P} (laws : FormLaws form) where
       (λ t v i. value_of (SupInf p s) s.from s.to x t (opposite v) tells i)
 
   -- the least tells `and`
-  pub told_both : (x y r : X) → form.Tells (LeastOf (form.IsWorth x) (form.IsWorth y)) (form.start x) (form.stop x) r → TellsTwo form conjunction x y r
+  pub told_both : (x y r : X) → form.Tells (ChosenOf Least (form.IsWorth x) (form.IsWorth y)) (form.start x) (form.stop x) r → TellsTwo form conjunction x y r
   told_both x y r made s p q ends left right =
       let is = laws.told (SupInf p s) s.from s.to x left in
-      tells_along laws (LeastOf (form.IsWorth x) (form.IsWorth y)) (SupInf (conjunction p q) s) (form.start x) (form.stop x) s.from s.to r made
+      tells_along laws (ChosenOf Least (form.IsWorth x) (form.IsWorth y)) (SupInf (conjunction p q) s) (form.start x) (form.stop x) s.from s.to r made
       is.begins is.ends
       (λ t v i. (
         λ (a, b, f, g, h). (a, b, (value_of (SupInf p s) s.from s.to x t a left i).0 f, (value_of (SupInf q s) s.from s.to y t b right i).0 g, h),
@@ -108,10 +109,10 @@ module _ {X P : Type 0} {form : Form X P} (laws : FormLaws form) where
       ))
 
   -- the greatest tells `or`
-  pub told_either : (x y r : X) → form.Tells (GreatestOf (form.IsWorth x) (form.IsWorth y)) (form.start x) (form.stop x) r → TellsTwo form disjunction x y r
+  pub told_either : (x y r : X) → form.Tells (ChosenOf Greatest (form.IsWorth x) (form.IsWorth y)) (form.start x) (form.stop x) r → TellsTwo form disjunction x y r
   told_either x y r made s p q ends left right =
       let is = laws.told (SupInf p s) s.from s.to x left in
-      tells_along laws (GreatestOf (form.IsWorth x) (form.IsWorth y)) (SupInf (disjunction p q) s) (form.start x) (form.stop x) s.from s.to r made
+      tells_along laws (ChosenOf Greatest (form.IsWorth x) (form.IsWorth y)) (SupInf (disjunction p q) s) (form.start x) (form.stop x) s.from s.to r made
       is.begins is.ends
       (λ t v i. (
         λ (a, b, f, g, h). (a, b, (value_of (SupInf p s) s.from s.to x t a left i).0 f, (value_of (SupInf q s) s.from s.to y t b right i).0 g, h),

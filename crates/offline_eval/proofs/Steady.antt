@@ -1,20 +1,19 @@
--- A signal that is one shape over the whole domain.
-use Rattle.std.proofs.Common.{◌≡◌, ◌⊎◌, inl, inr, ℕ, pos, ◌<ℤ◌, ◌≤ℤ◌, Bool, true, false, ◌<◌, ◌≤◌, ◌^◌, List, [], ◌∷◌, refl, ap, ◌∙◌, sym, subst, arith}
+-- A chain that is one shape over the whole domain.
+use Rattle.std.proofs.Common.{◌≡◌, ◌⊎◌, inl, inr, ℕ, pos, ◌≤ℤ◌, Bool, true, false, ◌<◌, ◌≤◌, ◌^◌, [], refl, ap, ◌∙◌, sym, subst, arith}
 use Rattle.std.proofs.lemmas.Int.{ints}
 use Rattle.rational.specs.Time.{Rational, whole, ◌≤ʳ◌, ◌<ʳ◌, ◌≈◌}
 use Rattle.std.specs.Prelude.{MatchBool}
 use Rattle.rational.specs.Affine.{IsBounded}
 use Rattle.rational.specs.Extended.{Extended, Affine, value_at, ◌≈ᵉ◌, Passes}
-use Rattle.rational.proofs.Order.{same_trans, same_refl, same_of_le, le_or_lt, le_trans, lt_of_le_of_lt, lt_of_lt_of_le, le_of_same, ge_of_same}
+use Rattle.rational.proofs.Order.{same_refl, same_of_le, le_or_lt, le_trans, le_of_same, ge_of_same}
 use Rattle.rational.specs.Places.{Before, Same}
-use Rattle.rational.proofs.Shift.{le_whole, lt_whole}
+use Rattle.rational.proofs.Shift.{le_whole}
 use Rattle.rational.proofs.AffineLemmas.{bounded_same, passes, same_symᵉ, same_transᵉ, value_same}
 use Rattle.rational.proofs.Mixed.{tick_within}
 use Rattle.frac128.specs.Value.{value}
 use Rattle.frac128.specs.declared.frac.Frac.{Frac}
 use Rattle.value_laws.specs.Members.{ShapeOf}
-use Rattle.pl_signal.specs.declared.knot.Knot.{Knot}
-use Rattle.pl_signal.specs.Knots.{start, stop, HasShape, IsSignal, IsWorth}
+use Rattle.pl_signal.specs.Knots.{HasShape}
 use Rattle.pl_signal.specs.Building.{GoesOn}
 use Rattle.pl_signal.specs.Moves.{Tells}
 use Rattle.pieces.specs.Building as growing
@@ -32,17 +31,6 @@ use Rattle.offline_eval.proofs.Sound.{reached_zero}
 use Rattle.pl_signal.proofs.Telling.{IsFunction, told}
 use Rattle.pieces.proofs.Telling.{tells_none, tells_on}
 use Rattle.pieces.proofs.Telling.{told as of_chain}
-
--- a signal of one instant
-abbrev pub instant : {P : Type 0} → Frac → P → List (Knot P)
-instant at p = record { time = at; point = p; after = p } ∷ []
-
--- ticks are ordered as their numbers
-pub tick_order : {a b : Rational} (n m : ℕ) → n < m → a ≈ whole (pos n) → b ≈ whole (pos m) → a <ʳ b
-tick_order {a} {b} n m h e f = lt_of_le_of_lt (le_of_same e) (lt_of_lt_of_le (lt_whole (below n m h)) (ge_of_same f))
-  where
-    below : (n m : ℕ) → n < m → pos n <ℤ pos m
-    below n m h = omega (arith, ints, h)
 
 -- just before a tick comes before just after one that is no earlier
 pub tick_places : {a b : Rational} (n m : ℕ) → n ≤ m → a ≈ whole (pos n) → b ≈ whole (pos m) → Before (before a) (after b)
@@ -66,52 +54,7 @@ module _ {P : Type 0} (shape : ShapeOf P) where
     one = λ t v w a b. same_transᵉ v (value_at (shape.function p) t) w a (same_symᵉ w (value_at (shape.function p) t) b);
   }
 
-  instant_worth : (at : Frac) (p : P) (t : Rational) (v : Extended) → IsWorth shape (instant at p) t v → Passes (shape.function p) t v
-  instant_worth at p t v (inl w) = w.worth
-  instant_worth at p t v (inr (inl w)) = absurd w
-  instant_worth at p t v (inr (inr w)) = absurd w
-
-  instant_shape : (at : Frac) (p q : P) → HasShape (instant at p) q → q ≡ p
-  instant_shape at p q (inl e) = e
-  instant_shape at p q (inr (inl e)) = e
-  instant_shape at p q (inr (inr e)) = absurd e
-
-  -- where the domain is one instant
-  pub steady_once : (r : List (Knot P)) (at : Frac) (p : P) (from to : Rational) → IsSignal shape r → r ≡ instant at p → value at ≈ from → from ≈ to
-      → Tells shape (Passes (shape.function p)) from to r
-  steady_once r at p from to signal e begins ends =
-      told shape (Passes (shape.function p)) from to r (line_is_function p)
-      (record { signal = signal; worth = λ t v w. instant_worth at p t v (subst (λ r. IsWorth shape r t v) e w) })
-      (subst (λ r. start r ≈ from) (sym e) begins) (subst (λ r. stop r ≈ to) (sym e) (same_trans begins ends))
-
-  -- its one shape
-  pub steady_once_shapes : (r : List (Knot P)) (at : Frac) (p : P) → r ≡ instant at p → (q : P) → HasShape r q → q ≡ p
-  steady_once_shapes r at p e q h = instant_shape at p q (subst (λ r. HasShape r q) e h)
-
-  -- where it is longer
-  pub steady_twice : (old new : List (Knot P)) (at till : Frac) (p : P) (from to : Rational) → old ≡ instant at p → GoesOn shape old p till p new
-      → value at ≈ from → value till ≈ to → Tells shape (Passes (shape.function p)) from to new
-  steady_twice old new at till p from to e on begins ends =
-      told shape (Passes (shape.function p)) from to new (line_is_function p) (record { signal = on.signal; worth = λ t v w. by_part t v ((on.worth t v).0 w) })
-      (subst (λ s. s ≈ from) (sym on.begins) (subst (λ r. start r ≈ from) (sym e) begins)) (subst (λ s. s ≈ to) (sym on.ends) ends)
-    where
-      by_part : (t : Rational) (v : Extended) → IsWorth shape old t v ⊎ ((stop old <ʳ t) × (t <ʳ value till) × Passes (shape.function p) t v)
-          ⊎ ((t ≈ value till) × Passes (shape.function p) t v) → Passes (shape.function p) t v
-      by_part t v (inl w) = instant_worth at p t v (subst (λ r. IsWorth shape r t v) e w)
-      by_part t v (inr (inl w)) = w.2
-      by_part t v (inr (inr w)) = w.1
-
-  -- its one shape
-  pub steady_twice_shapes : (old new : List (Knot P)) (at till : Frac) (p : P) → old ≡ instant at p → GoesOn shape old p till p new → (q : P)
-      → HasShape new q → q ≡ p
-  steady_twice_shapes old new at till p e on q h = by_part (on.shapes q h)
-    where
-      by_part : HasShape old q ⊎ (q ≡ p) ⊎ (q ≡ p) → q ≡ p
-      by_part (inl w) = instant_shape at p q (subst (λ r. HasShape r q) e w)
-      by_part (inr (inl w)) = w
-      by_part (inr (inr w)) = w
-
-  -- as a chain
+  -- the chain of one piece tells its shape
   pub steady_chain : (old new : Chain P) (at till : Frac) (p : P) (from to : Rational) → old ≡ record { from = before (value at); pieces = [] }
       → growing.GoesOn shape old (record { time = till; side = 1 }) p new → value at ≈ from → value till ≈ to
       → chains.Tells shape (Passes (shape.function p)) (before from) (after to) new

@@ -13,8 +13,9 @@ use Rattle.rational.proofs.TimeLemmas.{later_from, later_le, later_zero, within_
 use Rattle.rational.proofs.WindowLemmas.{sup_alike, sup_over_alike}
 use Rattle.value_laws.specs.Members.{ShapeLaws}
 use Rattle.pl_signal.specs.declared.faults.OpFault.{OpFault}
+use Rattle.pl_signal.specs.declared.joining.Side.TheVariants.{Least}
+use Rattle.pl_signal.specs.Joining.{ChosenOf}
 use Rattle.pl_signal.specs.Wide.{HasCause}
-use Rattle.signal_ops.specs.Pointwise.{LeastOf}
 use Rattle.pieces.specs.Windows.{SupAhead, InfAhead, SupBehind, InfBehind}
 use Rattle.rational.specs.UntilParts.{HasUntilToEnd, HasSinceFromStart, UntilIsComposed, SinceIsComposed}
 use Rattle.stl_syntax.specs.Formula.{Subformula, until, since}
@@ -234,17 +235,17 @@ module _ {X P : Type 0} {form : Form X P} (laws : FormLaws form) where
           → IsTold form (SupAhead (form.start y) (form.stop y) (form.IsWorth y) form.shape.lowest a b true true) (form.start y) (form.stop y) c
           → IsTold form (UntilOf form x y) (form.start x) (form.stop x) u
           → IsTold form (InfAhead (form.start u) (form.stop u) (form.IsWorth u) form.shape.highest 0 a true true) (form.start u) (form.stop u) d
-          → form.Tells (LeastOf (form.IsWorth c) (form.IsWorth d)) (form.start c) (form.stop c) r
+          → form.Tells (ChosenOf Least (form.IsWorth c) (form.IsWorth d)) (form.start c) (form.stop c) r
           → UntilIsComposed form.shape.lowest form.shape.highest (form.start x) (form.stop x) (form.IsWorth x) (form.IsWorth y)
           → form.Tells (λ t v. IsUntil form.shape.lowest form.shape.highest (Ahead from to a b true true t) F G t v) from to r
       until_told a b order within to_end kept made law =
-          tells_by_value (LeastOf (form.IsWorth c) (form.IsWorth d))
+          tells_by_value (ChosenOf Least (form.IsWorth c) (form.IsWorth d))
           (λ t v. IsUntil form.shape.lowest form.shape.highest (Ahead from to a b true true t) F G t v) (form.start c) (form.stop c) from to r made
           (same_trans least.begins (same_trans within.begins right.begins)) (same_trans least.ends (same_trans within.ends right.ends))
           (λ t v w. of_parts t v ((least.worth t v).0 w)) (λ t v w h k. one_sup form.shape.lowest v w h k)
         where
-          least : IsTold form (LeastOf (form.IsWorth c) (form.IsWorth d)) (form.start c) (form.stop c) r
-          least = laws.told (LeastOf (form.IsWorth c) (form.IsWorth d)) (form.start c) (form.stop c) r made
+          least : IsTold form (ChosenOf Least (form.IsWorth c) (form.IsWorth d)) (form.start c) (form.stop c) r
+          least = laws.told (ChosenOf Least (form.IsWorth c) (form.IsWorth d)) (form.start c) (form.stop c) r made
 
           begins : form.start y ≈ form.start x
           begins = same_trans right.begins (same_sym left.begins)
@@ -252,7 +253,7 @@ module _ {X P : Type 0} {form : Form X P} (laws : FormLaws form) where
           ends : form.stop y ≈ form.stop x
           ends = same_trans right.ends (same_sym left.ends)
 
-          of_parts : (t : Rational) (v : Extended) → Within (form.start c) (form.stop c) t × LeastOf (form.IsWorth c) (form.IsWorth d) t v
+          of_parts : (t : Rational) (v : Extended) → Within (form.start c) (form.stop c) t × ChosenOf Least (form.IsWorth c) (form.IsWorth d) t v
               → IsUntil form.shape.lowest form.shape.highest (Ahead from to a b true true t) F G t v
           of_parts t v (i, (p, q, f, g, one)) =
               let j : Within (form.start x) (form.stop x) t = within_same_ends (same_trans within.begins begins) (same_trans within.ends ends) i in
@@ -280,17 +281,17 @@ module _ {X P : Type 0} {form : Form X P} (laws : FormLaws form) where
           → IsTold form (SupBehind (form.start y) (form.stop y) (form.IsWorth y) form.shape.lowest a b true true) (form.start y) (form.stop y) c
           → IsTold form (SinceOf form x y) (form.start x) (form.stop x) u
           → IsTold form (InfBehind (form.start u) (form.stop u) (form.IsWorth u) form.shape.highest 0 (Some a) true true) (form.start u) (form.stop u) d
-          → form.Tells (LeastOf (form.IsWorth c) (form.IsWorth d)) (form.start c) (form.stop c) r
+          → form.Tells (ChosenOf Least (form.IsWorth c) (form.IsWorth d)) (form.start c) (form.stop c) r
           → SinceIsComposed form.shape.lowest form.shape.highest (form.start x) (form.stop x) (form.IsWorth x) (form.IsWorth y)
           → form.Tells (λ t v. IsSince form.shape.lowest form.shape.highest (Behind from to a b true true t) F G t v) from to r
       since_told a b order within from_start kept made law =
-          tells_by_value (LeastOf (form.IsWorth c) (form.IsWorth d))
+          tells_by_value (ChosenOf Least (form.IsWorth c) (form.IsWorth d))
           (λ t v. IsSince form.shape.lowest form.shape.highest (Behind from to a b true true t) F G t v) (form.start c) (form.stop c) from to r made
           (same_trans least.begins (same_trans within.begins right.begins)) (same_trans least.ends (same_trans within.ends right.ends))
           (λ t v w. of_parts t v ((least.worth t v).0 w)) (λ t v w h k. one_sup form.shape.lowest v w h k)
         where
-          least : IsTold form (LeastOf (form.IsWorth c) (form.IsWorth d)) (form.start c) (form.stop c) r
-          least = laws.told (LeastOf (form.IsWorth c) (form.IsWorth d)) (form.start c) (form.stop c) r made
+          least : IsTold form (ChosenOf Least (form.IsWorth c) (form.IsWorth d)) (form.start c) (form.stop c) r
+          least = laws.told (ChosenOf Least (form.IsWorth c) (form.IsWorth d)) (form.start c) (form.stop c) r made
 
           begins : form.start y ≈ form.start x
           begins = same_trans right.begins (same_sym left.begins)
@@ -298,7 +299,7 @@ module _ {X P : Type 0} {form : Form X P} (laws : FormLaws form) where
           ends : form.stop y ≈ form.stop x
           ends = same_trans right.ends (same_sym left.ends)
 
-          of_parts : (t : Rational) (v : Extended) → Within (form.start c) (form.stop c) t × LeastOf (form.IsWorth c) (form.IsWorth d) t v
+          of_parts : (t : Rational) (v : Extended) → Within (form.start c) (form.stop c) t × ChosenOf Least (form.IsWorth c) (form.IsWorth d) t v
               → IsSince form.shape.lowest form.shape.highest (Behind from to a b true true t) F G t v
           of_parts t v (i, (p, q, f, g, one)) =
               let j : Within (form.start x) (form.stop x) t = within_same_ends (same_trans within.begins begins) (same_trans within.ends ends) i in
@@ -597,7 +598,7 @@ module _ {X P : Type 0} {form : Form X P} (laws : FormLaws form) (s : Setting) (
     pub until_in : (a b : ℕ) (c d r : X) → a ≤ b → form.Tells (SupAhead (form.start y) (form.stop y) (form.IsWorth y) form.shape.lowest a b true true)
         (form.start y) (form.stop y) c → form.Tells (UntilOf form x y) (form.start x) (form.stop x) u
         → form.Tells (InfAhead (form.start u) (form.stop u) (form.IsWorth u) form.shape.highest 0 a true true) (form.start u) (form.stop u) d
-        → form.Tells (LeastOf (form.IsWorth c) (form.IsWorth d)) (form.start c) (form.stop c) r
+        → form.Tells (ChosenOf Least (form.IsWorth c) (form.IsWorth d)) (form.start c) (form.stop c) r
         → UntilIsComposed form.shape.lowest form.shape.highest (form.start x) (form.stop x) (form.IsWorth x) (form.IsWorth y)
         → form.Tells (SupInf (until a b p q) s) s.from s.to r
     until_in a b c d r order within to_end kept made law =
@@ -614,7 +615,7 @@ module _ {X P : Type 0} {form : Form X P} (laws : FormLaws form) (s : Setting) (
         → form.Tells (SupBehind (form.start y) (form.stop y) (form.IsWorth y) form.shape.lowest a b true true) (form.start y) (form.stop y) c
         → form.Tells (SinceOf form x y) (form.start x) (form.stop x) u
         → form.Tells (InfBehind (form.start u) (form.stop u) (form.IsWorth u) form.shape.highest 0 (Some a) true true) (form.start u) (form.stop u) d
-        → form.Tells (LeastOf (form.IsWorth c) (form.IsWorth d)) (form.start c) (form.stop c) r
+        → form.Tells (ChosenOf Least (form.IsWorth c) (form.IsWorth d)) (form.start c) (form.stop c) r
         → SinceIsComposed form.shape.lowest form.shape.highest (form.start x) (form.stop x) (form.IsWorth x) (form.IsWorth y)
         → form.Tells (SupInf (since a b p q) s) s.from s.to r
     since_in a b c d r order within from_start kept made law =

@@ -4,11 +4,14 @@ use Rattle.frac128.specs.Value.{value}
 use Rattle.value_laws.specs.Members.{ShapeOf}
 use Rattle.pl_signal.specs.declared.faults.WidePair.{WidePair}
 use Rattle.pl_signal.specs.declared.faults.WidePair.TheVariants.{Cross, Value}
+use Rattle.pl_signal.specs.declared.knot.Knot.{Knot}
+use Rattle.pl_signal.specs.Moves as moves
+use Rattle.pieces.specs.Chains.{Chain, IsWorth, stop}
 use Rattle.stl_syntax.specs.Formula.{subformula}
 use Rattle.stl_syntax.specs.SupInf.{Setting, SupInf}
 use Rattle.stl_syntax.specs.WideCause.{IsCrossingCause, IsValueCause}
 use Rattle.stl_syntax.specs.declared.node.Node.{Node}
-use Rattle.offline_eval.specs.Forms.{Form}
+use Rattle.offline_eval.specs.Forms.{Form, IsClosed}
 use Rattle.offline_eval.specs.declared.faults.EvalFault.{EvalFault}
 use Rattle.offline_eval.specs.declared.faults.EvalFault.TheVariants as F
 
@@ -27,3 +30,17 @@ module _ {P : Type 0} (shape : ShapeOf P) where
   abbrev pub IsFault : List Node → Setting → EvalFault P → Type 0
   IsFault nodes s F.Memory = Unit {0}
   IsFault nodes s (F.Wide c) = (c.node < length nodes) × IsCauseAt nodes s c.node c.pair
+
+module _ {P : Type 0} (shape : ShapeOf P) where
+  -- each of the chains is closed
+  abbrev pub AreClosed : List (Chain P) → Type 0
+  AreClosed chains = (k : ℕ) (c : Chain P) → slice_get chains k ≡ Some c → IsClosed shape c
+
+  -- the signal is worth what the chain is, from its first time to its last one
+  abbrev pub IsSignalOf : Chain P → List (Knot P) → Type 0
+  IsSignalOf c x = moves.Tells shape (IsWorth shape c) c.from.at (stop c).at x
+
+  -- the signals are those of the chains
+  pub record AreSignalsOf (chains : List (Chain P)) (signals : List (List (Knot P))) : Type 0 where
+    pub count : length signals ≡ length chains
+    pub each : (k : ℕ) (c : Chain P) (x : List (Knot P)) → slice_get chains k ≡ Some c → slice_get signals k ≡ Some x → IsSignalOf c x

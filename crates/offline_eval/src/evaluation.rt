@@ -1,22 +1,18 @@
-//! The evaluation of a formula.
-ghost use Rattle.std.specs.Prelude.{◌≡◌, ◌+◌, ◌<◌, ◌≤◌, All, Some, slice_get, length, OnOk, IfOk, IfErr};
+//! The evaluation of a formula by signals. It goes by way of chains of pieces, one for each node.
+ghost use Rattle.std.specs.Prelude.{◌≡◌, ◌+◌, ◌-◌, ◌<◌, ◌≤◌, All, Some, slice_get, length, IfOk, IfErr};
 ghost use Rattle.stl_syntax.specs.SupInf.{Setting};
-ghost use Rattle.stl_syntax.specs.declared.atom.Atom.{Atom};
-ghost use Rattle.stl_syntax.specs.declared.node.Node.TheVariants.{Atom as Leaf};
 ghost use Rattle.offline_eval.specs.Forms.{of_knots};
 ghost use Rattle.offline_eval.specs.Inputs.{atoms_before, IsInput, IsOver, TellAtoms};
 ghost use Rattle.offline_eval.specs.Evaluation.{IsFault, TellNodes};
-ghost use Rattle.offline_eval.specs.Making.{AreSound, fault_at};
-ghost use Rattle.offline_eval.specs.Places.{FaultOfPlace, PlaceStaysSound, TakesOwn, TellsPlace};
 
-use crate::nodes::of_node;
-use crate::{Atoms, EvalFault, WideCause};
+use crate::chains::{eval_chains, signals_of};
+use crate::{Atoms, EvalFault};
 use frac128::Steps;
-use pl_signal::{OpFault, Signal};
+use pl_signal::Signal;
 use std::alloc::Global;
 use std::marker::Model;
 use std::sync::ledger::Ledger;
-use stl_syntax::{Formula, Node};
+use stl_syntax::Formula;
 use value_laws::Shape;
 
 /// The signal of each node of a formula. Contracts see it as the list of the signals, each at the place of its node.
@@ -42,42 +38,18 @@ impl<P: Shape> Evaluated<P> {
     {
         &self.signals[node as usize]
     }
-}
 
-/// The signal of the node at place `i`; that of an atom is the next of `atoms`.
-pub(crate) fn next_signal<P: Shape>(
-    alloc: Global,
-    formula: &Formula,
-    i: u32,
-    from: u32,
-    to: u32,
-    done: &[Signal<P>],
-    atoms: &mut Atoms<P>,
-) -> Result<Signal<P>, OpFault<P>>
-    requires order { from ≤ to }
-    requires inside { i < length formula.now.nodes }
-    requires place { length done.now ≡ i }
-    requires left { (a : Atom) → slice_get formula.now.nodes i ≡ Some (Leaf a) → 0 < length atoms.old }
-    requires inputs { AreSound (of_knots P.Shape) from to 0 atoms.old }
-    requires sound { AreSound (of_knots P.Shape) from to 4294967295 done.now }
-    ensures rest { OnOk result (TakesOwn formula.now.nodes i atoms.old atoms.new) }
-    ensures sound { IfOk result (PlaceStaysSound P.Shape from to formula.now.nodes i done.now) }
-    ensures told { IfOk result (TellsPlace P.Shape from to formula.now.nodes i atoms.old done.now) }
-    ensures wide { IfErr result (FaultOfPlace P.Shape from to formula.now.nodes i done.now) }
-{
-    match formula.node(i) {
-        Node::Atom(_) => Ok(atoms.take()),
-        node => of_node(alloc, from, to, node, done),
-    }
-}
-
-/// The fault at its node.
-pub(crate) fn at_node<P>(node: u32, fault: OpFault<P>) -> EvalFault<P>
-    ensures { result ≡ fault_at node fault }
-{
-    match fault {
-        OpFault::Memory => EvalFault::Memory,
-        OpFault::Wide(pair) => EvalFault::Wide(WideCause { node, pair }),
+    /// The signal of the last node, the root; the others are let go of.
+    pub fn root(self) -> Signal<P>
+        requires { 0 < length self }
+        ensures { slice_get self (length self - 1) ≡ Some result }
+    {
+        let Evaluated { signals } = self;
+        let mut all = signals;
+        match all.pop() {
+            Some(signal) => signal,
+            None => unreachable!(),
+        }
     }
 }
 
@@ -108,21 +80,11 @@ pub fn eval<P: Shape, L: Ledger>(
         → TellAtoms P.Shape formula.now.nodes atoms s → IsFault P.Shape formula.now.nodes s e) }
     ensures steps { steps.new ≡ steps.old + 1 }
 {
-    steps.tick();
-    let mut rest = atoms;
-    let count = formula.len();
-    let Ok(mut done) = Vec::with_capacity(alloc, count as usize) else {
-        return Err(EvalFault::Memory);
-    };
-    for i in 0..count {
-        match next_signal(alloc, formula, i, from, to, &done, &mut rest) {
-            Ok(signal) => {
-                if done.push(signal).is_err() {
-                    return Err(EvalFault::Memory);
-                }
-            }
-            Err(fault) => return Err(at_node(i, fault)),
+    match eval_chains(alloc, formula, from, to, atoms, steps) {
+        Ok(chains) => {
+            let signals = signals_of(alloc, chains.list())?;
+            Ok(Evaluated { signals })
         }
+        Err(fault) => Err(fault),
     }
-    Ok(Evaluated { signals: done })
 }

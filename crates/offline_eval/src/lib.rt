@@ -1,11 +1,8 @@
-//! The signal of each node of a formula, from the signals of its atoms.
+//! The signal of each node of a formula, from the signals of its atoms. It is evaluated by chains of pieces.
 #![tactic(auto)]
 
 mod atoms;
-mod chain_connectives;
-mod chain_nodes;
-mod chain_untils;
-mod chain_windows;
+mod chains;
 mod connectives;
 mod evaluation;
 mod faults;
@@ -16,6 +13,7 @@ mod untils;
 mod windows;
 
 pub use atoms::Atoms;
+pub use chains::{Chains, eval_chains};
 pub use evaluation::{Evaluated, eval};
 pub use faults::{EvalFault, WideCause};
 pub use nodes::of_node;

@@ -1,20 +1,21 @@
-//! The signal of one node.
+//! The chain of one node.
 ghost use Rattle.std.specs.Prelude.{◌≡◌, ◌≤◌, false, length, IfOk, IfErr};
 ghost use Rattle.stl_syntax.specs.Formula.{HasChildrenBelow};
 ghost use Rattle.stl_syntax.specs.WellFormed.{HasBounds};
-ghost use Rattle.offline_eval.specs.Forms.{of_knots};
+ghost use Rattle.offline_eval.specs.Forms.{of_pieces};
 ghost use Rattle.offline_eval.specs.Inputs.{is_atom};
 ghost use Rattle.offline_eval.specs.Making.{AreSound, FaultOfNode, IsAhead, IsBehind, NodeStaysSound, TellsNode};
 
-use crate::connectives::{both, constant_signal, either, implied, negated};
+use crate::connectives::{both, constant_chain, either, implied, negated};
 use crate::untils::{bounded_since, bounded_until};
 use crate::windows::{inf_ahead, inf_behind, sup_ahead, sup_behind};
-use pl_signal::{OpFault, Signal};
+use pieces::Pieces;
+use pl_signal::OpFault;
 use std::alloc::Global;
 use stl_syntax::Node;
 use value_laws::Shape;
 
-/// The signal of a node that is no atom, from those of the nodes before it, whatever formulas these tell. The domain is from `from` to
+/// The chain of a node that is no atom, from those of the nodes before it, whatever formulas these tell. The domain is from `from` to
 /// `to`, both in ticks.
 ///
 /// # Errors
@@ -25,19 +26,19 @@ pub fn of_node<P: Shape>(
     from: u32,
     to: u32,
     node: &Node,
-    done: &[Signal<P>],
-) -> Result<Signal<P>, OpFault<P>>
+    done: &[Pieces<P>],
+) -> Result<Pieces<P>, OpFault<P>>
     requires order { from ≤ to }
     requires kind { is_atom node.now ≡ false }
     requires bounds { HasBounds node.now }
     requires children { HasChildrenBelow (length done.now) node.now }
-    requires sound { AreSound (of_knots P.Shape) from to 4294967295 done.now }
-    ensures sound { IfOk result (NodeStaysSound (of_knots P.Shape) from to node.now done.now) }
-    ensures told { IfOk result (TellsNode (of_knots P.Shape) from to node.now done.now) }
-    ensures wide { IfErr result (FaultOfNode (of_knots P.Shape) from to node.now done.now) }
+    requires sound { AreSound (of_pieces P.Shape) from to 4294967295 done.now }
+    ensures sound { IfOk result (NodeStaysSound (of_pieces P.Shape) from to node.now done.now) }
+    ensures told { IfOk result (TellsNode (of_pieces P.Shape) from to node.now done.now) }
+    ensures wide { IfErr result (FaultOfNode (of_pieces P.Shape) from to node.now done.now) }
 {
     match node {
-        Node::Const(holds) => Ok(constant_signal(alloc, from, to, *holds)?),
+        Node::Const(holds) => Ok(constant_chain(alloc, from, to, *holds)?),
         Node::Not(p) => Ok(negated(&done[*p as usize])?),
         Node::And(p, q) => both(&done[*p as usize], &done[*q as usize]),
         Node::Or(p, q) => either(&done[*p as usize], &done[*q as usize]),
@@ -49,20 +50,20 @@ pub fn of_node<P: Shape>(
     }
 }
 
-/// The signal of a node over a window ahead, from those of the nodes before it.
+/// The chain of a node over a window ahead, from those of the nodes before it.
 fn of_future<P: Shape>(
     from: u32,
     to: u32,
     node: &Node,
-    done: &[Signal<P>],
-) -> Result<Signal<P>, OpFault<P>>
+    done: &[Pieces<P>],
+) -> Result<Pieces<P>, OpFault<P>>
     requires kind { IsAhead node.now }
     requires bounds { HasBounds node.now }
     requires children { HasChildrenBelow (length done.now) node.now }
-    requires sound { AreSound (of_knots P.Shape) from to 4294967295 done.now }
-    ensures sound { IfOk result (NodeStaysSound (of_knots P.Shape) from to node.now done.now) }
-    ensures told { IfOk result (TellsNode (of_knots P.Shape) from to node.now done.now) }
-    ensures wide { IfErr result (FaultOfNode (of_knots P.Shape) from to node.now done.now) }
+    requires sound { AreSound (of_pieces P.Shape) from to 4294967295 done.now }
+    ensures sound { IfOk result (NodeStaysSound (of_pieces P.Shape) from to node.now done.now) }
+    ensures told { IfOk result (TellsNode (of_pieces P.Shape) from to node.now done.now) }
+    ensures wide { IfErr result (FaultOfNode (of_pieces P.Shape) from to node.now done.now) }
 {
     match node {
         Node::Until {
@@ -89,20 +90,20 @@ fn of_future<P: Shape>(
     }
 }
 
-/// The signal of a node over a window behind, from those of the nodes before it.
+/// The chain of a node over a window behind, from those of the nodes before it.
 fn of_past<P: Shape>(
     from: u32,
     to: u32,
     node: &Node,
-    done: &[Signal<P>],
-) -> Result<Signal<P>, OpFault<P>>
+    done: &[Pieces<P>],
+) -> Result<Pieces<P>, OpFault<P>>
     requires kind { IsBehind node.now }
     requires bounds { HasBounds node.now }
     requires children { HasChildrenBelow (length done.now) node.now }
-    requires sound { AreSound (of_knots P.Shape) from to 4294967295 done.now }
-    ensures sound { IfOk result (NodeStaysSound (of_knots P.Shape) from to node.now done.now) }
-    ensures told { IfOk result (TellsNode (of_knots P.Shape) from to node.now done.now) }
-    ensures wide { IfErr result (FaultOfNode (of_knots P.Shape) from to node.now done.now) }
+    requires sound { AreSound (of_pieces P.Shape) from to 4294967295 done.now }
+    ensures sound { IfOk result (NodeStaysSound (of_pieces P.Shape) from to node.now done.now) }
+    ensures told { IfOk result (TellsNode (of_pieces P.Shape) from to node.now done.now) }
+    ensures wide { IfErr result (FaultOfNode (of_pieces P.Shape) from to node.now done.now) }
 {
     match node {
         Node::Since {

@@ -13,9 +13,9 @@ ghost use Rattle.offline_eval.specs.Keeping.{AreGivenUp, IsRootIn, IsStack, Tell
 ghost use Rattle.offline_eval.specs.Making.{TellsValue};
 
 use crate::EvalFault;
-use crate::chain_connectives::constant_chain;
-use crate::chain_nodes::of_node;
-use crate::evaluation::at_node;
+use crate::chains::at_node;
+use crate::connectives::constant_chain;
+use crate::nodes::of_node;
 use frac128::Memory;
 use pieces::Pieces;
 use std::alloc::Global;

@@ -1,36 +1,36 @@
-//! The signals of until and since, each composed of four steps; over all times from now on, or up to now, they are one step.
+//! The chains of until and since, each composed of four steps; over all times from now on, or up to now, they are one step.
 ghost use Rattle.std.specs.Prelude.{◌≤◌, ◌^◌, IsTrue, IfSome, IfOk, IfErr};
 ghost use Rattle.rational.specs.Rational.{IsWithin};
 ghost use Rattle.rational.specs.Time.{later, ◌≤ʳ◌};
 ghost use Rattle.frac128.specs.Value.{value};
-ghost use Rattle.pl_signal.specs.Knots.{start, stop};
+ghost use Rattle.pieces.specs.Chains.{stop};
 ghost use Rattle.stl_syntax.specs.Formula.{until, since};
 ghost use Rattle.stl_syntax.specs.Limits.{reach_of_bound};
 ghost use Rattle.stl_syntax.specs.WellFormed.{IsInOrder};
-ghost use Rattle.offline_eval.specs.Forms.{of_knots};
+ghost use Rattle.offline_eval.specs.Forms.{of_pieces};
 ghost use Rattle.offline_eval.specs.Making.{AreFit, FaultOfTwo, IsFit, StaySound, TellsTwo};
 
 use frac128::Frac;
-use pl_signal::{OpFault, Signal};
-use signal_ops::lower;
+use pieces::laws::{since_is_composed, until_is_composed};
+use pieces::{
+    Pieces, inf_ahead, inf_behind, lower, since_from_start, sup_ahead, sup_behind, until_to_end,
+};
+use pl_signal::OpFault;
 use std::cmp::Ordering;
-use until_ops::laws::{since_is_composed, until_is_composed};
-use until_ops::{since_from_start, until_to_end};
 use value_laws::Shape;
-use window_ops::{inf_past, inf_window, sup_past, sup_window};
 
-/// The signal of an until over a window: told at once where the window reaches to the end, else composed.
+/// The chain of an until over a window: told at once where the window reaches to the end, else composed.
 pub(crate) fn bounded_until<P: Shape>(
-    x: &Signal<P>,
-    y: &Signal<P>,
+    x: &Pieces<P>,
+    y: &Pieces<P>,
     low: u32,
     high: u32,
-) -> Result<Signal<P>, OpFault<P>>
-    requires fit { AreFit (of_knots P.Shape) x.now y.now }
+) -> Result<Pieces<P>, OpFault<P>>
+    requires fit { AreFit (of_pieces P.Shape) x.now y.now }
     requires order { low ≤ high }
-    ensures sound { IfOk result (StaySound (of_knots P.Shape) high x.now y.now) }
-    ensures told { IfOk result (TellsTwo (of_knots P.Shape) (until low high) x.now y.now) }
-    ensures wide { IfErr result (FaultOfTwo (of_knots P.Shape) (until low high) x.now y.now) }
+    ensures sound { IfOk result (StaySound (of_pieces P.Shape) high x.now y.now) }
+    ensures told { IfOk result (TellsTwo (of_pieces P.Shape) (until low high) x.now y.now) }
+    ensures wide { IfErr result (FaultOfTwo (of_pieces P.Shape) (until low high) x.now y.now) }
 {
     if low == 0 {
         return until_from_now(x, y, high);
@@ -40,14 +40,14 @@ pub(crate) fn bounded_until<P: Shape>(
 
 /// Until over a window that begins now.
 fn until_from_now<P: Shape>(
-    x: &Signal<P>,
-    y: &Signal<P>,
+    x: &Pieces<P>,
+    y: &Pieces<P>,
     high: u32,
-) -> Result<Signal<P>, OpFault<P>>
-    requires fit { AreFit (of_knots P.Shape) x.now y.now }
-    ensures sound { IfOk result (StaySound (of_knots P.Shape) high x.now y.now) }
-    ensures told { IfOk result (TellsTwo (of_knots P.Shape) (until 0 high) x.now y.now) }
-    ensures wide { IfErr result (FaultOfTwo (of_knots P.Shape) (until 0 high) x.now y.now) }
+) -> Result<Pieces<P>, OpFault<P>>
+    requires fit { AreFit (of_pieces P.Shape) x.now y.now }
+    ensures sound { IfOk result (StaySound (of_pieces P.Shape) high x.now y.now) }
+    ensures told { IfOk result (TellsTwo (of_pieces P.Shape) (until 0 high) x.now y.now) }
+    ensures wide { IfErr result (FaultOfTwo (of_pieces P.Shape) (until 0 high) x.now y.now) }
 {
     if reaches_end(x, high) {
         return until_from_now_on(x, y, high);
@@ -56,7 +56,7 @@ fn until_from_now<P: Shape>(
 }
 
 /// Whether a time lies no later than `high` ticks after another.
-pub(crate) fn is_within(time: &Frac, start: &Frac, high: u32) -> bool
+fn is_within(time: &Frac, start: &Frac, high: u32) -> bool
     requires { IsWithin (2 ^ 34) (value start.now) }
     ensures { IsTrue result → value time.now ≤ʳ later (value start.now) high }
 {
@@ -68,63 +68,65 @@ pub(crate) fn is_within(time: &Frac, start: &Frac, high: u32) -> bool
 }
 
 /// Whether a window up to `high` ticks ahead reaches the end of the domain from each time of it.
-fn reaches_end<P: Shape>(x: &Signal<P>, high: u32) -> bool
-    requires { IsFit (of_knots P.Shape) x.now }
-    ensures { IsTrue result → stop x.now ≤ʳ later (start x.now) high }
+fn reaches_end<P: Shape>(x: &Pieces<P>, high: u32) -> bool
+    requires { IsFit (of_pieces P.Shape) x.now }
+    ensures { IsTrue result → (stop x.now).at ≤ʳ later x.now.from.at high }
 {
-    is_within(&x.stop(), &x.start(), high)
+    let begin = x.from();
+    let end = x.until();
+    is_within(&end.time, &begin.time, high)
 }
 
 /// Until over all times from now on: the until to the end.
 fn until_from_now_on<P: Shape>(
-    x: &Signal<P>,
-    y: &Signal<P>,
+    x: &Pieces<P>,
+    y: &Pieces<P>,
     high: u32,
-) -> Result<Signal<P>, OpFault<P>>
-    requires fit { AreFit (of_knots P.Shape) x.now y.now }
-    requires far { stop x.now ≤ʳ later (start x.now) high }
-    ensures sound { IfOk result (StaySound (of_knots P.Shape) high x.now y.now) }
-    ensures told { IfOk result (TellsTwo (of_knots P.Shape) (until 0 high) x.now y.now) }
-    ensures wide { IfErr result (FaultOfTwo (of_knots P.Shape) (until 0 high) x.now y.now) }
+) -> Result<Pieces<P>, OpFault<P>>
+    requires fit { AreFit (of_pieces P.Shape) x.now y.now }
+    requires far { (stop x.now).at ≤ʳ later x.now.from.at high }
+    ensures sound { IfOk result (StaySound (of_pieces P.Shape) high x.now y.now) }
+    ensures told { IfOk result (TellsTwo (of_pieces P.Shape) (until 0 high) x.now y.now) }
+    ensures wide { IfErr result (FaultOfTwo (of_pieces P.Shape) (until 0 high) x.now y.now) }
 {
     // For the proof alone: how far the window reaches.
     let _ = high;
     until_to_end(x, y)
 }
 
-/// The signal of an until over any window, composed: the Sup of the right operand over the window, but no more than the until to the end
+/// The chain of an until over any window, composed: the Sup of the right operand over the window, but no more than the until to the end
 /// is at any time from now up to where the window begins.
 fn composed_until<P: Shape>(
-    x: &Signal<P>,
-    y: &Signal<P>,
+    x: &Pieces<P>,
+    y: &Pieces<P>,
     low: u32,
     high: u32,
-) -> Result<Signal<P>, OpFault<P>>
-    requires fit { AreFit (of_knots P.Shape) x.now y.now }
+) -> Result<Pieces<P>, OpFault<P>>
+    requires fit { AreFit (of_pieces P.Shape) x.now y.now }
     requires order { low ≤ high }
-    ensures sound { IfOk result (StaySound (of_knots P.Shape) high x.now y.now) }
-    ensures told { IfOk result (TellsTwo (of_knots P.Shape) (until low high) x.now y.now) }
-    ensures wide { IfErr result (FaultOfTwo (of_knots P.Shape) (until low high) x.now y.now) }
+    ensures sound { IfOk result (StaySound (of_pieces P.Shape) high x.now y.now) }
+    ensures told { IfOk result (TellsTwo (of_pieces P.Shape) (until low high) x.now y.now) }
+    ensures wide { IfErr result (FaultOfTwo (of_pieces P.Shape) (until low high) x.now y.now) }
 {
     until_is_composed::<P>();
-    let within = sup_window(y, low, high, true, true)?;
+    let within = sup_ahead(y, low, high, true, true)?;
     let to_end = until_to_end(x, y)?;
-    let kept = inf_window(&to_end, 0, low, true, true)?;
+    let kept = inf_ahead(&to_end, 0, low, true, true)?;
     lower(&within, &kept)
 }
 
-/// The signal of a since over a window: told at once where the window reaches to the start, else composed.
+/// The chain of a since over a window: told at once where the window reaches to the start, else composed.
 pub(crate) fn bounded_since<P: Shape>(
-    x: &Signal<P>,
-    y: &Signal<P>,
+    x: &Pieces<P>,
+    y: &Pieces<P>,
     low: u32,
     high: Option<u32>,
-) -> Result<Signal<P>, OpFault<P>>
-    requires fit { AreFit (of_knots P.Shape) x.now y.now }
+) -> Result<Pieces<P>, OpFault<P>>
+    requires fit { AreFit (of_pieces P.Shape) x.now y.now }
     requires order { IsInOrder low high }
-    ensures sound { IfOk result (StaySound (of_knots P.Shape) (reach_of_bound low high) x.now y.now) }
-    ensures told { IfOk result (TellsTwo (of_knots P.Shape) (since low high) x.now y.now) }
-    ensures wide { IfErr result (FaultOfTwo (of_knots P.Shape) (since low high) x.now y.now) }
+    ensures sound { IfOk result (StaySound (of_pieces P.Shape) (reach_of_bound low high) x.now y.now) }
+    ensures told { IfOk result (TellsTwo (of_pieces P.Shape) (since low high) x.now y.now) }
+    ensures wide { IfErr result (FaultOfTwo (of_pieces P.Shape) (since low high) x.now y.now) }
 {
     if low == 0 {
         return since_up_to_now(x, y, high);
@@ -134,14 +136,14 @@ pub(crate) fn bounded_since<P: Shape>(
 
 /// Since over a window that ends now.
 fn since_up_to_now<P: Shape>(
-    x: &Signal<P>,
-    y: &Signal<P>,
+    x: &Pieces<P>,
+    y: &Pieces<P>,
     high: Option<u32>,
-) -> Result<Signal<P>, OpFault<P>>
-    requires fit { AreFit (of_knots P.Shape) x.now y.now }
-    ensures sound { IfOk result (StaySound (of_knots P.Shape) (reach_of_bound 0 high) x.now y.now) }
-    ensures told { IfOk result (TellsTwo (of_knots P.Shape) (since 0 high) x.now y.now) }
-    ensures wide { IfErr result (FaultOfTwo (of_knots P.Shape) (since 0 high) x.now y.now) }
+) -> Result<Pieces<P>, OpFault<P>>
+    requires fit { AreFit (of_pieces P.Shape) x.now y.now }
+    ensures sound { IfOk result (StaySound (of_pieces P.Shape) (reach_of_bound 0 high) x.now y.now) }
+    ensures told { IfOk result (TellsTwo (of_pieces P.Shape) (since 0 high) x.now y.now) }
+    ensures wide { IfErr result (FaultOfTwo (of_pieces P.Shape) (since 0 high) x.now y.now) }
 {
     if reaches_start(x, high) {
         return since_so_far(x, y, high);
@@ -150,9 +152,9 @@ fn since_up_to_now<P: Shape>(
 }
 
 /// Whether a window from `high` ticks behind, or from the start of time, reaches the start of the domain from each time of it.
-fn reaches_start<P: Shape>(x: &Signal<P>, high: Option<u32>) -> bool
-    requires { IsFit (of_knots P.Shape) x.now }
-    ensures { IsTrue result → IfSome high (λ b. stop x.now ≤ʳ later (start x.now) b) }
+fn reaches_start<P: Shape>(x: &Pieces<P>, high: Option<u32>) -> bool
+    requires { IsFit (of_pieces P.Shape) x.now }
+    ensures { IsTrue result → IfSome high (λ b. (stop x.now).at ≤ʳ later x.now.from.at b) }
 {
     match high {
         Some(b) => reaches_end(x, b),
@@ -162,38 +164,38 @@ fn reaches_start<P: Shape>(x: &Signal<P>, high: Option<u32>) -> bool
 
 /// Since over all times up to now: the since from the start.
 fn since_so_far<P: Shape>(
-    x: &Signal<P>,
-    y: &Signal<P>,
+    x: &Pieces<P>,
+    y: &Pieces<P>,
     high: Option<u32>,
-) -> Result<Signal<P>, OpFault<P>>
-    requires fit { AreFit (of_knots P.Shape) x.now y.now }
-    requires far { IfSome high (λ b. stop x.now ≤ʳ later (start x.now) b) }
-    ensures sound { IfOk result (StaySound (of_knots P.Shape) (reach_of_bound 0 high) x.now y.now) }
-    ensures told { IfOk result (TellsTwo (of_knots P.Shape) (since 0 high) x.now y.now) }
-    ensures wide { IfErr result (FaultOfTwo (of_knots P.Shape) (since 0 high) x.now y.now) }
+) -> Result<Pieces<P>, OpFault<P>>
+    requires fit { AreFit (of_pieces P.Shape) x.now y.now }
+    requires far { IfSome high (λ b. (stop x.now).at ≤ʳ later x.now.from.at b) }
+    ensures sound { IfOk result (StaySound (of_pieces P.Shape) (reach_of_bound 0 high) x.now y.now) }
+    ensures told { IfOk result (TellsTwo (of_pieces P.Shape) (since 0 high) x.now y.now) }
+    ensures wide { IfErr result (FaultOfTwo (of_pieces P.Shape) (since 0 high) x.now y.now) }
 {
     // For the proof alone: how far the window reaches.
     let _ = high;
     since_from_start(x, y)
 }
 
-/// The signal of a since over any window, composed: the Sup of the right operand over the window, but no more than the since from the
+/// The chain of a since over any window, composed: the Sup of the right operand over the window, but no more than the since from the
 /// start is at any time from where the window ends up to now.
 fn composed_since<P: Shape>(
-    x: &Signal<P>,
-    y: &Signal<P>,
+    x: &Pieces<P>,
+    y: &Pieces<P>,
     low: u32,
     high: Option<u32>,
-) -> Result<Signal<P>, OpFault<P>>
-    requires fit { AreFit (of_knots P.Shape) x.now y.now }
+) -> Result<Pieces<P>, OpFault<P>>
+    requires fit { AreFit (of_pieces P.Shape) x.now y.now }
     requires order { IsInOrder low high }
-    ensures sound { IfOk result (StaySound (of_knots P.Shape) (reach_of_bound low high) x.now y.now) }
-    ensures told { IfOk result (TellsTwo (of_knots P.Shape) (since low high) x.now y.now) }
-    ensures wide { IfErr result (FaultOfTwo (of_knots P.Shape) (since low high) x.now y.now) }
+    ensures sound { IfOk result (StaySound (of_pieces P.Shape) (reach_of_bound low high) x.now y.now) }
+    ensures told { IfOk result (TellsTwo (of_pieces P.Shape) (since low high) x.now y.now) }
+    ensures wide { IfErr result (FaultOfTwo (of_pieces P.Shape) (since low high) x.now y.now) }
 {
     since_is_composed::<P>();
-    let within = sup_past(y, low, high, true, true)?;
+    let within = sup_behind(y, low, high, true, true)?;
     let from_start = since_from_start(x, y)?;
-    let kept = inf_past(&from_start, 0, Some(low), true, true)?;
+    let kept = inf_behind(&from_start, 0, Some(low), true, true)?;
     lower(&within, &kept)
 }

@@ -1,11 +1,14 @@
 -- The edge of an atom once verdicts over rows of a block were put onto it.
-use Rattle.std.proofs.Common.{◌≡◌, ◌≢◌, ◌⊎◌, inl, inr, refl, sym, ap, subst, ◌∙◌, ℕ, suc, ◌+◌, ◌-◌, ◌<◌, ◌≤◌, true, Option, Some, None}
-use Rattle.std.proofs.Common.{List, [], ◌++◌, length, take, drop, get_or, set, pos, arith, append_assoc}
+use Rattle.std.proofs.Common.{◌≡◌, ◌≢◌, ◌⊎◌, inl, inr, refl, sym, ap, subst, ◌∙◌, ℕ, zero, suc, ◌+◌, ◌-◌, ◌<◌, ◌≤◌, Bool, true, Option, Some, None}
+use Rattle.std.proofs.Common.{List, [], ◌++◌, length, take, drop, get_or, set, pos, ◌≤ℤ◌, arith, append_assoc}
+use Rattle.std.proofs.lemmas.Int.{ints}
 use Rattle.std.specs.Prelude.{slice_get}
 use Rattle.std.proofs.lemmas.Bool.{cases_order}
 use Rattle.std.proofs.lemmas.List.{append-nil, get_or-set_same, get_or-set_other, length-set, set-get_or, set-set}
 use Rattle.std.proofs.lemmas.Option.{get_or_from_slice_get, slice_get-get_or, slice_get_within}
-use Rattle.rational.specs.Time.{left_open}
+use Rattle.rational.specs.Time.{left_open, ◌≤ʳ◌}
+use Rattle.rational.proofs.Order.{le_trans, lt_of_le_of_lt}
+use Rattle.rational.proofs.Shift.{le_whole}
 use Rattle.stl_syntax.specs.Trace.{Row, Trace, IsTrace, row_time}
 use Rattle.stl_syntax.specs.Formula.{atom}
 use Rattle.stl_syntax.specs.Verdicts.{Describes}
@@ -17,7 +20,7 @@ use Rattle.online_nodes.specs.Written.{Lead}
 use Rattle.online_nodes.specs.declared.operator.Operator.{Operator}
 use Rattle.online_nodes.proofs.Stretches.{stand_again, stand_given, stand_more, stretches_again, stretches_behind}
 use Rattle.online_nodes.proofs.Writing.{lead_describes}
-use Rattle.online_net.specs.Stretches.{after_time, AreOfRows, HasPutStretch, IsPutRows, HasPutRows, HaveRows}
+use Rattle.online_net.specs.Stretches.{after_time, AreOfRows, HasPutStretch, IsPutRows, HasPutRows, HaveRows, StaysOver}
 use Rattle.atom_lines.proofs.Columns.{next_row}
 use Rattle.online_net.proofs.RowParts.{of_rows, row_more}
 use Rattle.online_net.proofs.Running.{later_order}
@@ -45,6 +48,36 @@ block_rises tr block is has k l =
 
     there : get_or tr.rows (suc (has.place + k)) no_row ≡ get_or block.rows (suc k) no_row
     there = get_or_from_slice_get tr.rows (suc (has.place + k)) (get_or block.rows (suc k) no_row) no_row at
+
+-- the rows of a block rise
+pub rows_rise : (block : Trace) → IsTrace block → (k : ℕ) → k + 1 < length block.rows → (row_of block k).time < (row_of block (k + 1)).time
+rows_rise block is k l =
+    subst (λ n. (row_of block k).time < (row_of block n).time) (let e : suc k ≡ k + 1 = omega arith in e)
+    (next_row (length block.header.columns) block.rows k no_row is.rows (omega (arith, l)))
+
+-- so a later row has no earlier time
+rows_order : (block : Trace) → IsTrace block → (k m : ℕ) → k + m < length block.rows → (row_of block k).time ≤ (row_of block (k + m)).time
+rows_order block is k zero l = let e = ap (λ n. (row_of block n).time) (let z : k + 0 ≡ k = omega arith in z) in omega (arith, e)
+rows_order block is k (suc m) l =
+    let a = rows_order block is k m (omega (arith, l)) in
+    let b = rows_rise block is (k + m) (omega (arith, l)) in
+    let e = ap (λ n. (row_of block n).time) (let z : k + m + 1 ≡ k + suc m = omega arith in z) in
+    omega (arith, a, b, e)
+
+-- as rationals
+row_order : (block : Trace) → IsTrace block → (k m : ℕ) → k ≤ m → m < length block.rows → row_time (row_of block k) ≤ʳ row_time (row_of block m)
+row_order block is k m o l =
+    let e : k + (m - k) ≡ m = omega (arith, o) in
+    let h = rows_order block is k (m - k) (omega (arith, o, l)) in
+    let f = ap (λ n. (row_of block n).time) e in
+    le_whole (let z : pos (row_of block k).time ≤ℤ pos (row_of block m).time = omega (arith, ints, h, f) in z)
+
+-- a truth that stays over some rows stays over those between two of them
+pub stays_between : (b : Binding) (i : ℕ) (block : Trace) → IsTrace block → (from to k m : ℕ) (holds : Bool) → from ≤ k → k ≤ m → m ≤ to
+    → to < length block.rows → StaysOver b i block from to holds → StaysOver b i block k m holds
+stays_between b i block is from to k m holds low between high within stays a tr for has t after upto =
+    stays a tr for has t (lt_of_le_of_lt (row_order block is from k low (omega (arith, between, high, within))) after)
+    (le_trans upto (row_order block is m to high within))
 
 module _ (b : Binding) (block : Trace) (i : ℕ) where
   abbrev row_at : ℕ → Row

@@ -8,7 +8,7 @@ use Rattle.std.proofs.lemmas.Option.{same_Some}
 use Rattle.std.proofs.lemmas.List.{append-nil, get_or-set_same, length-set, set-get_or, set-set}
 use Rattle.rational.specs.Rational.{Rational, ◌<ʳ◌, ◌≤ʳ◌, whole}
 use Rattle.rational.specs.Places.{Place, begins, ends, AtMost, Before, Same}
-use Rattle.rational.proofs.Order.{same_refl, same_of_le, le_of_lt, le_trans, not_lt_of_le}
+use Rattle.rational.proofs.Order.{same_refl, same_of_le, le_of_lt, le_refl, le_trans, not_lt_of_le}
 use Rattle.rational.proofs.Shift.{lt_whole, le_whole}
 use Rattle.rational.proofs.PlaceLemmas.{same_places, same_trans_places, same_before, before_trans, before_at_most, before_of_at_most, after_same}
 use Rattle.frac128.specs.Cuts.{place}
@@ -21,7 +21,7 @@ use Rattle.stl_syntax.specs.declared.atom.Atom.{Atom}
 use Rattle.stl_syntax.specs.declared.items.Verdict.{Verdict}
 use Rattle.atom_lines.specs.Binding.{Binding, IsFor}
 use Rattle.atom_lines.specs.Growing.{IsReachAt}
-use Rattle.atom_lines.specs.Passages.{HasBlock, IsWay, TurnsInside, crossing_time}
+use Rattle.atom_lines.specs.Passages.{HasBlock, IsWay, TellsPassage, TurnsInside, crossing_time}
 use Rattle.atom_lines.specs.Rows.{row_of}
 use Rattle.atom_lines.specs.declared.passage.Passage.{Passage}
 use Rattle.atom_lines.specs.declared.passage.Passage.TheVariants.{Steady, Turns}
@@ -32,7 +32,7 @@ use Rattle.online_nodes.specs.Written.{Lead}
 use Rattle.online_nodes.proofs.GotLemmas.{more_given}
 use Rattle.online_nodes.proofs.Stretches.{some_verdict, stand_again, stand_given, stand_more}
 use Rattle.online_nodes.proofs.Writing.{joined, told_same, same_itself, lead_on, lead_to}
-use Rattle.online_net.specs.Stretches.{after_time, before_time, HasMoreAt, HasPutRun, HasRun, HasTurned, HasPassed, HasGone, HasCome, HasPutStretch}
+use Rattle.online_net.specs.Stretches.{after_time, before_time, HasMoreAt, HasPutRun, HasRun, HasTurned, HasPassed, HasGone, HasCome, HasPutStretch, HasPutTwo, StaysOver}
 use Rattle.online_net.specs.declared.stretch.Run.{Run}
 use Rattle.online_net.specs.declared.stretch.Along.{Along}
 use Rattle.online_net.proofs.Saying.{is_test}
@@ -109,6 +109,11 @@ later_order m n l = before_trans (after_time m) (before_time n) (after_time n) (
 at_most_order : (m n : ℕ) → m ≤ n → AtMost (after_time m) (after_time n)
 at_most_order m n l t u = le_trans u (le_whole (let h : pos m ≤ℤ pos n = omega (arith, ints, l) in h))
 
+-- no truth is the other one
+not_itself : (b : Bool) → b ≡ not b → ⊥
+not_itself true e = (let x : true ≡ false = e in cc)
+not_itself false e = (let x : false ≡ true = e in cc)
+
 -- ---- turns
 
 module _ (i : ℕ) (old : Held) (run : Run) where
@@ -144,10 +149,6 @@ module _ (i : ℕ) (old : Held) (run : Run) where
     };
   }
     where
-      not_itself : (b : Bool) → b ≡ not b → ⊥
-      not_itself true e = (let x : true ≡ false = e in cc)
-      not_itself false e = (let x : false ≡ true = e in cc)
-
       run_lead : (n : Subformula) (tr : Trace) (begin : Place) (written : List Verdict) → HasRun n tr begin written run c
           → Lead n tr begin None (written ++ put.verdict ∷ []) (place at) (Some put.verdict.holds)
       run_lead n tr begin written h =
@@ -292,6 +293,26 @@ module _ (b : Binding) (block : Trace) (from to i : ℕ) where
         );
   }
 
+  -- the last gap of a way is a way by itself
+  pub last_gap : (r : ℕ) (w : Way) → IsWay b i block r w → IsWay b i block (w.row - 1) w
+  last_gap r w way = record {
+    later = let l = way.later in omega (arith, l);
+    within = way.within;
+    order = omega arith;
+    rises = way.rises;
+    sum = way.sum;
+    inside = way.inside;
+    tells = λ a tr for has.
+        let v = way.tells a tr for has in
+        let o = way.order in
+        let up = le_whole (let h : pos (time_at r) ≤ℤ pos (time_at (w.row - 1)) = omega (arith, ints, o) in h) in
+        record {
+          stays = λ t low high. v.stays t (le_trans up low) high ∙ sym (v.stays (row_time (row_of block (w.row - 1))) up (le_refl _));
+          passes = v.passes;
+          there = v.there;
+        };
+  }
+
   -- what a way more needs
   pub goes_some : {e0 e1 : Held} (along : Along) (w : Way) → HasCome b block from to i e0 e1 along → IsWay b i block along.at w
       → Before (place along.run.from) (after_time (time_at (w.row - 1)))
@@ -325,3 +346,55 @@ module _ (b : Binding) (block : Trace) (from to i : ℕ) where
               (ends (interval v.on)) put.begin (same_places up) run.all))),
         );
   }
+
+-- one verdict was put where the truth stays
+pub steady_put : (b : Binding) (block : Trace) (i k next : ℕ) (v : Verdict) {old new : Held} → HasMoreAt old new i (v ∷ [])
+    → Same (after_time (row_of block k).time) (begins (interval v.on)) → Same (ends (interval v.on)) (after_time (row_of block next).time)
+    → StaysOver b i block k next v.holds → HasPutStretch b block k next i old new
+steady_put b block i k next v got begin end stays = record {
+  more = v ∷ [];
+  got = got;
+  led = λ a tr for has. (
+    Some v.holds,
+    (
+      begin,
+      some_verdict v,
+      (λ e. (let x = e in cc)),
+      told_same v.holds (Truth (atom i a) tr) (after_time (row_of block k).time) (after_time (row_of block next).time) (begins (interval v.on))
+          (ends (interval v.on)) begin (same_places end) (λ t low high. is_test a tr t v.holds (stays a tr for has t low high)),
+      (end, refl),
+    ),
+  );
+}
+
+-- two verdicts were put where the truth stays on a gap and turns over at the row behind it
+pub two_put : (b : Binding) (block : Trace) (i r : ℕ) (w : Way) (holds : Bool) {old new : Held} → IsWay b i block r w → w.passage ≡ Steady holds
+    → w.last ≡ not holds → HasPutTwo old new i (row_of block (w.row - 1)).time (row_of block w.row).time holds
+    → HasPutStretch b block (w.row - 1) w.row i old new
+two_put b block i r w holds way steady turned put = record {
+  more = put.gap ∷ put.row ∷ [];
+  got = put.got;
+  led = λ a tr for has.
+      let v = way.tells a tr for has in
+      let first = (row_of block (w.row - 1)).time in
+      let second = (row_of block w.row).time in
+      let passes = subst (λ p. TellsPassage (whole (pos first)) (whole (pos second)) (holds_at a tr) p) steady v.passes in (
+        Some put.row.holds,
+        (
+          put.begin,
+          some_verdict put.gap,
+          (λ e. (let x = e in cc)),
+          told_same put.gap.holds (Truth (atom i a) tr) (after_time first) (before_time second) (begins (interval put.gap.on)) (ends (interval put.gap.on))
+              put.begin (same_places put.middle) (λ t low high. is_test a tr t put.gap.holds (passes t low high ∙ sym put.holds_in)),
+          (
+            same_trans_places put.middle put.again,
+            some_verdict put.row,
+            (λ e. not_itself holds (sym put.holds_in ∙ same_Some _ _ e ∙ put.holds_at)),
+            told_same put.row.holds (Truth (atom i a) tr) (before_time second) (after_time second) (begins (interval put.row.on)) (ends (interval put.row.on))
+                put.again (same_places put.end)
+                (λ t low high. is_test a tr t put.row.holds (v.there t (same_of_le high low) ∙ turned ∙ sym put.holds_at)),
+            (put.end, refl),
+          ),
+        ),
+      );
+}

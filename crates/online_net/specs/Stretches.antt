@@ -2,7 +2,7 @@
 -- not the verdicts of each row by itself.
 use Rattle.std.specs.Prelude.{◌≡◌, ◌≢◌, ℕ, suc, ◌-◌, ◌<◌, ◌≤◌, Bool, true, false, not, List, [], ◌∷◌, ◌++◌, length, take, drop, Option, Some, None, pos}
 use Rattle.std.specs.Prelude.{slice_get}
-use Rattle.rational.specs.Time.{Rational, ◌≈◌, whole, left_open}
+use Rattle.rational.specs.Time.{Rational, ◌≈◌, ◌<ʳ◌, ◌≤ʳ◌, whole, left_open}
 use Rattle.rational.specs.Places.{Place, begins, ends, Before, Same}
 use Rattle.frac128.specs.Cuts.{place}
 use Rattle.frac128.specs.Spans.{interval}
@@ -24,6 +24,7 @@ use Rattle.online_nodes.specs.Written.{Lead}
 use Rattle.online_nodes.specs.declared.operator.Operator.{Operator}
 use Rattle.online_net.specs.declared.stretch.Run.{Run}
 use Rattle.online_net.specs.declared.stretch.Along.{Along}
+use Rattle.online_net.specs.declared.stretch.Spot.{Spot}
 
 -- just before a time in ticks, and just after it
 abbrev pub before_time : ℕ → Place
@@ -127,6 +128,37 @@ pub record HasPutRows (b : Binding) (block : Trace) (from to : ℕ) (i : ℕ) (o
   pub here : IsPutRows b block from to i (edge_at old i) (edge_at new i)
   pub others : new.edges ≡ with_edge old i (edge_at new i)
   pub start : new.start ≡ old.start
+
+-- one verdict between two times in ticks was put, and the other one at the second of them
+pub record HasPutTwo (old new : Held) (i first second : ℕ) (holds : Bool) : Type 0 where
+  pub gap : Verdict
+  pub row : Verdict
+  pub got : HasMoreAt old new i (gap ∷ row ∷ [])
+  pub begin : Same (after_time first) (begins (interval gap.on))
+  pub middle : Same (ends (interval gap.on)) (before_time second)
+  pub again : Same (before_time second) (begins (interval row.on))
+  pub end : Same (ends (interval row.on)) (after_time second)
+  pub holds_in : gap.holds ≡ holds
+  pub holds_at : row.holds ≡ not holds
+
+-- the atom at node i has this truth at each time after row `from` of the block, up to row `to`
+abbrev pub StaysOver : Binding → ℕ → Trace → ℕ → ℕ → Bool → Type 0
+StaysOver b i block from to holds =
+    (a : Atom) (tr : Trace) → IsFor b i a tr → HasBlock tr block → (t : Rational) → row_time (row_of block from) <ʳ t → t ≤ʳ row_time (row_of block to)
+    → holds_at a tr t ≡ holds
+
+-- the verdicts of the rows behind row `first` up to row `from` were put, and the atom has one truth from there up to row `to`
+pub record CanPutInside (b : Binding) (block : Trace) (first from to i : ℕ) (holds : Bool) (old mid : Held) : Type 0 where
+  pub order : first ≤ from
+  pub put : HasPutRows b block first from i old mid
+  pub stays : StaysOver b i block from to holds
+
+-- the verdicts of the rows behind row `first` up to a spot were put, and the atom has the sum and the truth that are noted there
+pub record HasComeTo (b : Binding) (block : Trace) (first i : ℕ) (old new : Held) (here : Spot) : Type 0 where
+  pub order : first ≤ here.at
+  pub put : HasPutRows b block first here.at i old new
+  pub sum : IsReachAt b i block here.at here.sum
+  pub holds : (a : Atom) (tr : Trace) → IsFor b i a tr → HasBlock tr block → holds_at a tr (row_time (row_of block here.at)) ≡ here.holds
 
 -- so do they on the edges of all atoms among the first n nodes, whose numbers are the time of row `to`; an atom is a node with no operator
 pub record HaveRows (b : Binding) (block : Trace) (from to : ℕ) (operators : List (Option Operator)) (n : ℕ) (old new : Held) : Type 0 where

@@ -125,7 +125,7 @@ fn is_even(piece: &TruthPiece, holds: bool) -> bool
 
 /// The times after one number of ticks, up to another.
 #[inline(always)]
-fn span_after(first: u32, last: u32) -> Span
+pub(crate) fn span_after(first: u32, last: u32) -> Span
     requires { first < last }
     ensures begin { Same (record { at = whole (pos first); after = true }) (begins (interval result)) }
     ensures end { Same (ends (interval result)) (record { at = whole (pos last); after = true }) }
@@ -136,6 +136,38 @@ fn span_after(first: u32, last: u32) -> Span
         from: from.time,
         from_in: false,
         to: to.time,
+        to_in: true,
+    }
+}
+
+/// The times between two numbers of ticks.
+#[inline(always)]
+pub(crate) fn span_between(first: u32, last: u32) -> Span
+    requires { first < last }
+    ensures begin { Same (record { at = whole (pos first); after = true }) (begins (interval result)) }
+    ensures end { Same (ends (interval result)) (record { at = whole (pos last); after = false }) }
+{
+    let from = after_tick(first);
+    let to = before_tick(last);
+    Span {
+        from: from.time,
+        from_in: false,
+        to: to.time,
+        to_in: false,
+    }
+}
+
+/// One number of ticks alone.
+#[inline(always)]
+pub(crate) fn span_at(time: u32) -> Span
+    ensures begin { Same (record { at = whole (pos time); after = false }) (begins (interval result)) }
+    ensures end { Same (ends (interval result)) (record { at = whole (pos time); after = true }) }
+{
+    let at = after_tick(time);
+    Span {
+        from: at.time,
+        from_in: true,
+        to: at.time,
         to_in: true,
     }
 }

@@ -1,19 +1,22 @@
 //! What the rows of a block put onto the edges of the atoms, a stretch of one truth at a time.
 
-ghost use Rattle.std.specs.Prelude.{◌≡◌, ◌≢◌, ◌+◌, ◌<◌, ◌≤◌, ℕ, length, slice_get, not, IfOk, OnOk, Some, None, pos};
+ghost use Rattle.std.specs.Prelude.{◌≡◌, ◌≢◌, ◌+◌, ◌-◌, ◌<◌, ◌≤◌, ℕ, length, slice_get, not, IfOk, IfSome, OnOk, Some, None, pos};
 ghost use Rattle.rational.specs.Rational.{whole};
 ghost use Rattle.rational.specs.Places.{Place, Before, Same, begins, ends};
 ghost use Rattle.frac128.specs.Cuts.{place};
 ghost use Rattle.frac128.specs.Spans.{interval};
 ghost use Rattle.online_nodes.specs.Held.{Held, edge_at};
 ghost use Rattle.atom_lines.specs.Binding.{IsAtomNode};
-ghost use Rattle.atom_lines.specs.Growing.{IsReachAt};
 ghost use Rattle.atom_lines.specs.Passages.{TurnsInside, crossing_time};
 ghost use Rattle.online_net.specs.Stretches.{after_time, first_truth, HasPutRun, HasTurned, HasPassed, HasGone, HasCome};
-ghost use Rattle.online_net.specs.Stretches.{HasPutStretch, HasPutRows, HaveRows};
+ghost use Rattle.online_net.specs.Stretches.{HasPutStretch, HasPutRows, HaveRows, HasPutTwo, StaysOver, CanPutInside, HasComeTo};
+ghost use Rattle.atom_lines.specs.Binding.{Binding};
+ghost use Rattle.atom_lines.specs.Passages.{IsWay};
+ghost use Rattle.atom_lines.specs.declared.passage.Passage.TheVariants.{Steady};
+ghost use Rattle.stl_syntax.specs.Trace.{IsTrace};
 
-use crate::atom::note;
-use atom_lines::{Bound, Crossing, Passage, standing, way_from};
+use crate::atom::{note, span_after, span_at, span_between};
+use atom_lines::{Bound, Crossing, Passage, Way, standing, way_from};
 use frac128::{Cut, Frac, Memory, Span};
 use online_nodes::{Edges, Operator};
 use stl_syntax::Verdict;
@@ -305,30 +308,110 @@ fn put_stretch(
     Ok(())
 }
 
-/// Puts the verdicts of an atom behind row `r` of a block, where its sum is `sum`, up to the row `next` right after it, and answers its sum
-/// there.
+/// Puts the one verdict of an atom behind row `at` of a block, up to the row `next` right after it, where its truth is the same all the way.
 #[inline(always)]
-fn put_behind(
+fn put_steady(
     edges: &mut Edges,
-    bound: &Bound,
     node: u32,
     block: &Trace,
-    r: usize,
+    at: usize,
     next: usize,
-    sum: i64,
-) -> Result<i64, Memory>
+    holds: bool,
+) -> Result<(), Memory>
     requires edge { node < length edges.old.edges }
-    requires atom { IsAtomNode bound.now node }
-    requires columns { length block.now.header.columns ≡ bound.now.width }
-    requires next { next ≡ r + 1 }
+    requires next { next ≡ at + 1 }
     requires within { next < length block.now.rows }
-    requires from { IsReachAt bound.now node block.now r sum }
-    ensures put { OnOk result (HasPutStretch bound.now block.now r next node edges.old edges.new) }
-    ensures sum { IfOk result (IsReachAt bound.now node block.now next) }
+    requires trace { IsTrace block.now }
+    ensures { (b : Binding) → StaysOver b node block.now at next holds → OnOk result (HasPutStretch b block.now at next node edges.old edges.new) }
 {
-    let way = way_from(bound, node, block, r, next, sum);
+    let first = block.time(at);
+    let second = block.time(next);
+    let on = span_after(first, second);
+    edges.put(node, Verdict { on, holds })?;
+    Ok(())
+}
+
+/// Puts the verdicts of an atom over rows of a block over which its truth is the same all the way, those of each row by itself.
+#[inline(always)]
+fn put_inside(
+    edges: &mut Edges,
+    node: u32,
+    block: &Trace,
+    from: usize,
+    to: usize,
+    holds: bool,
+) -> Result<(), Memory>
+    requires edge { node < length edges.old.edges }
+    requires order { from ≤ to }
+    requires within { to < length block.now.rows }
+    requires trace { IsTrace block.now }
+    requires before { (b : Binding) × (first : ℕ) × (e : Held) × CanPutInside b block.now first from to node holds e edges.old }
+    ensures { (b : Binding) (first : ℕ) (e : Held) → CanPutInside b block.now first from to node holds e edges.old
+        → OnOk result (HasPutRows b block.now first to node e edges.new) }
+{
+    for r in from..to {
+        put_steady(edges, node, block, r, r + 1, holds)?;
+    }
+    Ok(())
+}
+
+/// Puts the two verdicts of an atom over the last gap of a way and at the row behind it, where it has one truth on the whole gap, and the
+/// other one at the row.
+#[inline(always)]
+fn put_turned(
+    edges: &mut Edges,
+    node: u32,
+    first: u32,
+    second: u32,
+    holds: bool,
+) -> Result<(), Memory>
+    requires edge { node < length edges.old.edges }
+    requires later { first < second }
+    ensures { OnOk result (HasPutTwo edges.old edges.new node first second holds) }
+{
+    let gap = span_between(first, second);
+    edges.put(node, Verdict { on: gap, holds })?;
+    let row = span_at(second);
+    edges.put(
+        node,
+        Verdict {
+            on: row,
+            holds: !holds,
+        },
+    )?;
+    Ok(())
+}
+
+/// The truth of an atom on the last gap of a way, where it is one on the whole gap and the other one at the row behind it.
+#[inline(always)]
+fn turned_at_row(way: &Way) -> Option<bool>
+    ensures { IfSome result (λ holds. (way.now.passage ≡ Steady holds) × (way.now.last ≡ not holds)) }
+{
+    let Passage::Steady(holds) = way.passage else {
+        return None;
+    };
+    if holds == way.last {
+        return None;
+    }
+    Some(holds)
+}
+
+/// Puts the verdicts of an atom over the last gap of a way and at the row behind it.
+#[inline(always)]
+fn put_gap(edges: &mut Edges, node: u32, block: &Trace, way: &Way) -> Result<(), Memory>
+    requires edge { node < length edges.old.edges }
+    requires some { 0 < way.now.row }
+    requires within { way.now.row < length block.now.rows }
+    requires way { (b : Binding) × (r : ℕ) × IsWay b node block.now r way.now }
+    ensures { (b : Binding) (r : ℕ) → IsWay b node block.now r way.now
+        → OnOk result (HasPutStretch b block.now (way.now.row - 1) way.now.row node edges.old edges.new) }
+{
     let first = block.time(way.row - 1);
     let second = block.time(way.row);
+    if let Some(holds) = turned_at_row(way) {
+        put_turned(edges, node, first, second, holds)?;
+        return Ok(());
+    }
     let mut run = Run {
         from: tick_cut(first, true),
         holds: truth_at_first(&way.passage),
@@ -337,7 +420,47 @@ fn put_behind(
     go_along(edges, node, &mut run, first, second, &way.passage, way.last)?;
     let end = tick_cut(second, true);
     put_run(edges, node, &run, &end)?;
-    Ok(way.sum)
+    Ok(())
+}
+
+/// How far an atom has come along a block whose rows have verdicts of their own: the row, its sum there, and its truth there.
+#[derive(Clone, Copy)]
+pub(crate) struct Spot {
+    at: usize,
+    sum: i64,
+    holds: bool,
+}
+
+/// Puts the verdicts of an atom over one way more along a block, those of each row by itself.
+#[inline(always)]
+fn put_way(
+    edges: &mut Edges,
+    bound: &Bound,
+    node: u32,
+    block: &Trace,
+    to: usize,
+    here: &Spot,
+) -> Result<Spot, Memory>
+    requires edge { node < length edges.old.edges }
+    requires atom { IsAtomNode bound.now node }
+    requires columns { length block.now.header.columns ≡ bound.now.width }
+    requires within { to < length block.now.rows }
+    requires trace { IsTrace block.now }
+    requires before { here.now.at < to }
+    requires come { (first : ℕ) × (e : Held) × HasComeTo bound.now block.now first node e edges.old here.now }
+    ensures on { IfOk result (λ next. here.now.at < next.at) }
+    ensures within { IfOk result (λ next. next.at ≤ to) }
+    ensures come { (first : ℕ) (e : Held) → HasComeTo bound.now block.now first node e edges.old here.now
+        → IfOk result (HasComeTo bound.now block.now first node e edges.new) }
+{
+    let way = way_from(bound, node, block, here.at, to, here.sum);
+    put_inside(edges, node, block, here.at, way.row - 1, here.holds)?;
+    put_gap(edges, node, block, &way)?;
+    Ok(Spot {
+        at: way.row,
+        sum: way.sum,
+        holds: way.last,
+    })
 }
 
 /// Puts the verdicts of an atom over the rows of a block, those of each row by itself.
@@ -357,10 +480,16 @@ fn put_each(
     requires within { to < length block.now.rows }
     ensures { OnOk result (HasPutRows bound.now block.now from to node edges.old edges.new) }
 {
-    let (start, _) = standing(bound, node, block, from);
-    let mut sum = start;
-    for r in from..to {
-        sum = put_behind(edges, bound, node, block, r, r + 1, sum)?;
+    let (sum, holds) = standing(bound, node, block, from);
+    // for the proof alone: the rows of a block rise
+    let _rows = block.rows();
+    let mut here = Spot {
+        at: from,
+        sum,
+        holds,
+    };
+    while here.at < to {
+        here = put_way(edges, bound, node, block, to, &here)?;
     }
     Ok(())
 }

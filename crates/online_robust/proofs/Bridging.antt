@@ -1,7 +1,7 @@
 -- From what an operator needs before it goes on to what its body needs, and back from what the body leaves.
 use Rattle.std.proofs.Common.{◌≡◌, inl, inr, ℕ, ◌+◌, ◌<◌, ◌≤◌, Bool, true, false, List, [], ◌∷◌, length, refl}
 use Rattle.std.proofs.Common.{sym, ap, subst, ◌∙◌, arith, Option, Some, None, ℤ, pos, ◌+ℤ◌, ◌<ℤ◌, ◌≤ℤ◌}
-use Rattle.std.specs.Prelude.{◌≢◌, ◌⊎◌, MatchBool, IfSome, IsSome, int_lt, cond, slice_get}
+use Rattle.std.specs.Prelude.{◌⊎◌, MatchBool, IfSome, IsSome, int_lt, cond, slice_get}
 use Rattle.std.proofs.lemmas.Int.{ints}
 use Rattle.std.proofs.lemmas.Option.{slice_get_within, same_Some}
 use Rattle.rational.specs.Time.{Rational, whole, ◌≈◌, ◌≤ʳ◌, ◌<ʳ◌}
@@ -77,26 +77,6 @@ inputs_of F reach start back f lines le input = by_test (int_lt f (pos start)) r
     by_test : (t : Bool) → int_lt f (pos start) ≡ t → MatchBool t (lines ≡ []) (AreInputs F reach start back f lines) → AreInputs F reach start back f lines
     by_test true e none = let lt = int_order f (pos start) true e in absurd (omega (arith, ints, le, lt))
     by_test false e inputs = inputs
-
--- no line is held of an input that has given out nothing
-pub none_given : (F : Function) (reach start : ℕ) (f : ℤ) (lines : List MarginLine) → IsInput F reach start None f lines → slice_get lines 0 ≡ None
-    → f <ℤ pos start
-none_given F reach start f lines input empty = by_test (int_lt f (pos start)) refl input
-  where
-    by_test : (c : Bool) → int_lt f (pos start) ≡ c → MatchBool c (lines ≡ []) (AreInputs F reach start None f lines) → f <ℤ pos start
-    by_test true e none = int_order f (pos start) true e
-    by_test false e inputs = let (p, v, rest, is, when, joined) = inputs.left in
-        absurd (let k : ◌≡◌ {A = Option MarginLine} (Some _) None = sym (ap (λ (l : List MarginLine). slice_get l 0) is) ∙ empty in let y = k in cc)
-
--- and some of one that has
-pub some_given : (F : Function) (reach start : ℕ) (f : ℤ) (lines : List MarginLine) → IsInput F reach start None f lines → slice_get lines 0 ≢ None
-    → (pos start ≤ℤ f) × AreInputs F reach start None f lines
-some_given F reach start f lines input some = by_test (int_lt f (pos start)) refl input
-  where
-    by_test : (c : Bool) → int_lt f (pos start) ≡ c → MatchBool c (lines ≡ []) (AreInputs F reach start None f lines)
-        → (pos start ≤ℤ f) × AreInputs F reach start None f lines
-    by_test true e none = absurd (some (ap (λ (l : List MarginLine). slice_get l 0) none))
-    by_test false e inputs = (int_order f (pos start) false e, inputs)
 
 -- what was not let go at a number was not at an earlier one
 pub none_let_go : (start to : ℕ) (k : ℤ) (o : Option ℤ) → IfSome o (λ g. (pos start ≤ℤ g) × (g <ℤ pos to)) → int_lt (pos to +ℤ k) (pos start) ≡ true

@@ -55,13 +55,13 @@ instant_is (N.Since p q a b) w is same = absurd is
 pub first_window : (n : Node) (w : Window) (op : Operator) → IsWindowOf n w → IsWindowOperator w op → IsFirstOperator n (Some op)
 first_window n w op is (inl (order, same)) =
     subst (λ (o : Operator). IsFirstOperator n (Some o)) (sym same)
-    (no_leaf n w is, λ nodes place tr. (is, order, (refl, record { silent = refl; short = tt; stood = refl })))
+    (no_leaf n w is, λ nodes place tr. (is, order, (refl, record { short = tt; stood = refl })))
 first_window n w op is (inr (equal, same)) =
     subst (λ (o : Operator). IsFirstOperator n (Some o)) (sym same) (no_leaf n w is, λ nodes place tr. (instant_is n w is equal, refl))
 
 -- so does that of a window without a low end
 pub first_past : (n : Node) (w : Window) → IsPastOf n w → IsFirstOperator n (Some (Op.Ever (endless_of w)))
-first_past n w is = (leafless n is, λ nodes place tr. (is, (refl, record { silent = refl; short = tt; stood = refl })))
+first_past n w is = (leafless n is, λ nodes place tr. (is, (refl, record { short = tt; stood = refl })))
   where
     leafless : (n : Node) → IsPastOf n w → ¬ IsLeaf n
     leafless (N.Once p a None i j) is leaf = leaf

@@ -1,6 +1,6 @@
 -- One step of a window with a low end, which goes on or begins: what it needs, and what it leaves, as one of its operator.
-use Rattle.std.proofs.Common.{◌≡◌, ◌≢◌, ℕ, ◌+◌, List, sym, ap, subst, ◌∙◌, Option, Some, None, pos, ◌≤ℤ◌}
-use Rattle.std.specs.Prelude.{IsSomeAnd, slice_get}
+use Rattle.std.proofs.Common.{◌≡◌, ℕ, ◌+◌, List, refl, sym, ap, subst, ◌∙◌, Option, Some, None, pos, ◌+ℤ◌, ◌≤ℤ◌}
+use Rattle.std.specs.Prelude.{IsSomeAnd, MatchOption}
 use Rattle.rational.specs.Time.{Rational, shifted, whole, ◌≈◌}
 use Rattle.rational.proofs.Order.{same_sym, same_trans}
 use Rattle.frac128.specs.Value.{value}
@@ -9,7 +9,7 @@ use Rattle.pl_signal.specs.declared.knot.Knot.{Knot}
 use Rattle.pl_signal.specs.declared.faults.OpFault.{OpFault}
 use Rattle.stl_syntax.specs.Formula.{subformula}
 use Rattle.online_nodes.specs.StreamedWide.{front_at}
-use Rattle.online_robust.specs.Held.{Held, held_at}
+use Rattle.online_robust.specs.Held.{Held}
 use Rattle.online_robust.specs.ReadLines.{IsStretch, IsThere}
 use Rattle.online_robust.specs.Steps.{Step, Belongs, HasSwept, IsStreamedFault, IsSwept, StandsNow, begin_of, from_of, reach_before}
 use Rattle.online_robust.specs.Waiting.{IsBegun}
@@ -34,34 +34,46 @@ pub record MaySweep (t : Step) (z : Lazy) (e : Held) (to : ℕ) (b : Belongs t (
   pub whole_can : CanSweep (scope_of t z e to b (value s.place.at)) (own t z e to b) from (whole (pos to)) s e
   -- and up to where it ends
   pub can : CanSweep (scope_of t z e to b (value s.place.at)) (own t z e to b) from end s e
+  -- its high end has come to the start
+  pub late : pos (begin_of t) ≤ℤ (pos to +ℤ z.window.high)
   -- its input has begun
   pub begun : pos (begin_of t) ≤ℤ front_at t.ended (pos t.now) (subformula t.nodes z.window.of)
 
 module _ (t : Step) (z : Lazy) (e : Held) (to : ℕ) (b : Belongs t (Op.Sweep z) e to) (s : Sweep) (end : Rational) (same : end ≈ whole (pos to)) where
-  -- one that was made before
-  pub may_go_on : z.sweep ≡ Some s → MaySweep t z e to b s end
-  may_go_on is = record {
-    from = (going t z e to b s is).0;
-    from_is = (going t z e to b s is).1;
-    window = going_window t z e to b s is;
-    whole_can = (going t z e to b s is).2;
-    can = sweep_same (scope_of t z e to b (value s.place.at)) (own t z e to b) (going t z e to b s is).0 (whole (pos to)) end s e (same_sym same)
-        (ap (λ (v : Window). shifted (whole (pos to)) v.high) (sym (going_window t z e to b s is))) (going t z e to b s is).2;
-    begun = (going t z e to b s is).3;
-  }
+  module _ (late : pos (begin_of t) ≤ℤ (pos to +ℤ z.window.high)) where
+    -- one that was made before
+    may_go_on : z.sweep ≡ Some s → MaySweep t z e to b s end
+    may_go_on is = record {
+      from = (going t z e to b late s is).0;
+      from_is = (going t z e to b late s is).1;
+      window = going_window t z e to b late s is;
+      whole_can = (going t z e to b late s is).2;
+      can = sweep_same (scope_of t z e to b (value s.place.at)) (own t z e to b) (going t z e to b late s is).0 (whole (pos to)) end s e (same_sym same)
+          (ap (λ (v : Window). shifted (whole (pos to)) v.high) (sym (going_window t z e to b late s is))) (going t z e to b late s is).2;
+      late = late;
+      begun = (going t z e to b late s is).3;
+    }
 
-  -- one that is made now
-  pub may_begin : (none : z.sweep ≡ None) → slice_get (held_at e z.window.of) 0 ≢ None
-      → IsBegun z.window (begin_of t) z.silent.last s → MaySweep t z e to b s end
-  may_begin none some k = record {
-    from = (beginning t z e to b none some s k).0;
-    from_is = (beginning t z e to b none some s k).1;
-    window = k.window;
-    whole_can = (beginning t z e to b none some s k).2;
-    can = sweep_same (scope_of t z e to b (value s.place.at)) (own t z e to b) (beginning t z e to b none some s k).0 (whole (pos to)) end s e (same_sym same)
-        (ap (λ (v : Window). shifted (whole (pos to)) v.high) (sym k.window)) (beginning t z e to b none some s k).2;
-    begun = (has_begun t z e to b none some).0;
-  }
+    -- one that is made now
+    may_begin : (none : z.sweep ≡ None) → IsBegun z.window (begin_of t) z.told s → MaySweep t z e to b s end
+    may_begin none k = record {
+      from = (beginning t z e to b none late s k).0;
+      from_is = (beginning t z e to b none late s k).1;
+      window = k.window;
+      whole_can = (beginning t z e to b none late s k).2;
+      can = sweep_same (scope_of t z e to b (value s.place.at)) (own t z e to b) (beginning t z e to b none late s k).0 (whole (pos to)) end s e (same_sym same)
+          (ap (λ (v : Window). shifted (whole (pos to)) v.high) (sym k.window)) (beginning t z e to b none late s k).2;
+      late = late;
+      begun = (has_begun t z e to b none late).0;
+    }
+
+    -- the one or the other
+    pub may : MatchOption z.sweep (IsBegun z.window (begin_of t) z.told s) (λ o. s ≡ o) → MaySweep t z e to b s end
+    may is = by_state z.sweep refl is
+      where
+        by_state : (o : Option Sweep) → z.sweep ≡ o → MatchOption o (IsBegun z.window (begin_of t) z.told s) (λ o. s ≡ o) → MaySweep t z e to b s end
+        by_state None none k = may_begin none k
+        by_state (Some o) some same = may_go_on (subst (λ (r : Sweep). z.sweep ≡ Some r) (sym same) some)
 
   module _ (m : MaySweep t z e to b s end) where
     abbrev x : Scope
@@ -92,4 +104,4 @@ module _ (t : Step) (z : Lazy) (e : Held) (to : ℕ) (b : Belongs t (Op.Sweep z)
 
       -- the operator stands at the time of the turn
       pub step_stands : (z' : Lazy) → z'.window ≡ z.window → z'.sweep ≡ Some s' → StandsNow t (Op.Sweep z') e' to
-      step_stands z' window is = window_stands t z e to b (value s.place.at) end same z' m.whole_can m.window kept came m.begun last window is
+      step_stands z' window is = window_stands t z e to b (value s.place.at) end same z' m.whole_can m.window kept came m.late last window is

@@ -53,10 +53,10 @@ pub mod Countdown
 mod Glancing
 mod Instants
 mod NodeLooks
+pub mod Silences
 mod WindowNodes
 mod WindowBridging
 mod WindowTurnings
-mod WindowWaits
 pub mod WaitBridging
 pub mod WaitPast
 mod FirstWindows

@@ -1,11 +1,10 @@
 -- How far a node looks over an input, and what it leaves of the one that it reads.
-use Rattle.std.proofs.Common.{◌≡◌, ◌⊎◌, inl, inr, ℕ, Bool, true, false, refl, sym, ap, subst, ◌∙◌, arith, Option, Some, ℤ, pos, ◌+ℤ◌, ◌<ℤ◌, ◌≤ℤ◌}
-use Rattle.std.specs.Prelude.{◌-ℤ◌, IfSome}
+use Rattle.std.proofs.Common.{◌≡◌, ◌⊎◌, inl, inr, ℕ, Bool, true, false, refl, sym, ap, subst, ◌∙◌, arith, Some, ℤ, pos, ◌+ℤ◌, ◌<ℤ◌, ◌≤ℤ◌}
 use Rattle.std.proofs.lemmas.Int.{ints}
 use Rattle.std.proofs.lemmas.Option.{same_Some}
 use Rattle.rational.specs.Time.{Rational, shifted, whole, ◌≈◌, ◌≤ʳ◌}
-use Rattle.rational.proofs.Order.{ge_of_same, le_of_same, le_trans, not_lt_of_le, same_refl}
-use Rattle.rational.proofs.Shift.{le_whole, lt_whole}
+use Rattle.rational.proofs.Order.{le_of_same, le_trans, same_refl}
+use Rattle.rational.proofs.Shift.{le_whole}
 use Rattle.stl_syntax.specs.Trace.{stop, last_time}
 use Rattle.stl_syntax.specs.Formula.{subformula, horizon}
 use Rattle.stl_syntax.specs.declared.node.Node.{Node}
@@ -16,7 +15,7 @@ use Rattle.online_robust.specs.Held.{Held, edge_at}
 use Rattle.online_robust.specs.Steps.{Step, Belongs, HasSwept, IsCut, back_of, begin_of}
 use Rattle.online_robust.specs.Windows.{Sheds}
 use Rattle.online_robust.specs.declared.operator.Operator.{Operator}
-use Rattle.online_robust.proofs.Bridging.{last_to, small_to}
+use Rattle.online_robust.proofs.Bridging.{small_to}
 
 -- a whole time moved by an offset
 pub shifted_whole : (k j : ℤ) → shifted (whole k) j ≈ whole (k +ℤ j)
@@ -47,37 +46,6 @@ module _ (t : Step) (op : Operator) (e : Held) (to : ℕ) (b : Belongs t op e to
 
   at_stop : t.ended ≡ true → whole (pos t.now) ≈ stop t.trace
   at_stop ended = let last = b.at_end ended in subst (λ k. whole (pos t.now) ≈ whole (pos k)) last (same_refl (whole (pos t.now)))
-
-  -- how much earlier the input stands is the same at every number, but at the end: once it has given out something it has at each later number
-  pub stays_begun : (g : ℤ) → t.before ≡ Some g → (whole g ≈ stop t.trace)
-      ⊎ (pos (begin_of t) ≤ℤ ((g +ℤ pos (horizon (subformula t.nodes t.place))) -ℤ pos (horizon (subformula t.nodes of)))) → pos (begin_of t) ≤ℤ front_of
-  stays_begun g is begun = by_begun begun
-    where
-      after : g <ℤ pos to
-      after = (subst (λ (o : Option ℤ). IfSome o (λ g. (pos (begin_of t) ≤ℤ g) × (g <ℤ pos to))) is b.forth).1
-
-      by_end : (c : Bool) → pos to ≡ front_at c (pos t.now) (subformula t.nodes t.place)
-          → pos (begin_of t) ≤ℤ ((g +ℤ pos (horizon (subformula t.nodes t.place))) -ℤ pos (horizon (subformula t.nodes of)))
-          → pos (begin_of t) ≤ℤ front_at c (pos t.now) (subformula t.nodes of)
-      by_end true e le = let from = b.from_start in omega (arith, ints, e, from)
-      by_end false e le = omega (arith, ints, e, le, after)
-
-      by_begun : (whole g ≈ stop t.trace)
-          ⊎ (pos (begin_of t) ≤ℤ ((g +ℤ pos (horizon (subformula t.nodes t.place))) -ℤ pos (horizon (subformula t.nodes of)))) → pos (begin_of t) ≤ℤ front_of
-      by_begun (inl at_end) = absurd (not_lt_of_le (le_trans (last_to t op e to b) (ge_of_same at_end)) (lt_whole after))
-      by_begun (inr le) = by_end t.ended b.number le
-
-  -- the same of the number that the node comes to
-  pub begun_now : pos (begin_of t) ≤ℤ front_of → (whole (pos to) ≈ stop t.trace)
-      ⊎ (pos (begin_of t) ≤ℤ ((pos to +ℤ pos (horizon (subformula t.nodes t.place))) -ℤ pos (horizon (subformula t.nodes of))))
-  begun_now le = by_end t.ended refl b.number le
-    where
-      by_end : (c : Bool) → t.ended ≡ c → pos to ≡ front_at c (pos t.now) (subformula t.nodes t.place)
-          → pos (begin_of t) ≤ℤ front_at c (pos t.now) (subformula t.nodes of)
-          → (whole (pos to) ≈ stop t.trace)
-          ⊎ (pos (begin_of t) ≤ℤ ((pos to +ℤ pos (horizon (subformula t.nodes t.place))) -ℤ pos (horizon (subformula t.nodes of))))
-      by_end true same e le = let last = b.at_end same in inl (subst (λ k. whole k ≈ stop t.trace) (sym (e ∙ ap pos last)) (same_refl (stop t.trace)))
-      by_end false same e le = inr (omega (arith, ints, e, le))
 
   -- a node that reads this input alone has swept its edges where it has swept that one's
   pub one_swept : (e' : Held) {limit : Rational} → Sheds limit of e e' → IsReader b.node true of

@@ -1,5 +1,5 @@
 -- All nodes of a network go on from one past to the next, one after another.
-use Rattle.std.proofs.Common.{◌≡◌, inl, inr, ℕ, suc, zero, ◌<◌, ◌≤◌, Bool, true, false, List, [], ◌∷◌, ◌++◌}
+use Rattle.std.proofs.Common.{◌≡◌, inl, inr, ℕ, suc, zero, ◌≤◌, Bool, true, false, List, [], ◌∷◌, ◌++◌}
 use Rattle.std.proofs.Common.{length, drop, refl, sym, ap, subst, ◌∙◌, arith, Option, Some, None, ℤ, pos, ◌≤ℤ◌}
 use Rattle.std.specs.Prelude.{MatchBool, IfSome, int_lt, cond, slice_get}
 use Rattle.std.proofs.lemmas.Int.{ints}

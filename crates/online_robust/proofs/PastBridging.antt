@@ -28,7 +28,7 @@ use Rattle.online_nodes.specs.StreamedWide.{IsSettledConstant, front_at}
 use Rattle.online_robust.specs.Held.{Held, edge_at, held_at}
 use Rattle.online_robust.specs.Told.{IsTick}
 use Rattle.online_robust.specs.ReadLines.{IsStretch, IsThere}
-use Rattle.online_robust.specs.Standing.{HasPassedTo, HasWaitedPast, IsPastOf, Stands}
+use Rattle.online_robust.specs.Standing.{HasPassedTo, HasWaited, IsPastOf, Stands}
 use Rattle.online_robust.specs.Steps.{Step, Belongs, AreInputs, HasSwept, IsCut, IsInput, IsStreamedFault}
 use Rattle.online_robust.specs.Steps.{IsSwept, StandsNow, back_of, begin_of, from_of, reach_before, seen_by}
 use Rattle.online_robust.specs.WindowPasts.{CanPass, HasPassed, IsFitPast, StoodPast}
@@ -40,7 +40,7 @@ use Rattle.online_robust.specs.declared.ever.Ever.{Ever}
 use Rattle.online_robust.specs.declared.window.Window.{Window}
 use Rattle.online_robust.proofs.BestPasts.{best_past, in_play_past, settled_past}
 use Rattle.online_robust.proofs.Bridging.{input_within, inputs_of, last_to, none_let_go, swept_of, tick_of, tree}
-use Rattle.online_robust.proofs.NodeLooks.{begun_now, front_by_stop, one_swept, told_as_far}
+use Rattle.online_robust.proofs.NodeLooks.{front_by_stop, one_swept, told_as_far}
 use Rattle.online_robust.proofs.Sheddings.{sheds_later}
 use Rattle.online_robust.proofs.PastAgain.{cut_past, stood_past}
 use Rattle.online_robust.proofs.WindowFirst.{CanTurn, Turn}
@@ -222,13 +222,13 @@ module _ (t : Step) (z : Endless) (e : Held) (to : ℕ) (b : Belongs t (Op.Ever 
     -- it stands for its node at the number
     pub past_stands : {from : Rational} {old s : Ever} {e' : Held} (z' : Endless) → CanPass x own from (whole (pos to)) old e
         → old.window ≡ z.window → s.window ≡ old.window
-        → HasPassed x s e' → pos (begin_of t) ≤ℤ F
+        → HasPassed x s e' → pos (begin_of t) ≤ℤ (pos to +ℤ z.window.high)
         → IsSomeAnd s.last (λ r. (value r.at ≡ value s.at) × (value r.at ≈ end) × IsThere (best_of x old.window) (reach_before t + own) (value r.at) r.value)
         → z'.window ≡ z.window → z'.past ≡ Some s → StandsNow t (Op.Ever z') e' to
-    past_stands {from} {old} {s} {e'} z' can old_window s_window came begun last window is node found =
+    past_stands {from} {old} {s} {e'} z' can old_window s_window came late last window is node found =
         subst (λ (k : Node). Stands k t.nodes t.place t.trace (Some (pos to)) (Op.Ever z') (seen_by k e')) (same_Some _ _ (sym b.at ∙ found)) (
           subst (IsPastOf b.node) (sym window) b.stands.0,
-          subst (λ (o : Option Ever). MatchOption o ((seen_by b.node e' ≡ []) × HasWaitedPast z' (begin_of t) (reach_before t + own) (Some (pos to)))
+          subst (λ (o : Option Ever). MatchOption o ((seen_by b.node e' ≡ []) × HasWaited z'.window z'.told (begin_of t) (reach_before t + own) (Some (pos to)))
               (λ s. (s.window ≡ z'.window) × HasPassedTo t.nodes t.place t.trace z'.window.of own s (seen_by b.node e') (pos to))) (sym is)
               (s_window ∙ old_window ∙ sym window, swept),
         )
@@ -248,4 +248,4 @@ module _ (t : Step) (z : Endless) (e : Held) (to : ℕ) (b : Belongs t (Op.Ever 
 
         swept : HasPassedTo t.nodes t.place t.trace z'.window.of own s (seen_by b.node e') (pos to)
         swept = subst (λ (v : Window). HasPassedTo t.nodes t.place t.trace v.of own s (seen_by b.node e') (pos to)) (sym window)
-            (subst (λ l. StoodPast child t.trace (reach_before t) own (whole (pos to)) s l) seen_is over, begun_now t (Op.Ever z) e to b z.window.of begun)
+            (subst (λ l. StoodPast child t.trace (reach_before t) own (whole (pos to)) s l) seen_is over, subst (λ (v : Window). pos (begin_of t) ≤ℤ (pos to +ℤ v.high)) (sym (s_window ∙ old_window)) late)

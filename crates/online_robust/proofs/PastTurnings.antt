@@ -1,7 +1,7 @@
 -- A window without a low end that goes on in a turn, and one that begins in it.
-use Rattle.std.proofs.Common.{◌≡◌, ◌≢◌, ℕ, ◌+◌, ◌^◌, Bool, true, false, []}
+use Rattle.std.proofs.Common.{◌≡◌, ℕ, ◌+◌, ◌^◌, Bool, true, false, []}
 use Rattle.std.proofs.Common.{refl, sym, ap, subst, ◌∙◌, arith, Option, Some, None, ℤ, pos, ◌+ℤ◌, ◌<ℤ◌, ◌≤ℤ◌}
-use Rattle.std.specs.Prelude.{neg_ℤ, ◌-ℤ◌, MatchOption, IfSome, IsSomeAnd, int_lt, cond, slice_get}
+use Rattle.std.specs.Prelude.{neg_ℤ, ◌-ℤ◌, MatchOption, IfSome, IsSomeAnd, int_lt, cond}
 use Rattle.std.proofs.lemmas.Int.{ints}
 use Rattle.std.proofs.lemmas.Option.{same_Some}
 use Rattle.rational.specs.Rational.{IsWithin}
@@ -19,7 +19,7 @@ use Rattle.online_nodes.specs.StreamedWide.{front_at}
 use Rattle.online_robust.specs.Held.{Held, edge_at, held_at}
 use Rattle.online_robust.specs.Told.{IsTick}
 use Rattle.online_robust.specs.ReadLines.{HasReached, IsThere}
-use Rattle.online_robust.specs.Standing.{HasStood, HasPassedTo, HasWaitedPast}
+use Rattle.online_robust.specs.Standing.{HasStood, HasPassedTo, HasWaited}
 use Rattle.online_robust.specs.Steps.{Step, Belongs, AreInputs, IsInput, back_of, begin_of, from_of, reach_before, seen_by}
 use Rattle.online_robust.specs.Waiting.{HasToldPast, IsBegunPast, silent_margin}
 use Rattle.online_robust.specs.WindowPasts.{CanPass, IsFitPast, IsPastAt, KeepsPoint, StoodPast}
@@ -29,25 +29,27 @@ use Rattle.online_robust.specs.declared.line.Reached.{Reached}
 use Rattle.online_robust.specs.declared.operator.Operator.TheVariants as Op
 use Rattle.online_robust.specs.declared.ever.Ever.{Ever}
 use Rattle.online_robust.specs.declared.window.Window.{Window}
-use Rattle.online_robust.proofs.Bridging.{from_none, from_some, inputs_of, none_given, some_given}
-use Rattle.online_robust.proofs.NodeLooks.{shifted_whole, stays_begun}
+use Rattle.online_robust.proofs.Bridging.{from_none, from_some, inputs_of}
+use Rattle.online_robust.proofs.NodeLooks.{shifted_whole}
+use Rattle.online_robust.proofs.Silences.{late_begun}
 use Rattle.online_robust.proofs.Builts.{tick_within}
 use Rattle.online_robust.proofs.PastAgain.{past_first, past_go_on}
 use Rattle.online_robust.proofs.WindowTurnings.{none_there}
 use Rattle.rational.proofs.Mixed.{within_same}
 use Rattle.rational.proofs.Tests.{int_order}
-use Rattle.online_robust.proofs.PastBridging.{can_turn, first_tick, fit, here, input, own}
+use Rattle.online_robust.proofs.PastBridging.{can_turn, far, first_tick, fit, here, input, own}
 use Rattle.online_robust.proofs.PastBridging.{scope_of, to_first, to_tick, turn_of}
 use Rattle.online_robust.proofs.WindowFirst.{CanTurn, Turn, scope_in, turn_span}
 
 -- ---- a window that goes on
 
-module _ (t : Step) (z : Endless) (e : Held) (to : ℕ) (b : Belongs t (Op.Ever z) e to) (s : Ever) (is : z.past ≡ Some s) where
+module _ (t : Step) (z : Endless) (e : Held) (to : ℕ) (b : Belongs t (Op.Ever z) e to)
+    (late : pos (begin_of t) ≤ℤ (pos to +ℤ z.window.high)) (s : Ever) (is : z.past ≡ Some s) where
   abbrev turn_on : Turn
   turn_on = turn_of t z e to b
 
   state : (s.window ≡ z.window) × IsSomeAnd t.before (HasPassedTo t.nodes t.place t.trace z.window.of (own t z e to b) s (seen_by b.node e))
-  state = subst (λ (o : Option Ever). MatchOption o ((seen_by b.node e ≡ []) × HasWaitedPast z (begin_of t) (reach_before t + own t z e to b) t.before)
+  state = subst (λ (o : Option Ever). MatchOption o ((seen_by b.node e ≡ []) × HasWaited z.window z.told (begin_of t) (reach_before t + own t z e to b) t.before)
       (λ s. (s.window ≡ z.window) × IsSomeAnd t.before (HasPassedTo t.nodes t.place t.trace z.window.of (own t z e to b) s (seen_by b.node e)))) is b.stands.1
 
   -- the window that goes on is the node's
@@ -63,8 +65,8 @@ module _ (t : Step) (z : Endless) (e : Held) (to : ℕ) (b : Belongs t (Op.Ever 
           → (from : Rational) × (from ≡ from_of t) × CanPass (scope_of t z e to b (value s.at)) (own t z e to b) from (whole (pos to)) s e
           × (pos (begin_of t) ≤ℤ front_at t.ended (pos t.now) (subformula t.nodes z.window.of))
       by_before None before h = absurd h
-      by_before (Some g) before (over, begun) =
-          let le = stays_begun t (Op.Ever z) e to b z.window.of g before begun in
+      by_before (Some g) before (over, was) =
+          let le = late_begun t (Op.Ever z) e to b z.window (far t z e to b) late in
           let forth = subst (λ (o : Option ℤ). IfSome o (λ g. (pos (begin_of t) ≤ℤ g) × (g <ℤ pos to))) before b.forth in
           let inputs =
           inputs_of (Robustness (subformula t.nodes z.window.of) t.trace) (reach_before t) (begin_of t) (back_of (begin_of t) (Some g) z.window.high)
@@ -87,10 +89,29 @@ module _ (t : Step) (z : Endless) (e : Held) (to : ℕ) (b : Belongs t (Op.Ever 
 
 -- ---- a window that begins
 
+-- a window whose high end lies before the start has seen nothing
+module _ (t : Step) (z : Endless) (e : Held) (to : ℕ) (b : Belongs t (Op.Ever z) e to) (short : (pos to +ℤ z.window.high) <ℤ pos (begin_of t)) where
+  -- it has not gone over its input
+  pub unbegun : z.past ≡ None
+  unbegun = by_state z.past b.stands.1
+    where
+      by_before : (s : Ever) → s.window ≡ z.window → (o : Option ℤ) → IfSome o (λ g. (pos (begin_of t) ≤ℤ g) × (g <ℤ pos to))
+          → IsSomeAnd o (HasPassedTo t.nodes t.place t.trace z.window.of (own t z e to b) s (seen_by b.node e)) → ⊥
+      by_before s window None forth h = h
+      by_before s window (Some g) forth (over, late) =
+          let come = subst (λ (v : Window). pos (begin_of t) ≤ℤ (g +ℤ v.high)) window late in
+          let lt = forth.1 in
+          absurd (omega (arith, ints, come, lt, short))
+
+      by_state : (o : Option Ever) → MatchOption o ((seen_by b.node e ≡ []) × HasWaited z.window z.told (begin_of t) (reach_before t + own t z e to b) t.before)
+          (λ s. (s.window ≡ z.window) × IsSomeAnd t.before (HasPassedTo t.nodes t.place t.trace z.window.of (own t z e to b) s (seen_by b.node e))) → o ≡ None
+      by_state None h = refl
+      by_state (Some s) (window, h) = absurd (by_before s window t.before b.forth h)
+
 module _ (t : Step) (z : Endless) (e : Held) (to : ℕ) (b : Belongs t (Op.Ever z) e to) (none : z.past ≡ None) where
   -- a window that waited has seen nothing
-  pub waited : (seen_by b.node e ≡ []) × HasWaitedPast z (begin_of t) (reach_before t + own t z e to b) t.before
-  waited = subst (λ (o : Option Ever). MatchOption o ((seen_by b.node e ≡ []) × HasWaitedPast z (begin_of t) (reach_before t + own t z e to b) t.before)
+  pub waited : (seen_by b.node e ≡ []) × HasWaited z.window z.told (begin_of t) (reach_before t + own t z e to b) t.before
+  waited = subst (λ (o : Option Ever). MatchOption o ((seen_by b.node e ≡ []) × HasWaited z.window z.told (begin_of t) (reach_before t + own t z e to b) t.before)
       (λ s. (s.window ≡ z.window) × IsSomeAnd t.before (HasPassedTo t.nodes t.place t.trace z.window.of (own t z e to b) s (seen_by b.node e)))) none b.stands.1
 
   -- its edge has read nothing
@@ -113,19 +134,19 @@ module _ (t : Step) (z : Endless) (e : Held) (to : ℕ) (b : Belongs t (Op.Ever 
   first_input = subst (λ (o : Option ℤ). IsInput (Robustness (subformula t.nodes z.window.of) t.trace) (reach_before t) (begin_of t) o
       (front_at t.ended (pos t.now) (subformula t.nodes z.window.of)) (held_at e z.window.of)) (back_none t.before waited.1.short) (input t z e to b)
 
-  -- an empty edge is that of an input that has given out nothing
-  pub not_begun : slice_get (held_at e z.window.of) 0 ≡ None → front_at t.ended (pos t.now) (subformula t.nodes z.window.of) <ℤ pos (begin_of t)
-  not_begun empty = none_given (Robustness (subformula t.nodes z.window.of) t.trace) (reach_before t) (begin_of t)
-      (front_at t.ended (pos t.now) (subformula t.nodes z.window.of)) (held_at e z.window.of) first_input empty
+  module _ (late : pos (begin_of t) ≤ℤ (pos to +ℤ z.window.high)) where
+    -- once its high end has come to the start its input has given out lines
+    pub has_begun : (pos (begin_of t) ≤ℤ front_at t.ended (pos t.now) (subformula t.nodes z.window.of))
+        × AreInputs (Robustness (subformula t.nodes z.window.of) t.trace) (reach_before t) (begin_of t) None
+        (front_at t.ended (pos t.now) (subformula t.nodes z.window.of)) (held_at e z.window.of)
+    has_begun =
+        let le = late_begun t (Op.Ever z) e to b z.window (far t z e to b) late in (
+          le,
+          inputs_of (Robustness (subformula t.nodes z.window.of) t.trace) (reach_before t) (begin_of t) None
+              (front_at t.ended (pos t.now) (subformula t.nodes z.window.of)) (held_at e z.window.of) le first_input,
+        )
 
-  -- one that is not empty, that of an input that has
-  pub has_begun : slice_get (held_at e z.window.of) 0 ≢ None → (pos (begin_of t) ≤ℤ front_at t.ended (pos t.now) (subformula t.nodes z.window.of))
-      × AreInputs (Robustness (subformula t.nodes z.window.of) t.trace) (reach_before t) (begin_of t) None
-      (front_at t.ended (pos t.now) (subformula t.nodes z.window.of)) (held_at e z.window.of)
-  has_begun some = some_given (Robustness (subformula t.nodes z.window.of) t.trace) (reach_before t) (begin_of t)
-      (front_at t.ended (pos t.now) (subformula t.nodes z.window.of)) (held_at e z.window.of) first_input some
-
-  module _ (some : slice_get (held_at e z.window.of) 0 ≢ None) (s : Ever) (k : IsBegunPast z.window (begin_of t) z.silent.last s) where
+  module _ (late : pos (begin_of t) ≤ℤ (pos to +ℤ z.window.high)) (s : Ever) (k : IsBegunPast z.window (begin_of t) z.told s) where
     abbrev turn : Turn
     turn = turn_of t z e to b
 
@@ -134,13 +155,13 @@ module _ (t : Step) (z : Endless) (e : Held) (to : ℕ) (b : Belongs t (Op.Ever 
 
     -- it may go on in the turn
     can : CanTurn turn z.window None e
-    can = can_turn t z e to b None (has_begun some).0 (has_begun some).1
+    can = can_turn t z e to b None (has_begun late).0 (has_begun late).1
 
     -- its high end lies before the start
     first : IsWithin (2 ^ 34) (value s.at) → shifted (value s.at) z.window.high <ʳ start t.trace → IsPastAt x s e × KeepsPoint s
     first near early =
         subst (λ (v : Window). IsPastAt (scope_in turn v (value s.at)) s e × KeepsPoint s) k.window
-        (past_first turn s e (subst (λ (v : Window). IsBegunPast v (begin_of t) z.silent.last s) (sym k.window) k)
+        (past_first turn s e (subst (λ (v : Window). IsBegunPast v (begin_of t) z.told s) (sym k.window) k)
         (subst (λ (v : Window). CanTurn turn v None e) (sym k.window) can)
         (subst (λ (v : Window). (edge_at e v.of).seen ≡ []) (sym k.window) nothing_seen)
         (subst (λ (v : Window). IsFitPast v turn.reach) (sym k.window) (fit t z e to b)) (first_tick t z e to b) near
@@ -195,7 +216,7 @@ module _ (t : Step) (z : Endless) (e : Held) (to : ℕ) (b : Belongs t (Op.Ever 
 
     -- the window that waited may begin now
     pub beginning : (from : Rational) × (from ≡ from_of t) × CanPass x (own t z e to b) from (whole (pos to)) s e
-    beginning = by_told z.silent.last t.before refl k.told waited.1.short waited.1.stood b.forth
+    beginning = by_told z.told t.before refl k.told waited.1.short waited.1.stood b.forth
       where
         by_told : (o : Option Reached) (before : Option ℤ) → t.before ≡ before → HasToldPast (begin_of t) o s
             → IfSome before (λ g. (g +ℤ z.window.high) <ℤ pos (begin_of t))

@@ -1,108 +1,82 @@
--- From what an operator needs before it goes on to what a window without a low end needs whose input has given out nothing, and
--- back from what it leaves.
-use Rattle.std.proofs.Common.{◌≡◌, ℕ, ◌+◌, List, []}
-use Rattle.std.proofs.Common.{sym, ap, subst, ◌∙◌, arith, Option, Some, None, pos, ◌+ℤ◌, ◌<ℤ◌, ◌≤ℤ◌}
-use Rattle.std.specs.Prelude.{MatchOption, IsSome, slice_get}
+-- A window without a low end whose high end lies before the first row: what an operator needs before it goes on with it, and what it leaves.
+use Rattle.std.proofs.Common.{◌≡◌, ℕ, ◌+◌, List, [], sym, subst, ◌∙◌, arith, Option, Some, None, pos, ◌+ℤ◌, ◌<ℤ◌, ◌≤ℤ◌}
+use Rattle.std.specs.Prelude.{IfSome, IsSomeAnd, MatchOption}
 use Rattle.std.proofs.lemmas.Int.{ints}
 use Rattle.std.proofs.lemmas.Option.{same_Some}
-use Rattle.rational.specs.Time.{Rational, shifted, whole, ◌≈◌}
-use Rattle.rational.proofs.Order.{le_trans, le_of_same}
+use Rattle.rational.specs.Time.{whole, ◌≈◌, ◌≤ʳ◌}
+use Rattle.rational.proofs.Order.{le_trans, same_refl}
+use Rattle.frac128.specs.Value.{value}
 use Rattle.value_laws.specs.declared.margin.Margin.{Margin}
 use Rattle.pl_signal.specs.declared.knot.Knot.{Knot}
 use Rattle.stl_syntax.specs.Formula.{subformula}
 use Rattle.stl_syntax.specs.declared.node.Node.{Node}
-use Rattle.online_nodes.specs.StreamedWide.{front_at}
-use Rattle.online_robust.specs.Held.{Held, held_at}
-use Rattle.online_robust.specs.ReadLines.{HasReached, IsStretch, LosesAt}
-use Rattle.online_robust.specs.Glances.{CanGlance, Glance, glance_of}
-use Rattle.online_robust.specs.Standing.{HasStood, HasPassedTo, HasWaitedPast, IsPastOf, Stands}
+use Rattle.online_robust.specs.Held.{Held}
+use Rattle.online_robust.specs.ReadLines.{HasReached, IsStretch}
+use Rattle.online_robust.specs.Standing.{HasPassedTo, HasWaited, IsPastOf, Stands}
 use Rattle.online_robust.specs.Steps.{Step, Belongs, HasSwept, IsSwept, StandsNow, begin_of, from_of, reach_before, seen_by}
-use Rattle.online_robust.specs.Waiting.{silent_margin, silent_of}
-use Rattle.online_robust.specs.declared.glance.Moved.{Moved}
+use Rattle.online_robust.specs.Told.{IsTick}
+use Rattle.online_robust.specs.Waiting.{silent_margin}
 use Rattle.online_robust.specs.declared.endless.Endless.{Endless}
 use Rattle.online_robust.specs.declared.operator.Operator.TheVariants as Op
 use Rattle.online_robust.specs.declared.ever.Ever.{Ever}
 use Rattle.online_robust.specs.declared.window.Window.{Window}
 use Rattle.online_robust.proofs.BestPasts.{best_past}
-use Rattle.online_robust.proofs.Bridging.{stood_after, swept_of}
-use Rattle.online_robust.proofs.WindowWaits.{IsSilent, best_before, can_wait as can_silently, short, silence_reached, silence_told, silent_edges, still_unseen}
-use Rattle.online_robust.proofs.PastBridging.{far, first_tick, fit, here, own, to_tick}
-use Rattle.online_robust.proofs.PastTurnings.{not_begun, waited}
+use Rattle.online_robust.proofs.Bridging.{span_from, swept_of}
+use Rattle.online_robust.proofs.Silences.{best_before, early_edges, stood_now, told_from, told_tick}
+use Rattle.online_robust.proofs.PastBridging.{first_tick, here, own, to_tick}
+use Rattle.online_robust.proofs.PastTurnings.{unbegun, waited}
 
-module _ (t : Step) (z : Endless) (e : Held) (to : ℕ) (b : Belongs t (Op.Ever z) e to) (none : z.past ≡ None)
-    (empty : slice_get (held_at e z.window.of) 0 ≡ None) where
-  has_waited : HasWaitedPast z (begin_of t) (reach_before t + own t z e to b) t.before
-  has_waited = (waited t z e to b none).1
+module _ (t : Step) (z : Endless) (e : Held) (to : ℕ) (b : Belongs t (Op.Ever z) e to) (start : ℕ) (first : e.start ≡ Some start)
+    (early : (pos to +ℤ z.window.high) <ℤ pos start) where
+  -- the first row is that of the turn
+  first_is : start ≡ begin_of t
+  first_is = same_Some _ _ (sym first ∙ b.start)
 
-  silent : IsSilent t (Op.Ever z) e to b z.window z.silent
-  silent = record {
-    is = has_waited.silent;
-    stood = has_waited.stood;
-    reads = (here t z e to b).reads;
-    only = (here t z e to b).only;
-    back = subst (λ k. k ≤ℤ z.window.high) (sym (here t z e to b).back) (omega (arith, ints));
-    far = far t z e to b;
-    offset = let f = fit t z e to b in record { from = let low = f.from in omega (arith, ints, low); to = let high = f.to in omega (arith, ints, high) };
-    own_by = let o = (here t z e to b).own in record { from = o.high_from; to = o.high_to };
-    empty = empty;
-    none = not_begun t z e to b none empty;
-  }
+  short : (pos to +ℤ z.window.high) <ℤ pos (begin_of t)
+  short = subst (λ (n : ℕ). (pos to +ℤ z.window.high) <ℤ pos n) first_is early
 
-  -- its input, as the empty window has it
-  abbrev pub silence : Glance
-  silence = record {
-    formula = subformula t.nodes z.window.of;
-    trace = t.trace;
-    reach = reach_before t;
-    front = whole (front_at t.ended (pos t.now) (subformula t.nodes z.window.of));
-    bound = shifted (whole (pos to)) z.window.high;
-  }
+  none : z.past ≡ None
+  none = unbegun t z e to b short
 
-  module _ (end : Rational) (same : end ≈ whole (pos to)) where
-    -- a window whose input is silent may tell of no times
-    pub can_wait : CanGlance silence z.silent (own t z e to b) (from_of t) end e
-    can_wait = can_silently t (Op.Ever z) e to b z.window z.silent silent end same
+  has_waited : (seen_by b.node e ≡ []) × HasWaited z.window z.told (begin_of t) (reach_before t + own t z e to b) t.before
+  has_waited = waited t z e to b none
 
-    -- a window that looks before the start alone has the value of no times
-    pub wait_told : (s : List (Knot Margin)) → IsStretch (glance_of silence z.silent) (reach_before t + own t z e to b) (from_of t) end s → IsSwept t to s
-    wait_told s given = swept_of t (Op.Ever z) e to b (silent_margin z.window.side) end s same
-        (λ u v by h. best_past (subformula t.nodes) t.place b.node z.window t.trace b.stands.0 (first_tick t z e to b).0 u v
-        (le_trans by (le_trans (le_of_same same) (to_tick t z e to b).1))
-        (best_before t (Op.Ever z) e to b z.window z.silent silent end same u v by h))
-        (silence_told t (Op.Ever z) e to b z.window z.silent silent end same s given)
+  -- where it was told is a time of 32 bits
+  pub waits_tick : IfSome z.told (λ r. IsTick (value r.at))
+  waits_tick = told_tick t (Op.Ever z) e to b z.window z.told has_waited.1
 
-    -- the edges are swept up to the time
-    pub wait_edges : (e' : Held) → LosesAt (shifted end z.silent.by) z.silent.of e e' → HasSwept t e e' to
-    wait_edges e' lost = silent_edges t (Op.Ever z) e to b z.window z.silent silent end same e' lost
+  -- it goes on from there
+  pub waits_from : MatchOption z.told (from_of t ≈ whole (pos start))
+      (λ r. HasReached (silent_margin z.window.side) (reach_before t + own t z e to b) (from_of t) (Some r)) × (from_of t ≤ʳ whole (pos to))
+  waits_from = (told_from t (Op.Ever z) e to b z.window z.told has_waited.1 start first_is, (span_from t (Op.Ever z) e to b).1)
 
-    -- a window that waits stands at the time of the turn
-    pub wait_stands : (z' : Endless) (e' : Held) → z' ≡ record z { silent = z'.silent }
-        → z'.silent ≡ record z.silent { last = z'.silent.last } → IsSome z'.silent.last
-        → HasReached (glance_of silence z.silent) (reach_before t + own t z e to b) end z'.silent.last
-        → LosesAt (shifted end z.silent.by) z.silent.of e e' → StandsNow t (Op.Ever z') e' to
-    wait_stands z' e' kept silent_kept some given lost node found =
-        subst (λ (k : Node). Stands k t.nodes t.place t.trace (Some (pos to)) (Op.Ever z') (seen_by k e')) (same_Some _ _ (sym b.at ∙ found)) (
-          subst (λ (v : Window). IsPastOf b.node v) (sym window) b.stands.0,
-          subst (λ (o : Option Ever). MatchOption o ((seen_by b.node e' ≡ []) × HasWaitedPast z' (begin_of t) (reach_before t + own t z e to b) (Some (pos to)))
-              (λ s. (s.window ≡ z'.window) × HasPassedTo t.nodes t.place t.trace z'.window.of (own t z e to b) s (seen_by b.node e') (pos to)))
-              (sym no_past) (nothing_seen, still),
-        )
-      where
-        window : z'.window ≡ z.window
-        window = ap (λ (y : Endless). y.window) kept
+  -- the value of no times is the node's margin
+  pub wait_told : (s : List (Knot Margin)) → IsStretch (silent_margin z.window.side) (reach_before t + own t z e to b) (from_of t) (whole (pos to)) s
+      → IsSwept t to s
+  wait_told s given = swept_of t (Op.Ever z) e to b (silent_margin z.window.side) (whole (pos to)) s (same_refl (whole (pos to)))
+      (λ u v by h. best_past (subformula t.nodes) t.place b.node z.window t.trace b.stands.0 (first_tick t z e to b).0 u v
+      (le_trans by (to_tick t z e to b).1)
+      (best_before t (Op.Ever z) e to b z.window short u v by h)) given
 
-        no_past : z'.past ≡ None
-        no_past = ap (λ (y : Endless). y.past) kept ∙ none
+  -- the edges stay as they are
+  pub wait_edges : HasSwept t e e to
+  wait_edges = early_edges t (Op.Ever z) e to b z.window short (subst (λ k. k ≤ℤ z.window.high) (sym (here t z e to b).back) (omega (arith, ints)))
+      (here t z e to b).reads (here t z e to b).only
 
-        nothing_seen : seen_by b.node e' ≡ []
-        nothing_seen = (here t z e to b).seen e' ∙ still_unseen t (Op.Ever z) e to b z.window z.silent silent end same e' lost
-
-        still : HasWaitedPast z' (begin_of t) (reach_before t + own t z e to b) (Some (pos to))
-        still = record {
-          silent = silent_kept ∙ ap (λ (m : Moved). record m { last = z'.silent.last }) has_waited.silent
-              ∙ ap (λ (v : Window). silent_of v z'.silent.last) (sym window);
-          short = subst (λ (v : Window). (pos to +ℤ v.high) <ℤ pos (begin_of t)) (sym window) (short t (Op.Ever z) e to b z.window z.silent silent);
-          stood = subst (λ (v : Window). HasStood (silent_margin v.side) (reach_before t + own t z e to b) (Some (pos to)) z'.silent.last) (sym window)
-              (stood_after (silent_margin z.window.side) (reach_before t + own t z e to b) (pos to) z'.silent.last some
-              (silence_reached t (Op.Ever z) e to b z.window z.silent silent end same z'.silent.last given));
-        }
+  -- it stands at the time of the turn
+  pub wait_stands : (z' : Endless) → z'.window ≡ z.window → z'.past ≡ z.past
+      → IsSomeAnd z'.told (λ r. (most : ℕ) → HasReached (silent_margin z.window.side) most (whole (pos to)) (Some r)) → StandsNow t (Op.Ever z') e to
+  wait_stands z' window same told node found =
+      subst (λ (k : Node). Stands k t.nodes t.place t.trace (Some (pos to)) (Op.Ever z') (seen_by k e)) (same_Some _ _ (sym b.at ∙ found)) (
+        subst (λ (v : Window). IsPastOf b.node v) (sym window) b.stands.0,
+        subst (λ (o : Option Ever). MatchOption o
+            ((seen_by b.node e ≡ []) × HasWaited z'.window z'.told (begin_of t) (reach_before t + own t z e to b) (Some (pos to)))
+            (λ s. (s.window ≡ z'.window) × HasPassedTo t.nodes t.place t.trace z'.window.of (own t z e to b) s (seen_by b.node e) (pos to)))
+            (sym (same ∙ none)) (has_waited.0, still),
+      )
+    where
+      still : HasWaited z'.window z'.told (begin_of t) (reach_before t + own t z e to b) (Some (pos to))
+      still = subst (λ (v : Window). HasWaited v z'.told (begin_of t) (reach_before t + own t z e to b) (Some (pos to))) (sym window) (record {
+        short = short;
+        stood = stood_now z.window.side (reach_before t + own t z e to b) (pos to) z'.told told;
+      })

@@ -39,7 +39,7 @@ use Rattle.online_robust.specs.declared.window.Sweep.{Sweep}
 use Rattle.online_robust.specs.declared.window.Window.{Window}
 use Rattle.online_robust.proofs.BestWindows.{best_is, in_play_is, settled_is}
 use Rattle.online_robust.proofs.Bridging.{input_within, inputs_of, last_to, none_let_go, swept_of, tick_of, tree}
-use Rattle.online_robust.proofs.NodeLooks.{begun_now, front_by_stop, one_swept, told_as_far}
+use Rattle.online_robust.proofs.NodeLooks.{front_by_stop, one_swept, told_as_far}
 use Rattle.online_robust.proofs.Sheddings.{sheds_later}
 use Rattle.online_robust.proofs.WindowAgain.{cut_window, owned_of, span_same, stood_over}
 use Rattle.online_robust.proofs.WindowFirst.{CanTurn, Turn}
@@ -220,15 +220,15 @@ module _ (t : Step) (z : Lazy) (e : Held) (to : ℕ) (b : Belongs t (Op.Sweep z)
     -- it stands for its node at the number
     pub window_stands : {from : Rational} {old s : Sweep} {e' : Held} (z' : Lazy) → CanSweep x own from (whole (pos to)) old e
         → old.window ≡ z.window → s.window ≡ old.window
-        → HasCome x s e' → pos (begin_of t) ≤ℤ F
+        → HasCome x s e' → pos (begin_of t) ≤ℤ (pos to +ℤ z.window.high)
         → IsSomeAnd s.last
         (λ r. (value r.at ≡ value s.place.at) × (value r.at ≈ end) × IsThere (best_of x old.window) (reach_before t + own) (value r.at) r.value)
         → z'.window ≡ z.window → z'.sweep ≡ Some s → StandsNow t (Op.Sweep z') e' to
-    window_stands {from} {old} {s} {e'} z' can old_window s_window came begun last window is node found =
+    window_stands {from} {old} {s} {e'} z' can old_window s_window came late last window is node found =
         subst (λ (k : Node). Stands k t.nodes t.place t.trace (Some (pos to)) (Op.Sweep z') (seen_by k e')) (same_Some _ _ (sym b.at ∙ found)) (
           subst (IsWindowOf b.node) (sym window) b.stands.0,
           subst (λ (v : Window). v.low <ℤ v.high) (sym window) b.stands.1,
-          subst (λ (o : Option Sweep). MatchOption o ((seen_by b.node e' ≡ []) × HasWaited z' (begin_of t) (reach_before t + own) (Some (pos to)))
+          subst (λ (o : Option Sweep). MatchOption o ((seen_by b.node e' ≡ []) × HasWaited z'.window z'.told (begin_of t) (reach_before t + own) (Some (pos to)))
               (λ s. (s.window ≡ z'.window) × HasSweptTo t.nodes t.place t.trace z'.window.of own s (seen_by b.node e') (pos to))) (sym is)
               (s_window ∙ old_window ∙ sym window, swept),
         )
@@ -249,4 +249,4 @@ module _ (t : Step) (z : Lazy) (e : Held) (to : ℕ) (b : Belongs t (Op.Sweep z)
 
         swept : HasSweptTo t.nodes t.place t.trace z'.window.of own s (seen_by b.node e') (pos to)
         swept = subst (λ (v : Window). HasSweptTo t.nodes t.place t.trace v.of own s (seen_by b.node e') (pos to)) (sym window)
-            (subst (λ l. StoodOver child t.trace (reach_before t) own (whole (pos to)) s l) seen_is over, begun_now t (Op.Sweep z) e to b z.window.of begun)
+            (subst (λ l. StoodOver child t.trace (reach_before t) own (whole (pos to)) s l) seen_is over, subst (λ (v : Window). pos (begin_of t) ≤ℤ (pos to +ℤ v.high)) (sym (s_window ∙ old_window)) late)

@@ -1,5 +1,5 @@
 -- What a window refuses is in play before the time up to which it tells.
-use Rattle.std.proofs.Common.{arith, ◌⊎◌, inl, inr, ℕ, ℤ, pos, ◌≤◌, ◌^◌, sym, subst}
+use Rattle.std.proofs.Common.{arith, ◌⊎◌, inl, inr, ℕ, pos, ◌≤◌, ◌^◌, sym, subst}
 use Rattle.std.specs.Prelude.{neg_ℤ, ◌≤ℤ◌}
 use Rattle.std.proofs.Math.Nat.{mul-pos}
 use Rattle.rational.specs.Rational.{middle}

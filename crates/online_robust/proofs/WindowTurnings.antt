@@ -1,7 +1,7 @@
 -- A window that goes on in a turn, and one that begins in it.
-use Rattle.std.proofs.Common.{◌≡◌, ◌≢◌, inr, ℕ, ◌+◌, Bool, true, false, []}
+use Rattle.std.proofs.Common.{◌≡◌, inr, ℕ, ◌+◌, Bool, true, false, []}
 use Rattle.std.proofs.Common.{refl, sym, ap, subst, ◌∙◌, arith, Option, Some, None, ℤ, pos, ◌+ℤ◌, ◌<ℤ◌, ◌≤ℤ◌}
-use Rattle.std.specs.Prelude.{MatchOption, IfSome, IsSome, IsSomeAnd, int_lt, cond, slice_get}
+use Rattle.std.specs.Prelude.{MatchOption, IfSome, IsSome, IsSomeAnd, int_lt, cond}
 use Rattle.std.proofs.lemmas.Int.{ints}
 use Rattle.std.proofs.lemmas.Option.{same_Some}
 use Rattle.rational.specs.Time.{Rational, Precedes, shifted, whole, ◌≈◌, ◌≤ʳ◌, ◌<ʳ◌}
@@ -32,23 +32,25 @@ use Rattle.online_robust.specs.declared.line.Reached.{Reached}
 use Rattle.online_robust.specs.declared.operator.Operator.TheVariants as Op
 use Rattle.online_robust.specs.declared.window.Sweep.{Sweep}
 use Rattle.online_robust.specs.declared.window.Window.{Window}
-use Rattle.online_robust.proofs.Bridging.{from_none, from_some, inputs_of, none_given, some_given}
+use Rattle.online_robust.proofs.Bridging.{from_none, from_some, inputs_of}
 use Rattle.online_robust.proofs.Instants.{best_of_none}
-use Rattle.online_robust.proofs.NodeLooks.{shifted_whole, stays_begun}
+use Rattle.online_robust.proofs.NodeLooks.{shifted_whole}
+use Rattle.online_robust.proofs.Silences.{late_begun}
 use Rattle.online_robust.proofs.Robustly.{robust_is_function}
 use Rattle.online_robust.proofs.WindowAgain.{can_begin, can_go_on}
-use Rattle.online_robust.proofs.WindowBridging.{can_turn, first_tick, fit, here, input, own}
+use Rattle.online_robust.proofs.WindowBridging.{can_turn, far, first_tick, fit, here, input, own}
 use Rattle.online_robust.proofs.WindowBridging.{scope_of, to_first, to_tick, turn_of}
 use Rattle.online_robust.proofs.WindowFirst.{CanTurn, Turn, first_spread, scope_in}
 
 -- ---- a window that goes on
 
-module _ (t : Step) (z : Lazy) (e : Held) (to : ℕ) (b : Belongs t (Op.Sweep z) e to) (s : Sweep) (is : z.sweep ≡ Some s) where
+module _ (t : Step) (z : Lazy) (e : Held) (to : ℕ) (b : Belongs t (Op.Sweep z) e to)
+    (late : pos (begin_of t) ≤ℤ (pos to +ℤ z.window.high)) (s : Sweep) (is : z.sweep ≡ Some s) where
   abbrev turn_on : Turn
   turn_on = turn_of t z e to b
 
   state : (s.window ≡ z.window) × IsSomeAnd t.before (HasSweptTo t.nodes t.place t.trace z.window.of (own t z e to b) s (seen_by b.node e))
-  state = subst (λ (o : Option Sweep). MatchOption o ((seen_by b.node e ≡ []) × HasWaited z (begin_of t) (reach_before t + own t z e to b) t.before)
+  state = subst (λ (o : Option Sweep). MatchOption o ((seen_by b.node e ≡ []) × HasWaited z.window z.told (begin_of t) (reach_before t + own t z e to b) t.before)
       (λ s. (s.window ≡ z.window) × IsSomeAnd t.before (HasSweptTo t.nodes t.place t.trace z.window.of (own t z e to b) s (seen_by b.node e)))) is b.stands.2
 
   -- the window that goes on is the node's
@@ -64,8 +66,8 @@ module _ (t : Step) (z : Lazy) (e : Held) (to : ℕ) (b : Belongs t (Op.Sweep z)
           → (from : Rational) × (from ≡ from_of t) × CanSweep (scope_of t z e to b (value s.place.at)) (own t z e to b) from (whole (pos to)) s e
           × (pos (begin_of t) ≤ℤ front_at t.ended (pos t.now) (subformula t.nodes z.window.of))
       by_before None before h = absurd h
-      by_before (Some g) before (over, begun) =
-          let le = stays_begun t (Op.Sweep z) e to b z.window.of g before begun in
+      by_before (Some g) before (over, was) =
+          let le = late_begun t (Op.Sweep z) e to b z.window (far t z e to b) late in
           let forth = subst (λ (o : Option ℤ). IfSome o (λ g. (pos (begin_of t) ≤ℤ g) × (g <ℤ pos to))) before b.forth in
           let inputs =
           inputs_of (Robustness (subformula t.nodes z.window.of) t.trace) (reach_before t) (begin_of t) (back_of (begin_of t) (Some g) z.window.low)
@@ -102,10 +104,29 @@ none_there x w most u v early there = record {
     weak true a d h = h
     weak false a d h = le_of_lt h
 
+-- a window whose high end lies before the start has seen nothing
+module _ (t : Step) (z : Lazy) (e : Held) (to : ℕ) (b : Belongs t (Op.Sweep z) e to) (short : (pos to +ℤ z.window.high) <ℤ pos (begin_of t)) where
+  -- it has not gone over its input
+  pub unbegun : z.sweep ≡ None
+  unbegun = by_state z.sweep b.stands.2
+    where
+      by_before : (s : Sweep) → s.window ≡ z.window → (o : Option ℤ) → IfSome o (λ g. (pos (begin_of t) ≤ℤ g) × (g <ℤ pos to))
+          → IsSomeAnd o (HasSweptTo t.nodes t.place t.trace z.window.of (own t z e to b) s (seen_by b.node e)) → ⊥
+      by_before s window None forth h = h
+      by_before s window (Some g) forth (over, late) =
+          let come = subst (λ (v : Window). pos (begin_of t) ≤ℤ (g +ℤ v.high)) window late in
+          let lt = forth.1 in
+          absurd (omega (arith, ints, come, lt, short))
+
+      by_state : (o : Option Sweep) → MatchOption o ((seen_by b.node e ≡ []) × HasWaited z.window z.told (begin_of t) (reach_before t + own t z e to b) t.before)
+          (λ s. (s.window ≡ z.window) × IsSomeAnd t.before (HasSweptTo t.nodes t.place t.trace z.window.of (own t z e to b) s (seen_by b.node e))) → o ≡ None
+      by_state None h = refl
+      by_state (Some s) (window, h) = absurd (by_before s window t.before b.forth h)
+
 module _ (t : Step) (z : Lazy) (e : Held) (to : ℕ) (b : Belongs t (Op.Sweep z) e to) (none : z.sweep ≡ None) where
   -- a window that waited has seen nothing
-  pub waited : (seen_by b.node e ≡ []) × HasWaited z (begin_of t) (reach_before t + own t z e to b) t.before
-  waited = subst (λ (o : Option Sweep). MatchOption o ((seen_by b.node e ≡ []) × HasWaited z (begin_of t) (reach_before t + own t z e to b) t.before)
+  pub waited : (seen_by b.node e ≡ []) × HasWaited z.window z.told (begin_of t) (reach_before t + own t z e to b) t.before
+  waited = subst (λ (o : Option Sweep). MatchOption o ((seen_by b.node e ≡ []) × HasWaited z.window z.told (begin_of t) (reach_before t + own t z e to b) t.before)
       (λ s. (s.window ≡ z.window) × IsSomeAnd t.before (HasSweptTo t.nodes t.place t.trace z.window.of (own t z e to b) s (seen_by b.node e)))) none b.stands.2
 
   -- its edge has read nothing
@@ -129,19 +150,19 @@ module _ (t : Step) (z : Lazy) (e : Held) (to : ℕ) (b : Belongs t (Op.Sweep z)
   first_input = subst (λ (o : Option ℤ). IsInput (Robustness (subformula t.nodes z.window.of) t.trace) (reach_before t) (begin_of t) o
       (front_at t.ended (pos t.now) (subformula t.nodes z.window.of)) (held_at e z.window.of)) (back_none t.before waited.1.short) (input t z e to b)
 
-  -- an empty edge is that of an input that has given out nothing
-  pub not_begun : slice_get (held_at e z.window.of) 0 ≡ None → front_at t.ended (pos t.now) (subformula t.nodes z.window.of) <ℤ pos (begin_of t)
-  not_begun empty = none_given (Robustness (subformula t.nodes z.window.of) t.trace) (reach_before t) (begin_of t)
-      (front_at t.ended (pos t.now) (subformula t.nodes z.window.of)) (held_at e z.window.of) first_input empty
+  module _ (late : pos (begin_of t) ≤ℤ (pos to +ℤ z.window.high)) where
+    -- once its high end has come to the start its input has given out lines
+    pub has_begun : (pos (begin_of t) ≤ℤ front_at t.ended (pos t.now) (subformula t.nodes z.window.of))
+        × AreInputs (Robustness (subformula t.nodes z.window.of) t.trace) (reach_before t) (begin_of t) None
+        (front_at t.ended (pos t.now) (subformula t.nodes z.window.of)) (held_at e z.window.of)
+    has_begun =
+        let le = late_begun t (Op.Sweep z) e to b z.window (far t z e to b) late in (
+          le,
+          inputs_of (Robustness (subformula t.nodes z.window.of) t.trace) (reach_before t) (begin_of t) None
+              (front_at t.ended (pos t.now) (subformula t.nodes z.window.of)) (held_at e z.window.of) le first_input,
+        )
 
-  -- one that is not empty, that of an input that has
-  pub has_begun : slice_get (held_at e z.window.of) 0 ≢ None → (pos (begin_of t) ≤ℤ front_at t.ended (pos t.now) (subformula t.nodes z.window.of))
-      × AreInputs (Robustness (subformula t.nodes z.window.of) t.trace) (reach_before t) (begin_of t) None
-      (front_at t.ended (pos t.now) (subformula t.nodes z.window.of)) (held_at e z.window.of)
-  has_begun some = some_given (Robustness (subformula t.nodes z.window.of) t.trace) (reach_before t) (begin_of t)
-      (front_at t.ended (pos t.now) (subformula t.nodes z.window.of)) (held_at e z.window.of) first_input some
-
-  module _ (some : slice_get (held_at e z.window.of) 0 ≢ None) (s : Sweep) (k : IsBegun z.window (begin_of t) z.silent.last s) where
+  module _ (late : pos (begin_of t) ≤ℤ (pos to +ℤ z.window.high)) (s : Sweep) (k : IsBegun z.window (begin_of t) z.told s) where
     abbrev turn : Turn
     turn = turn_of t z e to b
 
@@ -150,7 +171,7 @@ module _ (t : Step) (z : Lazy) (e : Held) (to : ℕ) (b : Belongs t (Op.Sweep z)
 
     -- it may go on in the turn
     can : CanTurn turn s.window None e
-    can = subst (λ (v : Window). CanTurn turn v None e) (sym k.window) (can_turn t z e to b None (has_begun some).0 (has_begun some).1)
+    can = subst (λ (v : Window). CanTurn turn v None e) (sym k.window) (can_turn t z e to b None (has_begun late).0 (has_begun late).1)
 
     unseen : (edge_at e s.window.of).seen ≡ []
     unseen = subst (λ (v : Window). (edge_at e v.of).seen ≡ []) (sym k.window) nothing_seen
@@ -190,7 +211,7 @@ module _ (t : Step) (z : Lazy) (e : Held) (to : ℕ) (b : Belongs t (Op.Sweep z)
         front = whole turn.front;
         bound = shifted (whole (pos to)) s.window.high;
         fresh = fresh_at e s.window.of;
-        spread = first_spread turn s e (began z.silent.last k) can unseen fits (first_tick t z e to b) high_early;
+        spread = first_spread turn s e (began z.told k) can unseen fits (first_tick t z e to b) high_early;
         low_before = subst (λ (l : Rim). IsBefore (shifted (value s.place.at) s.window.low) l.until) (sym k.low)
             (lt_of_lt_of_le (lt_offsets (value s.place.at) s.window.low s.window.high fits.order) high_early);
         goes_on = inr (subst (λ (l : Rim). IsSome l.until) (sym k.high) refl);
@@ -215,7 +236,7 @@ module _ (t : Step) (z : Lazy) (e : Held) (to : ℕ) (b : Belongs t (Op.Sweep z)
 
     -- the window that waited may begin now
     pub beginning : (from : Rational) × (from ≡ from_of t) × Result from z.window
-    beginning = by_told z.silent.last t.before refl k waited.1.short waited.1.stood b.forth
+    beginning = by_told z.told t.before refl k waited.1.short waited.1.stood b.forth
       where
         by_told : (o : Option Reached) (before : Option ℤ) → t.before ≡ before → IsBegun z.window (begin_of t) o s
             → IfSome before (λ g. (g +ℤ z.window.high) <ℤ pos (begin_of t))

@@ -1,20 +1,20 @@
 -- When an operator stands for its node.
-use Rattle.std.specs.Prelude.{◌≡◌, ◌⊎◌, ℕ, ◌+◌, ℤ, pos, neg_ℤ, ◌+ℤ◌, ◌-ℤ◌, ◌<ℤ◌, ◌≤ℤ◌, [], IfSome, IsSomeAnd}
+use Rattle.std.specs.Prelude.{◌≡◌, ◌⊎◌, ℕ, ◌+◌, ℤ, pos, neg_ℤ, ◌+ℤ◌, ◌<ℤ◌, ◌≤ℤ◌, [], IfSome, IsSomeAnd}
 use Rattle.std.specs.Prelude.{MatchOption, if◌then◌else◌, Bool, true, false, List, Option, Some, None, take}
-use Rattle.rational.specs.Time.{whole, ◌≈◌}
+use Rattle.rational.specs.Time.{whole}
 use Rattle.rational.specs.Windows.{Function}
 use Rattle.pl_signal.specs.Joining.{ChosenOf}
 use Rattle.pl_signal.specs.declared.joining.Side.{Side}
 use Rattle.pl_signal.specs.declared.joining.Side.TheVariants.{Least, Greatest}
 use Rattle.stl_syntax.specs.Trace.{Trace, first_time, start, stop}
-use Rattle.stl_syntax.specs.Formula.{horizon, subformula}
+use Rattle.stl_syntax.specs.Formula.{subformula}
 use Rattle.stl_syntax.specs.Limits.{own_reach, reach}
 use Rattle.stl_syntax.specs.SupInf.{Robustness}
 use Rattle.stl_syntax.specs.declared.node.Node.{Node}
 use Rattle.stl_syntax.specs.declared.node.Node.TheVariants.{Not, And, Or, Implies, Eventually, Always, Once, Historically}
 use Rattle.online_robust.specs.ReadLines.{HasReached, turned_by}
 use Rattle.online_robust.specs.Glances.{glance_over}
-use Rattle.online_robust.specs.Waiting.{lazy_of, silent_margin, silent_of}
+use Rattle.online_robust.specs.Waiting.{lazy_of, silent_margin}
 use Rattle.online_robust.specs.Windows.{StoodOver}
 use Rattle.online_robust.specs.declared.line.MarginLine.{MarginLine}
 use Rattle.online_robust.specs.declared.line.Reached.{Reached}
@@ -22,8 +22,6 @@ use Rattle.online_robust.specs.declared.operator.Operator.{Operator}
 use Rattle.online_robust.specs.declared.operator.Operator.TheVariants as Op
 use Rattle.online_robust.specs.declared.pointwise.Two.{Two}
 use Rattle.online_robust.specs.declared.glance.Moved.{Moved}
-use Rattle.online_robust.specs.declared.endless.Endless.{Endless}
-use Rattle.online_robust.specs.declared.lazy.Lazy.{Lazy}
 use Rattle.online_robust.specs.declared.ever.Ever.{Ever}
 use Rattle.online_robust.specs.WindowPasts.{StoodPast}
 use Rattle.online_robust.specs.declared.window.Sweep.{Sweep}
@@ -94,28 +92,20 @@ two_of nodes tr op = ChosenOf op.side (turned_by op.turned (Robustness (subformu
 abbrev pub instant_margin : List Node → Trace → Moved → Function
 instant_margin nodes tr z = glance_over (Robustness (subformula nodes z.of) tr) (start tr) (stop tr) z
 
--- an empty window stands for the window so far, since all that it saw lies before the start
-pub record HasWaited (z : Lazy) (begin most : ℕ) (before : Option ℤ) : Type 0 where
-  pub silent : z.silent ≡ silent_of z.window z.silent.last
-  pub short : IfSome before (λ g. (g +ℤ z.window.high) <ℤ pos begin)
-  pub stood : HasStood (silent_margin z.window.side) most before z.silent.last
+-- a window was told nothing but the value of no times, since all that it saw lies before the start
+pub record HasWaited (w : Window) (told : Option Reached) (begin most : ℕ) (before : Option ℤ) : Type 0 where
+  pub short : IfSome before (λ g. (g +ℤ w.high) <ℤ pos begin)
+  pub stood : HasStood (silent_margin w.side) most before told
 
--- the window was told up to g, by when its input had given out something, or at the end
+-- the window was told up to g, by when its high end had come to the start
 abbrev pub HasSweptTo : List Node → ℕ → Trace → ℕ → ℕ → Sweep → List MarginLine → ℤ → Type 0
 HasSweptTo nodes place tr of own s seen g =
-    StoodOver (subformula nodes of) tr (reach (take place nodes)) own (whole g) s seen
-    × ((whole g ≈ stop tr) ⊎ (pos (first_time tr.rows) ≤ℤ ((g +ℤ pos (horizon (subformula nodes place))) -ℤ pos (horizon (subformula nodes of)))))
+    StoodOver (subformula nodes of) tr (reach (take place nodes)) own (whole g) s seen × (pos (first_time tr.rows) ≤ℤ (g +ℤ s.window.high))
 
 -- the same of a window without a low end
-pub record HasWaitedPast (z : Endless) (begin most : ℕ) (before : Option ℤ) : Type 0 where
-  pub silent : z.silent ≡ silent_of z.window z.silent.last
-  pub short : IfSome before (λ g. (g +ℤ z.window.high) <ℤ pos begin)
-  pub stood : HasStood (silent_margin z.window.side) most before z.silent.last
-
 abbrev pub HasPassedTo : List Node → ℕ → Trace → ℕ → ℕ → Ever → List MarginLine → ℤ → Type 0
 HasPassedTo nodes place tr of own p seen g =
-    StoodPast (subformula nodes of) tr (reach (take place nodes)) own (whole g) p seen
-    × ((whole g ≈ stop tr) ⊎ (pos (first_time tr.rows) ≤ℤ ((g +ℤ pos (horizon (subformula nodes place))) -ℤ pos (horizon (subformula nodes of)))))
+    StoodPast (subformula nodes of) tr (reach (take place nodes)) own (whole g) p seen × (pos (first_time tr.rows) ≤ℤ (g +ℤ p.window.high))
 
 -- the operator is that of the node n at a place, and stands at a number, with what it has read of its input
 abbrev pub Stands : Node → List Node → ℕ → Trace → Option ℤ → Operator → List MarginLine → Type 0
@@ -125,10 +115,10 @@ Stands n nodes place tr before (Op.Moved z) seen =
     IsInstantOf n z × HasStood (instant_margin nodes tr z) (reach (take place nodes) + own_reach n) before z.last
 Stands n nodes place tr before (Op.Sweep z) seen =
     IsWindowOf n z.window × (z.window.low <ℤ z.window.high)
-    × MatchOption z.sweep ((seen ≡ []) × HasWaited z (first_time tr.rows) (reach (take place nodes) + own_reach n) before)
+    × MatchOption z.sweep ((seen ≡ []) × HasWaited z.window z.told (first_time tr.rows) (reach (take place nodes) + own_reach n) before)
     (λ s. (s.window ≡ z.window) × IsSomeAnd before (HasSweptTo nodes place tr z.window.of (own_reach n) s seen))
 Stands n nodes place tr before (Op.Ever z) seen =
     IsPastOf n z.window
-    × MatchOption z.past ((seen ≡ []) × HasWaitedPast z (first_time tr.rows) (reach (take place nodes) + own_reach n) before)
+    × MatchOption z.past ((seen ≡ []) × HasWaited z.window z.told (first_time tr.rows) (reach (take place nodes) + own_reach n) before)
     (λ p. (p.window ≡ z.window) × IsSomeAnd before (HasPassedTo nodes place tr z.window.of (own_reach n) p seen))
 Stands n nodes place tr before (Op.Two op) seen = IsTwoOf n op × HasStood (two_of nodes tr op) (reach (take place nodes)) before op.last

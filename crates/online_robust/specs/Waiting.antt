@@ -1,4 +1,4 @@
--- A window that waits until its input has given out something.
+-- A window that waits until its high end comes to the first row.
 use Rattle.std.specs.Prelude.{◌≡◌, ℕ, false, [], Option, Some, None, pos, ◌-ℤ◌}
 use Rattle.rational.specs.Rational.{◌≈◌}
 use Rattle.rational.specs.Time.{Rational, whole}
@@ -11,7 +11,6 @@ use Rattle.pl_signal.specs.declared.joining.Side.{Side}
 use Rattle.online_robust.specs.Glances.{nothing_of}
 use Rattle.online_robust.specs.Queues.{StandsFor}
 use Rattle.online_robust.specs.Windows.{before_start}
-use Rattle.online_robust.specs.declared.glance.Moved.{Moved}
 use Rattle.online_robust.specs.declared.endless.Endless.{Endless}
 use Rattle.online_robust.specs.declared.lazy.Lazy.{Lazy}
 use Rattle.online_robust.specs.declared.line.Reached.{Reached}
@@ -23,19 +22,15 @@ use Rattle.online_robust.specs.declared.window.Window.{Window}
 abbrev pub silent_margin : Side → Function
 silent_margin side t v = v ≈ᵉ nothing_of side
 
--- the empty window that stands for a window while there is nothing to be seen
-abbrev pub silent_of : Window → Option Reached → Moved
-silent_of w last = record { of = w.of; side = w.side; by = w.high; inside = false; last = last }
-
 -- before anything was told
 abbrev pub lazy_of : Window → Lazy
-lazy_of w = record { window = w; silent = silent_of w None; sweep = None }
+lazy_of w = record { window = w; told = None; sweep = None }
 
 -- the same of a window without a low end
 abbrev pub endless_of : Window → Endless
-endless_of w = record { window = w; silent = silent_of w None; past = None }
+endless_of w = record { window = w; told = None; past = None }
 
--- a window was told up to where the empty one was; else it has not begun
+-- a window was told up to some time while it saw nothing; else it has not begun
 abbrev pub HasTold : ℕ → Option Reached → Sweep → Type 0
 HasTold start None s = (value s.place.at ≈ whole (pos start -ℤ pos 4294967296)) × (s.last ≡ None)
 HasTold start (Some r) s = (s.place.at ≡ r.at) × (s.last ≡ Some r)

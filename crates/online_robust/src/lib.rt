@@ -15,6 +15,7 @@ mod pointwise;
 mod put;
 mod queue;
 mod room;
+mod silence;
 mod station;
 mod streamed;
 mod window;

@@ -19,7 +19,7 @@ pub fn each_bench_hears_its_own_stream()
         → (alone : List ℕ) × Alone f (own seen t) true alone × (heard t said ≡ texts alone) }
 {}
 
-/// So two inputs with the same lines of a tag tell its bench the same, whatever lines of others come between.
+/// Two inputs with the same lines of a tag tell its bench the same, whatever lines of others come between.
 pub fn other_benches_change_nothing()
     ensures { (text : List ℕ) (f : Formula) (bytes other said heard_there : List ℕ) (status ended : ℕ) → IsFormulaOf text f
         → IsAnswered (sessions f) bytes true status said → IsAnswered (sessions f) other true ended heard_there

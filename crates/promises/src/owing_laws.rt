@@ -39,7 +39,7 @@ pub fn what_is_owed_only_grows()
         → (rest : List ℕ) × (all ≡ text ++ rest) }
 {}
 
-/// So what a stream, or several sessions, had written where its output failed or memory was wanting is the front of what it is owed for all the bytes that were
+/// What a stream, or several sessions, had written where its output failed or memory was wanting is the front of what it is owed for all the bytes that were
 /// read, not for those alone that it had answered.
 pub fn what_was_written_is_of_all_bytes()
     ensures rows { (s : Stream) (f : Formula) (bytes text rest all : List ℕ) (ended : Bool)

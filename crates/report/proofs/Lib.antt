@@ -32,3 +32,4 @@ pub mod JsonParts
 pub mod JsonItems
 pub mod ReportTexts
 pub mod FaultLines
+pub mod Blocks

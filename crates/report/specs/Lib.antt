@@ -21,3 +21,4 @@ pub mod EarlyLines
 pub mod After
 pub mod Shown
 pub mod Forms
+pub mod Blocks

@@ -1,15 +1,15 @@
 //! The report as one object of JSON.
 //!
-//! Its text is the compact one that `serde_json` has for the report as a value. Each entry (a knot, a piece, an item, a verdict) is a value
-//! that is printed before the next one, so that a report of many knots takes no memory beside its text but that of one entry. Knots, pieces
-//! and verdicts are each one object, which has the texts of one entry after another.
+//! Its text is the compact one that `serde_json` has for the report as a value. Each entry (a knot, a piece, an item, a verdict) is a value.
+//! An item is printed before the next one, and some 64 knots and pieces are printed by one call, as are as many verdicts, so that a report of
+//! many knots takes no memory beside its text but that of so many entries. Their objects have the texts of one entry after another.
 //! What stands around the lists are objects with an empty list at their end, each printed up to where the items of that list begin.
-ghost use Rattle.std.specs.Prelude.{◌≡◌, ◌≤◌, ◌<◌, ◌^◌, ◌++◌, ℕ, List, false, All, IfOk, OnOk, OnErr, codes, drop, length};
+ghost use Rattle.std.specs.Prelude.{◌≡◌, ◌≤◌, ◌<◌, ◌^◌, ◌++◌, ℕ, List, [], false, All, IfOk, OnOk, OnErr, codes, drop, length};
 ghost use Rattle.rational.specs.Rational.{IsWithin};
 ghost use Rattle.frac128.specs.Value.{value};
 ghost use Rattle.value_laws.specs.Kinds.{truth_shape, margin_shape};
 ghost use Rattle.pl_signal.specs.Knots.{start, stop, IsWorth, IsSignal};
-ghost use Rattle.pl_signal.specs.Plain.{knots_of, plain_knot, plain_piece};
+ghost use Rattle.pl_signal.specs.Plain.{knots_of};
 ghost use Rattle.serde_json.specs.Data.{object, array, member, no_items, no_members};
 ghost use Rattle.serde_json.specs.View.{view};
 ghost use Rattle.serde_json.specs.Written.{has_float};
@@ -19,14 +19,14 @@ ghost use Rattle.report.specs.JsonTexts.{AreLaterEntries, AreItemEntries, IsStep
 ghost use Rattle.report.specs.JsonTexts.{IsHeadData, margins_data, start_data, EndsWithList, IsOpened, HeadParts};
 ghost use Rattle.report.specs.ReportText.{IsReportText, TailParts};
 ghost use Rattle.report.specs.SignalVerdicts.{sign_of};
-ghost use Rattle.report.specs.Steps.{steps_of, step};
+ghost use Rattle.report.specs.Steps.{steps_of};
 
 use crate::entry::{put_item_entry, string_value};
 use crate::items::line_from;
 use crate::margin_entry::MarginEntries;
 use crate::signal::put_spans;
 use frac128::Memory;
-use pl_signal::{Knot, Signal};
+use pl_signal::Signal;
 use serde_json::{Value, json};
 use std::alloc::{AllocError, Global};
 use stl_syntax::{Formula, Items, Scale, Text};
@@ -80,34 +80,14 @@ fn put_item_entries(
     text.push(b"]")
 }
 
-/// Appends the piece between two knots and the second.
-fn put_step_entry(
-    text: &mut Text,
-    entries: &mut MarginEntries,
-    k: &Knot<Margin>,
-    n: &Knot<Margin>,
-    scale: Scale,
-) -> Result<(), Memory>
-    requires time { scale.time ≤ 6 }
-    requires value { scale.value ≤ 6 }
-    requires from { IsWithin (2 ^ 34) (value k.now.time) }
-    requires to { IsWithin (2 ^ 34) (value n.now.time) }
-    ensures ok { OnOk result
-        (Grew (IsStepEntry scale (step (plain_knot margin_shape k.now) (plain_piece margin_shape k.now n.now))) text.old text.new) }
-    ensures err { OnErr result
-        (GrewInPart (IsStepEntry scale (step (plain_knot margin_shape k.now) (plain_piece margin_shape k.now n.now))) text.old text.new) }
-{
-    entries.put_piece(text, k, n, scale)?;
-    entries.put_knot(text, b",", n, scale)
-}
-
 /// Appends the pieces, each with the knot after it.
 fn put_step_entries(
     text: &mut Text,
-    entries: &mut MarginEntries,
+    entries: MarginEntries,
     s: &Signal<Margin>,
     scale: Scale,
 ) -> Result<(), Memory>
+    requires none { entries ≡ [] }
     requires time { scale.time ≤ 6 }
     requires value { scale.value ≤ 6 }
     requires begins { IsWithin (2 ^ 34) (start s.now) }
@@ -115,17 +95,12 @@ fn put_step_entries(
     ensures ok { OnOk result (Grew (AreEach (IsStepEntry scale) (steps_of (knots_of margin_shape s.now))) text.old text.new) }
     ensures err { OnErr result (GrewInPart (AreEach (IsStepEntry scale) (steps_of (knots_of margin_shape s.now))) text.old text.new) }
 {
+    let mut waiting = entries;
     let last = s.len() - 1;
     for i in 0..last {
-        put_step_entry(
-            text,
-            entries,
-            s.knot_in_place(i),
-            s.knot_in_place(i + 1),
-            scale,
-        )?;
+        waiting.put_step(text, s.knot_in_place(i), s.knot_in_place(i + 1), scale)?;
     }
-    Ok(())
+    waiting.hand_over(text)
 }
 
 /// Appends the list of the knots and the pieces with its closing bracket.
@@ -144,9 +119,9 @@ fn put_margin_entries(
 {
     // For the proof alone: that it is a signal is a clause of `len`.
     let _ = s.len();
-    let mut entries = MarginEntries::new(alloc)?;
-    entries.put_knot(text, b"", &s.knot(0), scale)?;
-    put_step_entries(text, &mut entries, s, scale)?;
+    let mut entries = MarginEntries::new(alloc);
+    entries.put_first(text, &s.knot(0), scale)?;
+    put_step_entries(text, entries, s, scale)?;
     text.push(b"]")
 }
 

@@ -3,6 +3,7 @@
 
 mod after;
 mod before;
+mod block;
 mod early;
 mod entry;
 mod fault;
@@ -13,6 +14,8 @@ mod last;
 mod last_part;
 pub mod laws;
 mod line;
+mod line_room;
+mod lines_left;
 mod listing;
 mod margin;
 mod margin_entry;
@@ -38,6 +41,8 @@ pub use json::put_json;
 pub use last::LastTime;
 pub use last_part::LastPart;
 pub use line::{Detail, Line, put_line};
+pub use line_room::LineRoom;
+pub use lines_left::LinesLeft;
 pub use listing::verdicts_of;
 pub use margin::put_margins;
 pub use part::{MarginPart, put_margin_line, put_margin_line_after};

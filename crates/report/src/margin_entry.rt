@@ -1,17 +1,20 @@
 //! The entries of margins in a report in JSON: knots and pieces.
-ghost use Rattle.std.specs.Prelude.{◌≡◌, ◌≤◌, ◌^◌, [], codes, IfOk, OnOk, OnErr};
+ghost use Rattle.std.specs.Prelude.{◌≡◌, ◌≤◌, ◌<◌, ◌+◌, ◌^◌, ◌++◌, ℕ, List, [], codes, drop, length, take, IfOk, OnOk, OnErr};
 ghost use Rattle.rational.specs.Rational.{IsWithin};
 ghost use Rattle.frac128.specs.Value.{value};
 ghost use Rattle.value_laws.specs.Kinds.{margin_shape};
 ghost use Rattle.pl_signal.specs.Plain.{plain_knot, plain_piece};
 ghost use Rattle.serde_json.specs.View.{view};
+ghost use Rattle.serde_json.specs.declared.value.Value.{Value};
 ghost use Rattle.report.specs.Appended.{Grew, GrewInPart};
+ghost use Rattle.report.specs.Blocks.{after_commas, AreStepForms, IsStepForm, IsStepData};
 ghost use Rattle.report.specs.Forms.{knot_object, piece_object, HasText, IsKnotForm, IsPieceForm, Sets, SetsSome};
 ghost use Rattle.report.specs.Json.{IsKnotData, IsPieceData};
-ghost use Rattle.report.specs.JsonTexts.{IsGapText, IsKnotEntry, IsPieceEntry};
+ghost use Rattle.report.specs.JsonTexts.{IsGapText, IsKnotEntry, IsStepEntry};
 ghost use Rattle.report.specs.Steps.{step};
 
 use crate::after::add_byte;
+use crate::block::{MOST, put_after_commas};
 use crate::entry::put_data;
 use crate::form::{SPAN_ROOM, set_text, set_time, set_value};
 use crate::margin_lines::KnotTexts;
@@ -126,61 +129,135 @@ fn piece_form(alloc: Global) -> Result<Value, AllocError>
     json!(in alloc; {"from": "", "on": "", "to": ""})
 }
 
-/// What the entries of margins are written with: an object for knots and one for pieces, of which each has the texts of one entry after
-/// another, the time and the value that were written last, and room for a text. Contracts see the time.
+/// Has the two objects from a place on be those of the piece between two knots and of the second.
+fn fill_step(
+    objects: &mut [Value],
+    at: usize,
+    room: &mut [u8; SPAN_ROOM],
+    last: &mut KnotTexts,
+    k: &Knot<Margin>,
+    n: &Knot<Margin>,
+    scale: Scale,
+) -> Result<(), Memory>
+    requires time { scale.time ≤ 6 }
+    requires value { scale.value ≤ 6 }
+    requires from { IsWithin (2 ^ 34) (value k.now.time) }
+    requires to { IsWithin (2 ^ 34) (value n.now.time) }
+    requires there { at + 2 ≤ length objects.old }
+    requires form { IsStepForm (take 2 (drop at objects.old)) }
+    ensures ok { OnOk result ((two : List Value) × IsStepForm two
+        × IsStepData scale (step (plain_knot margin_shape k.now) (plain_piece margin_shape k.now n.now)) two
+        × (objects.new ≡ take at objects.old ++ (two ++ drop 2 (drop at objects.old)))) }
+    ensures form { (two : List Value) × IsStepForm two × (objects.new ≡ take at objects.old ++ (two ++ drop 2 (drop at objects.old))) }
+{
+    fill_piece(&mut objects[at], room, last, k, n, scale)?;
+    fill_knot(&mut objects[at + 1], room, last, n, scale)
+}
+
+/// Adds the objects for a step.
+fn add_forms(alloc: Global, objects: &mut Vec<Value>) -> Result<(), Memory>
+    ensures ok { OnOk result ((two : List Value) × IsStepForm two × (objects.new.items ≡ objects.old.items ++ two)) }
+    ensures err { OnErr result (objects.new.items ≡ objects.old.items) }
+{
+    let piece = piece_form(alloc)?;
+    let knot = knot_form(alloc)?;
+    objects.reserve(2)?;
+    objects.push_reserved(piece);
+    objects.push_reserved(knot);
+    Ok(())
+}
+
+/// Has objects for one more step stand behind the first `used`, which wait. Where they are as many as are printed by one call, they are
+/// appended, and none wait. The answer is how many do.
+#[inline(always)]
+fn make_room(
+    alloc: Global,
+    text: &mut Text,
+    objects: &mut Vec<Value>,
+    used: usize,
+) -> Result<usize, Memory>
+    requires inside { used ≤ length objects.old.items }
+    requires waiting { AreStepForms (take used objects.old.items) }
+    requires spare { AreStepForms (drop used objects.old.items) }
+    ensures some { IfOk result (λ n. n < length objects.new.items) }
+    ensures waiting { IfOk result (λ n. AreStepForms (take n objects.new.items)) }
+    ensures spare { IfOk result (λ n. AreStepForms (drop n objects.new.items)) }
+    ensures joined { IfOk result (λ n.
+        text.new ++ after_commas (take n objects.new.items) ≡ text.old ++ after_commas (take used objects.old.items)) }
+    ensures begins { (front : List ℕ) × (text.new ≡ text.old ++ front) }
+    ensures err { OnErr result (text.new ≡ text.old) }
+    ensures same { OnErr result (objects.new.items ≡ objects.old.items) }
+{
+    if used < objects.len() {
+        return Ok(used);
+    }
+    if used < MOST {
+        add_forms(alloc, objects)?;
+        return Ok(used);
+    }
+    put_after_commas(alloc, text, objects)?;
+    Ok(0)
+}
+
+/// The entries of margins that wait to be appended, with what they are made of: objects for pieces and knots in turn, of which the first `used`
+/// wait and the others are left from entries that were appended, the time and the value that were written last, and room for a text.
+/// Contracts see the text of those that wait.
 #[derive(Drop)]
 pub(crate) struct MarginEntries {
     alloc: Global,
     last: KnotTexts,
     room: [u8; SPAN_ROOM],
-    knot: Value,
-    piece: Value,
+    used: usize,
+    objects: Vec<Value>,
 }
 
 impl Model for MarginEntries {
-    ghost use Rattle.frac128.specs.declared.frac.Frac.{Frac as AFrac};
-    ghost use Rattle.serde_json.specs.View.{view as data_of};
-    ghost use Rattle.report.specs.Forms.{IsKnotForm, IsPieceForm};
+    ghost use Rattle.std.specs.Prelude.{◌≤◌, ℕ, List, length, take, drop};
+    ghost use Rattle.report.specs.Blocks.{after_commas, AreStepForms};
 
-    ghost Value = { AFrac };
+    ghost Value = { List ℕ };
 
-    ghost view = { λ e. e.last.time };
+    ghost view = { λ e. after_commas (take e.used e.objects.items) };
 
-    ghost invariant = { λ e. IsKnotForm (data_of e.knot) × IsPieceForm (data_of e.piece) };
+    ghost invariant = { λ e. (e.used ≤ length e.objects.items) × AreStepForms (take e.used e.objects.items) × AreStepForms (drop e.used e.objects.items) };
 }
 
 impl MarginEntries {
-    /// Nothing was written yet.
-    pub(crate) fn new(alloc: Global) -> Result<MarginEntries, Memory> {
-        Ok(MarginEntries {
+    /// None wait.
+    pub(crate) fn new(alloc: Global) -> MarginEntries
+        ensures { result ≡ [] }
+    {
+        MarginEntries {
             alloc,
             last: KnotTexts::new(),
             room: [0; SPAN_ROOM],
-            knot: knot_form(alloc)?,
-            piece: piece_form(alloc)?,
-        })
+            used: 0,
+            objects: Vec::new(alloc),
+        }
     }
 
-    /// Appends a knot, after `lead`.
-    pub(crate) fn put_knot(
+    /// Appends the first knot, before which no entry stands.
+    pub(crate) fn put_first(
         &mut self,
         text: &mut Text,
-        lead: &[u8],
         k: &Knot<Margin>,
         scale: Scale,
     ) -> Result<(), Memory>
         requires time { scale.time ≤ 6 }
         requires value { scale.value ≤ 6 }
         requires within { IsWithin (2 ^ 34) (value k.now.time) }
-        ensures ok { OnOk result (Grew (IsKnotEntry lead.now scale (plain_knot margin_shape k.now)) text.old text.new) }
-        ensures err { OnErr result (GrewInPart (IsKnotEntry lead.now scale (plain_knot margin_shape k.now)) text.old text.new) }
+        ensures same { self.new ≡ self.old }
+        ensures ok { OnOk result (Grew (IsKnotEntry [] scale (plain_knot margin_shape k.now)) text.old text.new) }
+        ensures err { OnErr result (GrewInPart (IsKnotEntry [] scale (plain_knot margin_shape k.now)) text.old text.new) }
     {
-        fill_knot(&mut self.knot, &mut self.room, &mut self.last, k, scale)?;
-        put_data(self.alloc, text, lead, &self.knot)
+        let mut knot = knot_form(self.alloc)?;
+        fill_knot(&mut knot, &mut self.room, &mut self.last, k, scale)?;
+        put_data(self.alloc, text, b"", &knot)
     }
 
-    /// Appends the piece between two knots, after a comma.
-    pub(crate) fn put_piece(
+    /// Puts the piece between two knots and the second behind the entries that wait, each after a comma. Those are appended where there is
+    /// no room.
+    pub(crate) fn put_step(
         &mut self,
         text: &mut Text,
         k: &Knot<Margin>,
@@ -192,11 +269,41 @@ impl MarginEntries {
         requires from { IsWithin (2 ^ 34) (value k.now.time) }
         requires to { IsWithin (2 ^ 34) (value n.now.time) }
         ensures ok { OnOk result
-            (Grew (IsPieceEntry scale (step (plain_knot margin_shape k.now) (plain_piece margin_shape k.now n.now))) text.old text.new) }
-        ensures err { OnErr result
-            (GrewInPart (IsPieceEntry scale (step (plain_knot margin_shape k.now) (plain_piece margin_shape k.now n.now))) text.old text.new) }
+            (Grew (IsStepEntry scale (step (plain_knot margin_shape k.now) (plain_piece margin_shape k.now n.now)))
+            (text.old ++ self.old) (text.new ++ self.new)) }
+        ensures begins { (front : List ℕ) × (text.new ≡ text.old ++ front) }
+        ensures err { OnErr result (text.new ++ self.new ≡ text.old ++ self.old) }
     {
-        fill_piece(&mut self.piece, &mut self.room, &mut self.last, k, n, scale)?;
-        put_data(self.alloc, text, b",", &self.piece)
+        let used = make_room(self.alloc, text, &mut self.objects, self.used)?;
+        self.used = used;
+        fill_step(
+            &mut self.objects,
+            used,
+            &mut self.room,
+            &mut self.last,
+            k,
+            n,
+            scale,
+        )?;
+        self.used = used + 2;
+        Ok(())
+    }
+
+    /// Appends the entries that wait. No more come.
+    pub(crate) fn hand_over(self, text: &mut Text) -> Result<(), Memory>
+        ensures ok { OnOk result (text.new ≡ text.old ++ self) }
+        ensures err { OnErr result (text.new ≡ text.old) }
+    {
+        let MarginEntries {
+            alloc,
+            used,
+            mut objects,
+            ..
+        } = self;
+        if used == 0 {
+            return Ok(());
+        }
+        objects.truncate(used);
+        put_after_commas(alloc, text, &mut objects)
     }
 }

@@ -68,6 +68,17 @@ pub fn put_verdict_after(
     last.put_line(text, v, scale)
 }
 
+/// The line of the truth at the start.
+pub(crate) fn start_word(holds: bool) -> &'static [u8]
+    ensures { result.now ≡ start_line holds }
+{
+    if holds {
+        b"start true\n"
+    } else {
+        b"start false\n"
+    }
+}
+
 /// Appends the line of the truth at the start.
 ///
 /// # Errors
@@ -76,9 +87,5 @@ pub fn put_start(text: &mut Text, holds: bool) -> Result<(), Memory>
     ensures ok { OnOk result (text.new ≡ text.old ++ start_line holds) }
     ensures err { OnErr result (GrewInPart (λ w. w ≡ start_line holds) text.old text.new) }
 {
-    text.push(if holds {
-        b"start true\n"
-    } else {
-        b"start false\n"
-    })
+    text.push(start_word(holds))
 }

@@ -5,60 +5,22 @@ use Rattle.stl_syntax.specs.Characters.{ticks}
 use Rattle.stl_syntax.specs.declared.scale.Scale.{Scale}
 use Rattle.stl_syntax.specs.declared.atom.Atom.{Atom}
 use Rattle.stl_syntax.specs.declared.node.Node.{Node}
-use Rattle.stl_syntax.specs.declared.node.Node.TheVariants.{Const, Atom as Leaf, Not, And, Or, Implies, Until, Eventually, Always, Since, Once, Historically}
+use Rattle.stl_syntax.specs.declared.node.Node.TheVariants.{Const, Atom as Leaf, Not}
 use Rattle.stl_grammar.specs.Grammar.{top, Token, word, number, open_paren, close_paren, open_bracket, close_bracket, comma}
 use Rattle.stl_grammar.specs.Grammar.{scaled, more_plus, more_minus, IsAtom, first, signed, IsOpening, IsClosing, inside, outside}
 use Rattle.stl_grammar.specs.Grammar.{name as term_name}
-use Rattle.stl_grammar.specs.Grammar.{IsFutureWindow, bound, IsPastWindow, nothing, bounded, unbounded, IsFuture, IsPast}
-use Rattle.stl_grammar.specs.Grammar.IsPast.{nothing as since_nothing, bounded as since_bounded, unbounded as since_unbounded}
+use Rattle.stl_grammar.specs.Grammar.{Direction, ahead, behind, Ends, closed, free, IsBound, nothing, bounded, unbounded}
 use Rattle.stl_grammar.specs.Grammar.{IsFormula, IsDisjunct, IsConjunct, IsTimed, IsOperand, disjunct, implies}
 use Rattle.stl_grammar.specs.Grammar.{conjunct, or, timed, and, operand, until, since, not, eventually, always}
 use Rattle.stl_grammar.specs.Grammar.{once, historically, always_true, always_false, parens, atom}
-use Rattle.stl_grammar.specs.Machine.{Owner, of_until, of_since, of_future, of_past, looks_back, may_be_open}
-use Rattle.stl_grammar.specs.Refusing.{owner, is_beside}
-use Rattle.stl_grammar.specs.Spelling.{spelling}
-use Rattle.stl_grammar.specs.declared.token.Keyword.{Keyword}
-use Rattle.stl_grammar.specs.declared.token.Keyword.TheVariants.{True as KTrue, False as KFalse, And as KAnd, Or as KOr, Implies as KImplies}
-use Rattle.stl_grammar.specs.declared.token.Keyword.TheVariants.{Until as KUntil, Since as KSince, Eventually as KEventually}
-use Rattle.stl_grammar.specs.declared.token.Keyword.TheVariants.{Always as KAlways, Once as KOnce, Historically as KHistorically}
-use Rattle.stl_grammar.specs.declared.place.Timed.{Timed}
-use Rattle.stl_grammar.specs.declared.place.Timed.TheVariants.{Until as TUntil, Since as TSince, Eventually as TEventually}
-use Rattle.stl_grammar.specs.declared.place.Timed.TheVariants.{Always as TAlways, Once as TOnce, Historically as THistorically}
-
--- the operators without a bound between two operands
-pub data Connective : Type 0 where
-  by_and : Connective
-  by_or : Connective
-  by_implies : Connective
-
--- the word of one, its node, and how tightly it binds itself, its left side and its right side: `until` and `since` bind with 4
-abbrev pub connective_keyword : Connective → Keyword
-connective_keyword by_and = KAnd
-connective_keyword by_or = KOr
-connective_keyword by_implies = KImplies
-
-abbrev pub connective_word : Connective → List ℕ
-connective_word o = spelling (connective_keyword o)
-
-abbrev pub connective_node : Connective → ℕ → ℕ → Node
-connective_node by_and p q = And p q
-connective_node by_or p q = Or p q
-connective_node by_implies p q = Implies p q
-
-abbrev pub binds : Connective → ℕ
-binds by_and = 3
-binds by_or = 2
-binds by_implies = 1
-
-abbrev pub left_binds : Connective → ℕ
-left_binds by_and = 3
-left_binds by_or = 2
-left_binds by_implies = 2
-
-abbrev pub right_binds : Connective → ℕ
-right_binds by_and = 4
-right_binds by_or = 3
-right_binds by_implies = 1
+pub use Rattle.stl_grammar.specs.Operators.{is_beside, looks_back, may_be_open}
+use Rattle.stl_grammar.specs.Operators.{direction, is_behind, ends, are_free}
+pub use Rattle.stl_grammar.specs.Operators.{Connective, by_and, by_or, by_implies, connective_word, connective_node}
+pub use Rattle.stl_grammar.specs.Operators.{binds, left_binds, right_binds, timed_word, timed_node, constant_word}
+use Rattle.stl_syntax.specs.Limits.{reach_of_bound}
+use Rattle.stl_grammar.specs.declared.operator.Timed.{Timed}
+use Rattle.stl_grammar.specs.declared.operator.Timed.TheVariants.{Until as TUntil, Since as TSince, Eventually as TEventually}
+use Rattle.stl_grammar.specs.declared.operator.Timed.TheVariants.{Always as TAlways, Once as TOnce, Historically as THistorically}
 
 -- each connective binds more tightly than parentheses, which count 0
 pub one_binds : (o : Connective) → 1 ≤ binds o
@@ -70,61 +32,25 @@ pub has_three : (o : Connective) → binds o ≤ 3
 has_three by_and = omega arith
 has_three _ = omega arith
 
--- the left side of a connective is no `implies` by itself
-pub left_two : (o : Connective) → 2 ≤ left_binds o
-left_two by_and = omega arith
-left_two _ = omega arith
-
--- the word of an operator with a bound, and its node of a bound from a to b, each end in or out, and of its left and its last operand
-abbrev pub timed_keyword : Timed → Keyword
-timed_keyword TUntil = KUntil
-timed_keyword TSince = KSince
-timed_keyword TEventually = KEventually
-timed_keyword TAlways = KAlways
-timed_keyword TOnce = KOnce
-timed_keyword THistorically = KHistorically
-
-abbrev pub timed_word : Timed → List ℕ
-timed_word of = spelling (timed_keyword of)
-
-abbrev pub upper : Option ℕ → ℕ
-upper None = 0
-upper (Some b) = b
-
-abbrev pub timed_node : Timed → ℕ → Option ℕ → Bool → Bool → ℕ → ℕ → Node
-timed_node TUntil a b x y p q = Until p q a (upper b)
-timed_node TSince a b x y p q = Since p q a b
-timed_node TEventually a b x y p q = Eventually q a (upper b) x y
-timed_node TAlways a b x y p q = Always q a (upper b) x y
-timed_node TOnce a b x y p q = Once q a b x y
-timed_node THistorically a b x y p q = Historically q a b x y
-
-abbrev pub constant_keyword : Bool → Keyword
-constant_keyword true = KTrue
-constant_keyword false = KFalse
-
-abbrev pub constant_word : Bool → List ℕ
-constant_word b = spelling (constant_keyword b)
-
 -- a bracket that opens the bound of such an operator, or that closes it, with the end in or out
-pub data Opens (o : Owner) : Token → Bool → Type 0 where
+pub data Opens (o : Timed) : Token → Bool → Type 0 where
   opens_in : Opens o open_bracket true
   opens_out : may_be_open o ≡ true → Opens o close_bracket false
 
-pub data Closes (o : Owner) : Token → Bool → Type 0 where
+pub data Closes (o : Timed) : Token → Bool → Type 0 where
   closes_in : Closes o close_bracket true
   closes_out : may_be_open o ≡ true → Closes o open_bracket false
 
 -- what holds of each pair of brackets holds of those of a bound
 pub by_brackets : (P : Token → Token → Type 0) → P open_bracket close_bracket → P open_bracket open_bracket → P close_bracket close_bracket
-    → P close_bracket open_bracket → {o : Owner} {t u : Token} {x y : Bool} → Opens o t x → Closes o u y → P t u
+    → P close_bracket open_bracket → {o : Timed} {t u : Token} {x y : Bool} → Opens o t x → Closes o u y → P t u
 by_brackets P a b c d opens_in closes_in = a
 by_brackets P a b c d opens_in (closes_out e) = b
 by_brackets P a b c d (opens_out e) closes_in = c
 by_brackets P a b c d (opens_out e) (closes_out f) = d
 
 -- the bound of an operator, in ticks: where it looks back the bound may be left out, or have no upper end
-pub data Bounded (digits : ℕ) (o : Owner) : List Token → ℕ → Option ℕ → Bool → Bool → Type 0 where
+pub data Bounded (digits : ℕ) (o : Timed) : List Token → ℕ → Option ℕ → Bool → Bool → Type 0 where
   left_out : looks_back o ≡ true → Bounded digits o [] 0 None true true
   within : {a j b k : ℕ} {t u : Token} {x y : Bool} → Opens o t x → Closes o u y
       → Bounded digits o (t ∷ number a j ∷ comma ∷ number b k ∷ u ∷ []) (ticks digits a j) (Some (ticks digits b k)) x y
@@ -136,7 +62,7 @@ mutual
   pub data Operand (s : Scale) : ℕ → List Token → List Node → Type 0 where
     negated : {k : ℕ} {ts : List Token} {ns : List Node} → Operand s k ts ns → Operand s k (word (codes "not") ∷ ts) (ns ++ Not (top k ns) ∷ [])
     prefixed : (of : Timed) {k a : ℕ} {b : Option ℕ} {x y : Bool} {ts us : List Token} {ns : List Node} → is_beside of ≡ false
-        → Bounded s.time (owner of) us a b x y → Operand s k ts ns
+        → Bounded s.time of us a b x y → Operand s k ts ns
         → Operand s k (word (timed_word of) ∷ (us ++ ts)) (ns ++ timed_node of a b x y 0 (top k ns) ∷ [])
     constant : (b : Bool) {k : ℕ} → Operand s k (word (constant_word b) ∷ []) (Const b ∷ [])
     enclosed : {k : ℕ} {ts : List Token} {ns : List Node} → Derived s 1 k ts ns → Operand s k (open_paren ∷ ts ++ close_paren ∷ []) ns
@@ -148,7 +74,7 @@ mutual
         → Derived s (right_binds o) (k + length ns) us ms
         → Derived s r k (ts ++ word (connective_word o) ∷ us) (ns ++ ms ++ connective_node o (top k ns) (top (k + length ns) ms) ∷ [])
     beside : (of : Timed) {r k a : ℕ} {b : Option ℕ} {x y : Bool} {ts us vs : List Token} {ns ms : List Node} → is_beside of ≡ true → r ≤ 4
-        → Operand s k ts ns → Bounded s.time (owner of) us a b x y → Operand s (k + length ns) vs ms
+        → Operand s k ts ns → Bounded s.time of us a b x y → Operand s (k + length ns) vs ms
         → Derived s r k (ts ++ word (timed_word of) ∷ (us ++ vs)) (ns ++ ms ++ timed_node of a b x y (top k ns) (top (k + length ns) ms) ∷ [])
     alone : {r k : ℕ} {ts : List Token} {ns : List Node} → Operand s k ts ns → Derived s r k ts ns
 
@@ -159,70 +85,72 @@ looser l (beside of i m p w q) = beside of i (omega arith) p w q
 looser l (alone p) = alone p
 
 -- bounds of the grammar are those of the table
-either_opens : {o : Owner} {t : Token} {x : Bool} → may_be_open o ≡ true → IsOpening t x → Opens o t x
-either_opens e inside = opens_in
-either_opens e outside = opens_out e
+opens_of : {o : Timed} {e : Ends} {t : Token} {x : Bool} → ends o ≡ e → IsOpening e t x → Opens o t x
+opens_of e inside = opens_in
+opens_of e outside = opens_out (rw e refl)
 
-either_closes : {o : Owner} {t : Token} {x : Bool} → may_be_open o ≡ true → IsClosing t x → Closes o t x
-either_closes e inside = closes_in
-either_closes e outside = closes_out e
+closes_of : {o : Timed} {e : Ends} {t : Token} {x : Bool} → ends o ≡ e → IsClosing e t x → Closes o t x
+closes_of e inside = closes_in
+closes_of e outside = closes_out (rw e refl)
 
-future_bound : {d a b : ℕ} {us : List Token} {x y : Bool} → IsFutureWindow d us a b x y → Bounded d of_future us a (Some b) x y
-future_bound (bound p q) = within (either_opens refl p) (either_closes refl q)
+bound_of : {d : Direction} {e : Ends} {digits a : ℕ} {b : Option ℕ} {us : List Token} {x y : Bool} (o : Timed) → direction o ≡ d → ends o ≡ e
+    → IsBound digits d e us a b x y → Bounded digits o us a b x y
+bound_of o d e nothing = left_out (rw d refl)
+bound_of o d e (bounded p q) = within (opens_of e p) (closes_of e q)
+bound_of o d e (unbounded p q) = endless (rw d refl) (opens_of e p) (closes_of e q)
 
-until_bound : {d a b : ℕ} {us : List Token} → IsFuture d us a b → Bounded d of_until us a (Some b) true true
-until_bound (bound inside inside) = within opens_in closes_in
-
-past_bound : {d a : ℕ} {b : Option ℕ} {us : List Token} {x y : Bool} → IsPastWindow d us a b x y → Bounded d of_past us a b x y
-past_bound nothing = left_out refl
-past_bound (bounded p q) = within (either_opens refl p) (either_closes refl q)
-past_bound (unbounded p q) = endless refl (either_opens refl p) (either_closes refl q)
-
-since_bound : {d a : ℕ} {b : Option ℕ} {us : List Token} → IsPast d us a b → Bounded d of_since us a b true true
-since_bound since_nothing = left_out refl
-since_bound since_bounded = within opens_in closes_in
-since_bound since_unbounded = endless refl opens_in closes_in
-
--- bounds of the table are those of the grammar
-opening_of : {o : Owner} {t : Token} {x : Bool} → Opens o t x → IsOpening t x
+-- and the other way round
+opening_of : {o : Timed} {t : Token} {x : Bool} → Opens o t x → IsOpening (ends o) t x
 opening_of opens_in = inside
-opening_of (opens_out e) = outside
+opening_of {o} (opens_out f) = by_ends (ends o) f
+  where
+    by_ends : (e : Ends) → are_free e ≡ true → IsOpening e close_bracket false
+    by_ends free f = outside
+    by_ends closed f = absurd (cc)
 
-closing_of : {o : Owner} {t : Token} {x : Bool} → Closes o t x → IsClosing t x
+closing_of : {o : Timed} {t : Token} {x : Bool} → Closes o t x → IsClosing (ends o) t x
 closing_of closes_in = inside
-closing_of (closes_out e) = outside
+closing_of {o} (closes_out f) = by_ends (ends o) f
+  where
+    by_ends : (e : Ends) → are_free e ≡ true → IsClosing e open_bracket false
+    by_ends free f = outside
+    by_ends closed f = absurd (cc)
 
-future_window : {d a : ℕ} {b : Option ℕ} {us : List Token} {x y : Bool} → Bounded d of_future us a b x y → IsFutureWindow d us a (upper b) x y
-future_window (left_out e) = absurd (cc)
-future_window (within p q) = bound (opening_of p) (closing_of q)
-future_window (endless e p q) = absurd (cc)
-
-until_window : {d a : ℕ} {b : Option ℕ} {us : List Token} {x y : Bool} → Bounded d of_until us a b x y → IsFuture d us a (upper b)
-until_window (left_out e) = absurd (cc)
-until_window (within opens_in closes_in) = bound inside inside
-until_window (within opens_in (closes_out f)) = absurd (cc)
-until_window (within (opens_out f) q) = absurd (cc)
-until_window (endless e p q) = absurd (cc)
-
-past_window : {d a : ℕ} {b : Option ℕ} {us : List Token} {x y : Bool} → Bounded d of_past us a b x y → IsPastWindow d us a b x y
-past_window (left_out e) = nothing
-past_window (within p q) = bounded (opening_of p) (closing_of q)
-past_window (endless e p q) = unbounded (opening_of p) (closing_of q)
-
-since_window : {d a : ℕ} {b : Option ℕ} {us : List Token} {x y : Bool} → Bounded d of_since us a b x y → IsPast d us a b
-since_window (left_out e) = since_nothing
-since_window (within opens_in closes_in) = since_bounded
-since_window (endless e opens_in closes_in) = since_unbounded
-since_window (within opens_in (closes_out f)) = absurd (cc)
-since_window (within (opens_out f) q) = absurd (cc)
-since_window (endless e opens_in (closes_out f)) = absurd (cc)
-since_window (endless e (opens_out f) q) = absurd (cc)
+as_bound : {o : Timed} {digits a : ℕ} {b : Option ℕ} {us : List Token} {x y : Bool} → Bounded digits o us a b x y
+    → IsBound digits (direction o) (ends o) us a b x y
+as_bound {o} {digits} (left_out f) = by_direction (direction o) f
+  where
+    by_direction : (d : Direction) → is_behind d ≡ true → IsBound digits d (ends o) [] 0 None true true
+    by_direction behind f = nothing
+    by_direction ahead f = absurd (cc)
+as_bound (within p q) = bounded (opening_of p) (closing_of q)
+as_bound {o} {digits} (endless {a = a} {j} {t} {u} {x} f p q) = by_direction (direction o) f
+  where
+    by_direction : (d : Direction) → is_behind d ≡ true
+        → IsBound digits d (ends o) (t ∷ number a j ∷ comma ∷ word (codes "inf") ∷ u ∷ []) (ticks digits a j) None x true
+    by_direction behind f = unbounded (opening_of p) (closing_of q)
+    by_direction ahead f = absurd (cc)
 
 -- an operator that looks ahead has an upper end
-pub has_upper : {d a : ℕ} {b : Option ℕ} {us : List Token} {x y : Bool} (o : Owner) → looks_back o ≡ false → Bounded d o us a b x y → Some (upper b) ≡ b
+pub has_upper : {d a : ℕ} {b : Option ℕ} {us : List Token} {x y : Bool} (o : Timed) → looks_back o ≡ false → Bounded d o us a b x y
+    → Some (reach_of_bound a b) ≡ b
 has_upper o e (left_out f) = absurd (cc)
 has_upper o e (within p q) = refl
 has_upper o e (endless f p q) = absurd (cc)
+
+-- so its bound is one with an upper end
+bound_ahead : {d a : ℕ} {b : Option ℕ} {us : List Token} {x y : Bool} (o : Timed) → looks_back o ≡ false → Bounded d o us a b x y
+    → IsBound d (direction o) (ends o) us a (Some (reach_of_bound a b)) x y
+bound_ahead o e w = rw (has_upper o e w) (as_bound w)
+
+-- the ends of a bound that must be closed are in
+ends_in : {d a : ℕ} {b : Option ℕ} {us : List Token} {x y : Bool} (o : Timed) → may_be_open o ≡ false → Bounded d o us a b x y → (x ≡ true) × (y ≡ true)
+ends_in o e (left_out f) = (refl, refl)
+ends_in o e (within opens_in closes_in) = (refl, refl)
+ends_in o e (within (opens_out f) q) = absurd (cc)
+ends_in o e (within p (closes_out f)) = absurd (cc)
+ends_in o e (endless f opens_in q) = (refl, refl)
+ends_in o e (endless f (opens_out g) q) = absurd (cc)
 
 -- derivations of the grammar are those of the table
 mutual
@@ -245,17 +173,17 @@ mutual
   pub timed_derived : {s : Scale} {k : ℕ} {ts : List Token} {ns : List Node} (r : ℕ) → r ≤ 4 → IsTimed s k ts ns → Derived s r k ts ns
   timed_derived r l (operand p) = alone (operand_derived p)
   timed_derived r l (until {ts = ts} {us} {vs} p w q) =
-      rw (append_assoc ts (word (codes "until") ∷ us) vs) (beside TUntil refl l (operand_derived p) (until_bound w) (operand_derived q))
+      rw (append_assoc ts (word (codes "until") ∷ us) vs) (beside TUntil refl l (operand_derived p) (bound_of TUntil refl refl w) (operand_derived q))
   timed_derived r l (since {ts = ts} {us} {vs} p w q) =
-      rw (append_assoc ts (word (codes "since") ∷ us) vs) (beside TSince refl l (operand_derived p) (since_bound w) (operand_derived q))
+      rw (append_assoc ts (word (codes "since") ∷ us) vs) (beside TSince refl l (operand_derived p) (bound_of TSince refl refl w) (operand_derived q))
 
   -- an operand
   pub operand_derived : {s : Scale} {k : ℕ} {ts : List Token} {ns : List Node} → IsOperand s k ts ns → Operand s k ts ns
   operand_derived (not p) = negated (operand_derived p)
-  operand_derived (eventually w p) = prefixed TEventually refl (future_bound w) (operand_derived p)
-  operand_derived (always w p) = prefixed TAlways refl (future_bound w) (operand_derived p)
-  operand_derived (once w p) = prefixed TOnce refl (past_bound w) (operand_derived p)
-  operand_derived (historically w p) = prefixed THistorically refl (past_bound w) (operand_derived p)
+  operand_derived (eventually w p) = prefixed TEventually refl (bound_of TEventually refl refl w) (operand_derived p)
+  operand_derived (always w p) = prefixed TAlways refl (bound_of TAlways refl refl w) (operand_derived p)
+  operand_derived (once w p) = prefixed TOnce refl (bound_of TOnce refl refl w) (operand_derived p)
+  operand_derived (historically w p) = prefixed THistorically refl (bound_of THistorically refl refl w) (operand_derived p)
   operand_derived always_true = constant true
   operand_derived always_false = constant false
   operand_derived (parens f) = enclosed (formula_derived 1 (omega arith) f)
@@ -263,20 +191,24 @@ mutual
 
 -- derivations of the table are those of the grammar: an `until` or `since`
 side : {s : Scale} {k a : ℕ} {b : Option ℕ} {x y : Bool} {ts us vs : List Token} {ns ms : List Node} (of : Timed) → is_beside of ≡ true
-    → IsOperand s k ts ns → Bounded s.time (owner of) us a b x y → IsOperand s (k + length ns) vs ms
+    → IsOperand s k ts ns → Bounded s.time of us a b x y → IsOperand s (k + length ns) vs ms
     → IsTimed s k (ts ++ word (timed_word of) ∷ (us ++ vs)) (ns ++ ms ++ timed_node of a b x y (top k ns) (top (k + length ns) ms) ∷ [])
-side {ts = ts} {us} {vs} TUntil e p w q = rw (append_assoc ts (word (codes "until") ∷ us) vs) at (until p (until_window w) q)
-side {ts = ts} {us} {vs} TSince e p w q = rw (append_assoc ts (word (codes "since") ∷ us) vs) at (since p (since_window w) q)
+side {ts = ts} {us} {vs} TUntil e p w q =
+    let f = ends_in TUntil refl w in
+    rw (append_assoc ts (word (codes "until") ∷ us) vs) at (until p (rw (f.0, f.1) at (bound_ahead TUntil refl w)) q)
+side {ts = ts} {us} {vs} TSince e p w q =
+    let f = ends_in TSince refl w in
+    rw (append_assoc ts (word (codes "since") ∷ us) vs) at (since p (rw (f.0, f.1) at (as_bound w)) q)
 side _ e p w q = absurd (cc)
 
 mutual
   -- an operand
   pub as_operand : {s : Scale} {k : ℕ} {ts : List Token} {ns : List Node} → Operand s k ts ns → IsOperand s k ts ns
   as_operand (negated p) = not (as_operand p)
-  as_operand (prefixed TEventually e w p) = eventually (future_window w) (as_operand p)
-  as_operand (prefixed TAlways e w p) = always (future_window w) (as_operand p)
-  as_operand (prefixed TOnce e w p) = once (past_window w) (as_operand p)
-  as_operand (prefixed THistorically e w p) = historically (past_window w) (as_operand p)
+  as_operand (prefixed TEventually e w p) = eventually (bound_ahead TEventually refl w) (as_operand p)
+  as_operand (prefixed TAlways e w p) = always (bound_ahead TAlways refl w) (as_operand p)
+  as_operand (prefixed TOnce e w p) = once (as_bound w) (as_operand p)
+  as_operand (prefixed THistorically e w p) = historically (as_bound w) (as_operand p)
   as_operand (prefixed _ e w p) = absurd (cc)
   as_operand (constant true) = always_true
   as_operand (constant false) = always_false

@@ -14,7 +14,7 @@ use Rattle.stl_grammar.specs.ReadText.{IsRead, IsParsed}
 use Rattle.stl_grammar.specs.Building.{AreNodes, IsBuilt, time_decimals, value_decimals}
 use Rattle.stl_grammar.specs.Drafts.{nodes_in}
 use Rattle.stl_grammar.proofs.LawProofs.{one_formula}
-use Rattle.stl_grammar.proofs.ParserNodes.{taken_formula}
+use Rattle.stl_grammar.proofs.ParserStates.{read_formula}
 use Rattle.stl_grammar.proofs.TokensTaken.{digits_small}
 use Rattle.stl_grammar.proofs.ReadNodes.{nodes_ready}
 use Rattle.stl_grammar.proofs.DigitsSpelled.{time_same, value_same}
@@ -44,7 +44,7 @@ module _ (text : List ℕ) (p : Parse) (codes : List Code) (h : IsRead text p co
 
   parsed : IsFormula (scale_of codes) 0 (reverse h.before) nodes
   unfolding nodes
-  parsed = taken_formula text h.taken h.ended (scale_of codes)
+  parsed = read_formula h.before p h.reads h.ended (scale_of codes)
 
   -- its drafts are nodes in it
   pub read_nodes : AreNodes (nodes_in (scale_of codes) (folded_drafts 1 p.frames p.drafts))

@@ -12,7 +12,7 @@ use Rattle.stl_grammar.specs.Laws.{OneFormula, OneRefusal}
 use Rattle.stl_grammar.specs.declared.fault.FormulaFault.{FormulaFault}
 use Rattle.stl_grammar.specs.declared.fault.FormulaFault.TheVariants.{ReachTooLarge, ConstantTooLarge}
 use Rattle.stl_grammar.proofs.RefusalLaw.{TokenFault-unique, Lexes-unique, scale-unique}
-use Rattle.stl_grammar.proofs.OneParse.{nodes_unique}
+use Rattle.stl_grammar.proofs.MachineRuns.{nodes_unique}
 
 same_formula : (ns ms : List Node) (s t : Scale) → ns ≡ ms → s ≡ t → ◌≡◌ {A = Formula} (record { nodes = ns; scale = s }) (record { nodes = ms; scale = t })
 same_formula ns ms s t e f = cc
@@ -22,7 +22,7 @@ pub one_formula : OneFormula
 one_formula text f g h k =
     let e : f.scale ≡ g.scale = scale-unique text f g h k in
     let x : IsFormula g.scale 0 k.tokens f.nodes = rw (← e, ← Lexes-unique h.lexed k.lexed) h.parsed in
-    same_formula f.nodes g.nodes f.scale g.scale (nodes_unique x k.parsed) e
+    same_formula f.nodes g.nodes f.scale g.scale (nodes_unique g.scale x k.parsed) e
 
 too_large_unique : (nodes : List Node) → AtMostOne (IsTooLarge {A = FormulaFault} ConstantTooLarge ReachTooLarge nodes)
 too_large_unique nodes = or_else-unique _ _

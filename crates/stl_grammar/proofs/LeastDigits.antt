@@ -13,10 +13,8 @@ use Rattle.stl_syntax.specs.declared.node.Node.{Node}
 use Rattle.stl_syntax.specs.declared.node.Node.TheVariants.{Const, Atom as Leaf}
 use Rattle.stl_grammar.specs.Grammar.{Token, word, number, relation, open_paren, close_paren, comma, plus, minus}
 use Rattle.stl_grammar.specs.Grammar.{first_decimals, value_digits, time_digits, IsConstant, plain, positive, negative, IsAtom, first, signed}
-use Rattle.stl_grammar.specs.Machine.{Owner, of_until, of_future}
-use Rattle.stl_grammar.specs.Refusing.{owner}
-use Rattle.stl_grammar.specs.declared.place.Timed.{Timed}
-use Rattle.stl_grammar.specs.declared.place.Timed.TheVariants.{Until as TUntil, Eventually as TEventually, Always as TAlways}
+use Rattle.stl_grammar.specs.declared.operator.Timed.{Timed}
+use Rattle.stl_grammar.specs.declared.operator.Timed.TheVariants.{Until as TUntil, Eventually as TEventually, Always as TAlways}
 use Rattle.stl_grammar.proofs.Derivations.{Connective, by_and, connective_word, connective_node, timed_word, timed_node, Bounded, left_out, within, endless}
 use Rattle.stl_grammar.proofs.Derivations.{has_upper, Operand, negated, prefixed, constant, enclosed, compared, Derived, joined, beside, alone}
 use Rattle.stl_grammar.proofs.Derivations.{formula_derived}
@@ -95,11 +93,11 @@ abs_ticks {d} us (positive {n = n} {k}) l = ticks_ten d n k l
 abs_ticks {d} us (negative {n = n} {k}) l = ap (λ z. z % 10) (abs_neg (ticks d n k)) ∙ ticks_ten d n k l
 
 -- the numbers of an operator's node are those of its bound
-pub node_bounds : (of : Timed) {d a : ℕ} {b : Option ℕ} {us : List Token} {x y : Bool} (p q : ℕ) → Bounded d (owner of) us a b x y
+pub node_bounds : (of : Timed) {d a : ℕ} {b : Option ℕ} {us : List Token} {x y : Bool} (p q : ℕ) → Bounded d of us a b x y
     → bounds_of (timed_node of a b x y p q) ≡ with_upper a b
-node_bounds TUntil {a = a} p q w = ap (λ z. with_upper a z) (has_upper of_until refl w)
-node_bounds TEventually {a = a} p q w = ap (λ z. with_upper a z) (has_upper of_future refl w)
-node_bounds TAlways {a = a} p q w = ap (λ z. with_upper a z) (has_upper of_future refl w)
+node_bounds TUntil {a = a} p q w = ap (λ z. with_upper a z) (has_upper TUntil refl w)
+node_bounds TEventually {a = a} p q w = ap (λ z. with_upper a z) (has_upper TEventually refl w)
+node_bounds TAlways {a = a} p q w = ap (λ z. with_upper a z) (has_upper TAlways refl w)
 node_bounds _ p q w = refl
 
 node_constants : (of : Timed) (a : ℕ) (b : Option ℕ) (x y : Bool) (p q : ℕ) → constants_of (timed_node of a b x y p q) ≡ []
@@ -120,7 +118,7 @@ module _ (s : Scale) (dt dv : ℕ) where
   two_ten : (ns ms : List Node) (n : Node) → All IsTen ns → All IsTen ms → IsTen n → All IsTen (ns ++ ms ++ n ∷ [])
   two_ten ns ms n h k g = one_ten (ns ++ ms) n (All-append IsTen ns ms h k) g
 
-  bound_ten : {o : Owner} {us : List Token} {a : ℕ} {b : Option ℕ} {x y : Bool} → Bounded s.time o us a b x y → Low us → dt < s.time → Tens (with_upper a b)
+  bound_ten : {o : Timed} {us : List Token} {a : ℕ} {b : Option ℕ} {x y : Bool} → Bounded s.time o us a b x y → Low us → dt < s.time → Tens (with_upper a b)
   bound_ten (left_out e) h l = (omega arith, tt)
   bound_ten (within {a = a} {j} {b} {k} {t} {u} p q) h l =
       let z = h.time (t ∷ []) (number b k ∷ u ∷ []) a j refl in (ticks_ten s.time a j (omega (arith, z.0)), (ticks_ten s.time b k (omega (arith, z.1)), tt))
@@ -138,7 +136,7 @@ module _ (s : Scale) (dt dv : ℕ) where
   connective_ten by_and p q = (λ i. tt, λ i. tt)
   connective_ten _ p q = (λ i. tt, λ i. tt)
 
-  timed_ten : (of : Timed) {us : List Token} {a : ℕ} {b : Option ℕ} {x y : Bool} (p q : ℕ) → Bounded s.time (owner of) us a b x y → Low us
+  timed_ten : (of : Timed) {us : List Token} {a : ℕ} {b : Option ℕ} {x y : Bool} (p q : ℕ) → Bounded s.time of us a b x y → Low us
       → IsTen (timed_node of a b x y p q)
   timed_ten of {a = a} {b} {x} {y} p q w h = (λ i. rw (node_bounds of p q w) (bound_ten w h i), λ i. rw (node_constants of a b x y p q) tt)
 

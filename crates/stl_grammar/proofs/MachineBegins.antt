@@ -1,7 +1,8 @@
 -- What the machine has read begins some formula.
-use Rattle.std.proofs.Common.{◌≡◌, ℕ, suc, ◌+◌, ◌≤◌, List, [], ◌∷◌, ◌++◌, length, refl, ap, sym, ◌∙◌, Bool, true, false, if◌then◌else◌, arith}
-use Rattle.std.proofs.Common.{append_assoc, inl, inr}
-use Rattle.std.specs.Prelude.{codes, reverse, Option, Some, None}
+use Rattle.std.proofs.Common.{◌≡◌, ℕ, zero, suc, ◌+◌, ◌-◌, ◌<◌, ◌≤◌, min, List, [], ◌∷◌, ◌++◌, length, refl, ap, sym, ◌∙◌, Bool, true, false}
+use Rattle.std.proofs.Common.{if◌then◌else◌, arith, append_assoc}
+use Rattle.std.specs.Prelude.{codes, reverse, nat_le, Option, Some, None}
+use Rattle.std.proofs.lemmas.Bool.Decides.{nat_tests}
 use Rattle.std.proofs.lemmas.List.{append-nil, reverse-append}
 use Rattle.std.proofs.lemmas.Option.{same_Some, none-some}
 use Rattle.stl_syntax.specs.Characters.{is_among}
@@ -13,23 +14,23 @@ use Rattle.stl_syntax.specs.declared.node.Node.{Node}
 use Rattle.stl_grammar.specs.Grammar.{reserved, Token, word, number, relation, open_paren, close_paren, open_bracket, close_bracket, comma, star, plus, minus}
 use Rattle.stl_grammar.specs.Grammar.{IsConstant, plain, positive, negative, IsTerm, scaled, AreTerms, more_plus, more_minus, first, signed}
 use Rattle.stl_grammar.specs.Grammar.{name as term_name, none as no_terms}
-use Rattle.stl_grammar.specs.Machine.{Kind, kind, a_constant, a_negation, a_join, an_implication, an_until, a_since, a_future, a_past, an_inf, a_name}
-use Rattle.stl_grammar.specs.Machine.{Owner, looks_back, opens, closes, Place, at_operand, at_bound}
-use Rattle.stl_grammar.specs.Machine.{at_low, at_comma, at_high, at_closing, at_term, at_star, at_name, at_sign}
-use Rattle.stl_grammar.specs.Machine.{at_constant, at_number, at_end, Mark, paren, operator, implication, State}
-use Rattle.stl_grammar.specs.Machine.{start, without_operators, closed, begin_word, begin_operand, step_bound}
-use Rattle.stl_grammar.specs.Machine.{step_inf, step_name, step_connective, step, step_from, step_at, run, in_paren, ends_at}
-use Rattle.stl_grammar.specs.FormulaRefusals.{MayBegin, MayEnd}
-use Rattle.stl_grammar.specs.Refusing.{owner, is_beside}
-use Rattle.stl_grammar.specs.declared.place.Timed.{Timed}
-use Rattle.stl_grammar.specs.declared.place.Timed.TheVariants.{Until as TUntil, Since as TSince}
-use Rattle.stl_grammar.proofs.Derivations.{Connective, by_and, by_or, by_implies, connective_word, binds, left_binds, right_binds, timed_word}
+use Rattle.stl_grammar.specs.Operators.{is_beside, looks_back, may_be_open}
+use Rattle.stl_grammar.specs.Machine.{Kind, kind, a_constant, a_negation, a_connective, a_timed, an_inf, a_name, Place, at_operand, at_bound, at_low}
+use Rattle.stl_grammar.specs.Machine.{at_comma, at_high, at_closing, at_term, at_star, at_name, at_sign, at_constant, at_number, at_end}
+use Rattle.stl_grammar.specs.Machine.{Frame, State, start, top_rank, frames_after, folded}
+use Rattle.stl_grammar.specs.Machine.{opened, opening, closing, timed_frame, connective_frame, negation, begin_word}
+use Rattle.stl_grammar.specs.Machine.{begin_operand, begin_bound, step_inf, end_bound, step_name, after_word, closed, step, step_from, step_at, run}
+use Rattle.stl_grammar.specs.Machine.{ranks, pending_of, ends_at}
+use Rattle.stl_grammar.specs.FormulaRefusals.{has_paren, MayBegin, MayEnd}
+use Rattle.stl_grammar.specs.declared.operator.Timed.{Timed}
+use Rattle.stl_grammar.proofs.Derivations.{Connective, by_and, by_or, by_implies, connective_word}
+use Rattle.stl_grammar.proofs.Derivations.{binds, left_binds, right_binds, timed_word, one_binds, has_three}
 use Rattle.stl_grammar.proofs.Derivations.{Opens, opens_in, opens_out, Closes, closes_in, closes_out, Bounded, left_out as no_bound, within, endless}
 use Rattle.stl_grammar.proofs.Derivations.{Operand, negated, prefixed, constant, enclosed, compared, Derived, joined, beside, alone, looser, as_formula}
-use Rattle.stl_grammar.proofs.MachineRuns.{after_connective}
+use Rattle.stl_grammar.proofs.MachineRuns.{no_paren}
 use Rattle.stl_grammar.proofs.WordKinds.{OfKind, kind_of}
 
--- the grammar without its nodes
+-- the grammar without its nodes: what binds at least as tightly as r, and an operand, which binds with 5
 abbrev scale : Scale
 scale = record { time = 0; value = 0 }
 
@@ -42,190 +43,175 @@ AnOperand ts = (k : ℕ) → (ns : List Node) × Operand scale k ts ns
 loosened : (r r' : ℕ) (ts : List Token) → r ≤ r' → Binds r' ts → Binds r ts
 loosened r r' ts l d k = ((d k).0, looser l (d k).1)
 
-joins : (o : Connective) (ts us : List Token) → Binds (left_binds o) ts → Binds (right_binds o) us → Binds (binds o) (ts ++ word (connective_word o) ∷ us)
-joins o ts us d f k = let p = d k in let q = f (k + length p.0) in (_, joined o (omega arith) p.1 q.1)
+by_itself : (ts : List Token) → AnOperand ts → Binds 5 ts
+by_itself ts p k = ((p k).0, alone (p k).1)
+
+bare : {s : Scale} {r k : ℕ} {ts : List Token} {ns : List Node} → 5 ≤ r → Derived s r k ts ns → Operand s k ts ns
+bare l (joined o i d e) = absurd (let b = has_three o in omega arith)
+bare l (beside of i m p w q) = absurd (omega arith)
+bare l (alone p) = p
+
+an_operand : (ts : List Token) → Binds 5 ts → AnOperand ts
+an_operand ts d k = ((d k).0, bare (omega arith) (d k).1)
 
 -- what is left of a bound
-data Closing (o : Owner) : List Token → Type 0 where
-  the_end : (y : Token) → closes o y ≡ true → Closing o (y ∷ [])
+data Closing (of : Timed) : List Token → Type 0 where
+  the_end : (t : Token) (y : Bool) → closing of t ≡ Some y → Closing of (t ∷ [])
 
-data High (o : Owner) : List Token → Type 0 where
-  upper : (b k : ℕ) {us : List Token} → Closing o us → High o (number b k ∷ us)
-  no_upper : {us : List Token} → looks_back o ≡ true → Closing o us → High o (word (codes "inf") ∷ us)
+data High (of : Timed) : List Token → Type 0 where
+  upper : (b k : ℕ) {us : List Token} → Closing of us → High of (number b k ∷ us)
+  no_upper : {us : List Token} → looks_back of ≡ true → Closing of us → High of (word (codes "inf") ∷ us)
 
-data Comma (o : Owner) : List Token → Type 0 where
-  then_high : {us : List Token} → High o us → Comma o (comma ∷ us)
+data Comma (of : Timed) : List Token → Type 0 where
+  then_high : {us : List Token} → High of us → Comma of (comma ∷ us)
 
-data Low (o : Owner) : List Token → Type 0 where
-  lower : (a j : ℕ) {us : List Token} → Comma o us → Low o (number a j ∷ us)
+data Low (of : Timed) : List Token → Type 0 where
+  lower : (a j : ℕ) {us : List Token} → Comma of us → Low of (number a j ∷ us)
 
-data Bound (o : Owner) : List Token → Type 0 where
-  left_out : looks_back o ≡ true → Bound o []
-  opening : (x : Token) {us : List Token} → opens o x ≡ true → Low o us → Bound o (x ∷ us)
+data Bound (of : Timed) : List Token → Type 0 where
+  left_out : looks_back of ≡ true → Bound of []
+  opens : (t : Token) (x : Bool) {us : List Token} → opening of t ≡ Some x → Low of us → Bound of (t ∷ us)
 
 -- a bracket of a bound is that of the table
-an_opening : (o : Owner) (t : Token) → opens o t ≡ true → (x : Bool) × Opens o t x
-an_opening o open_bracket h = (true, opens_in)
-an_opening o close_bracket h = (false, opens_out h)
-an_opening o _ h = absurd (cc)
+an_opening : (of : Timed) (t : Token) (x : Bool) → opening of t ≡ Some x → Opens of t x
+an_opening of open_bracket x h = let e : true ≡ x = same_Some true x h in rw (← e) opens_in
+an_opening of close_bracket x h = split (may_be_open of) refl
+  where
+    split : (b : Bool) → may_be_open of ≡ b → Opens of close_bracket x
+    split true f = let e : false ≡ x = same_Some false x (rw f at h) in rw (← e) (opens_out f)
+    split false f = let z = rw f at h in absurd (none-some x z)
+an_opening of _ x h = absurd (none-some x h)
 
-a_closing : (o : Owner) (t : Token) → closes o t ≡ true → (x : Bool) × Closes o t x
-a_closing o close_bracket h = (true, closes_in)
-a_closing o open_bracket h = (false, closes_out h)
-a_closing o _ h = absurd (cc)
+a_closing : (of : Timed) (t : Token) (y : Bool) → closing of t ≡ Some y → Closes of t y
+a_closing of close_bracket y h = let e : true ≡ y = same_Some true y h in rw (← e) closes_in
+a_closing of open_bracket y h = split (may_be_open of) refl
+  where
+    split : (b : Bool) → may_be_open of ≡ b → Closes of open_bracket y
+    split true f = let e : false ≡ y = same_Some false y (rw f at h) in rw (← e) (closes_out f)
+    split false f = let z = rw f at h in absurd (none-some y z)
+a_closing of _ y h = absurd (none-some y h)
 
 -- and so is the bound
-fits : (o : Owner) {us : List Token} → Bound o us → (a : ℕ) × (b : Option ℕ) × (x : Bool) × (y : Bool) × Bounded 0 o us a b x y
-fits o (left_out h) = (_, _, _, _, no_bound h)
-fits o (opening x e (lower a j (then_high (upper b k (the_end y h))))) =
-    let p = an_opening o x e in let q = a_closing o y h in (_, _, p.0, q.0, within p.1 q.1)
-fits o (opening x e (lower a j (then_high (no_upper i (the_end y h))))) =
-    let p = an_opening o x e in let q = a_closing o y h in (_, _, p.0, _, endless i p.1 q.1)
+fits : (of : Timed) {us : List Token} → Bound of us → (a : ℕ) × (b : Option ℕ) × (x : Bool) × (y : Bool) × Bounded 0 of us a b x y
+fits of (left_out h) = (_, _, _, _, no_bound h)
+fits of (opens t x e (lower a j (then_high (upper b k (the_end u y h))))) = (_, _, x, y, within (an_opening of t x e) (a_closing of u y h))
+fits of (opens t x e (lower a j (then_high (no_upper i (the_end u y h))))) = (_, _, x, _, endless i (an_opening of t x e) (a_closing of u y h))
 
 -- every text of one kind after these tokens is one of the other
 abbrev Fills : (List Token → Type 0) → (List Token → Type 0) → List Token → Type 0
 Fills A B p = (ts : List Token) → A ts → B (p ++ ts)
 
--- where a timed formula comes next: the left sides of `implies`, of `or` and of `and` that stand before it
-record TimedHole (pre : List Token) : Type 0 where
-  q : List Token
-  p : List Token
-  c : List Token
-  is : pre ≡ q ++ (p ++ c)
-  forms : Fills (Binds 1) (Binds 1) q
-  disjuncts : Fills (Binds 3) (Binds 2) p
-  conjuncts : Fills (Binds 4) (Binds 3) c
+-- how tightly its last operand binds at least of what binds with r
+abbrev pub right_of : ℕ → ℕ
+right_of zero = 0
+right_of (suc zero) = 1
+right_of (suc (suc r)) = min 5 (3 + r)
 
-abbrev no_hole : TimedHole []
-no_hole = record {
-  q = [];
-  p = [];
-  c = [];
-  is = refl;
-  forms = λ ts f. f;
-  disjuncts = λ ts c. loosened 2 3 ts (omega arith) c;
-  conjuncts = λ ts t. loosened 3 4 ts (omega arith) t;
-}
+right_most : (r : ℕ) → right_of r ≤ 5
+right_most zero = omega arith
+right_most (suc zero) = omega arith
+right_most (suc (suc r)) = omega arith
 
-hole_filled : (pre ts : List Token) → TimedHole pre → Binds 4 ts → Binds 1 (pre ++ ts)
-hole_filled pre ts h t =
-    let e : pre ++ ts ≡ h.q ++ (h.p ++ (h.c ++ ts)) = rw h.is (simp append_assoc) in
-    rw e (h.forms (h.p ++ (h.c ++ ts)) (loosened 1 2 (h.p ++ (h.c ++ ts)) (omega arith) (h.disjuncts (h.c ++ ts) (h.conjuncts ts t))))
+right_next : (r : ℕ) → right_of r ≤ suc r
+right_next zero = omega arith
+right_next (suc zero) = omega arith
+right_next (suc (suc r)) = omega arith
 
-hole_joined : (o : Connective) (pre ts : List Token) → TimedHole pre → Binds 4 ts → TimedHole (pre ++ (ts ++ word (connective_word o) ∷ []))
-hole_joined by_and pre ts h t = record {
-  q = h.q;
-  p = h.p;
-  c = h.c ++ (ts ++ word (codes "and") ∷ []);
-  is = rw h.is (simp append_assoc);
-  forms = h.forms;
-  disjuncts = h.disjuncts;
-  conjuncts = λ us u.
-      let e : h.c ++ (ts ++ word (codes "and") ∷ []) ++ us ≡ h.c ++ ts ++ word (codes "and") ∷ us = simp append_assoc in
-      rw e (joins by_and (h.c ++ ts) us (h.conjuncts ts t) u);
-}
-hole_joined by_or pre ts h t = record {
-  q = h.q;
-  p = h.p ++ (h.c ++ (ts ++ word (codes "or") ∷ []));
-  c = [];
-  is = rw h.is (simp (append_assoc, append-nil {A = Token}));
-  forms = h.forms;
-  disjuncts = λ us u.
-      let e : h.p ++ (h.c ++ (ts ++ word (codes "or") ∷ [])) ++ us ≡ h.p ++ (h.c ++ ts) ++ word (codes "or") ∷ us = simp append_assoc in
-      rw e (joins by_or (h.p ++ (h.c ++ ts)) us (h.disjuncts (h.c ++ ts) (h.conjuncts ts t)) u);
-  conjuncts = no_hole.conjuncts;
-}
-hole_joined by_implies pre ts h t = record {
-  q = h.q ++ (h.p ++ (h.c ++ (ts ++ word (codes "implies") ∷ [])));
-  p = [];
-  c = [];
-  is = rw h.is (simp (append_assoc, append-nil {A = Token}));
-  forms = λ us u.
-      let e : h.q ++ (h.p ++ (h.c ++ (ts ++ word (codes "implies") ∷ []))) ++ us ≡ h.q ++ (h.p ++ (h.c ++ ts) ++ word (codes "implies") ∷ us) =
-      simp append_assoc in
-      rw e (h.forms (h.p ++ (h.c ++ ts) ++ word (codes "implies") ∷ us)
-      (joins by_implies (h.p ++ (h.c ++ ts)) us (h.disjuncts (h.c ++ ts) (h.conjuncts ts t)) u));
-  disjuncts = no_hole.disjuncts;
-  conjuncts = no_hole.conjuncts;
-}
+-- what waits for its last operand, and the tokens up to the place where that one comes next
+pub data Awaits : List Frame → List Token → Type 0 where
+  nothing : Awaits [] []
+  inside : {frames : List Frame} {pre : List Token} (f : Frame) → f.rank ≡ 0 → Awaits frames pre → Awaits (f ∷ frames) (pre ++ open_paren ∷ [])
+  waits : {frames : List Frame} {pre : List Token} (f : Frame) (op : List Token) → 0 < f.rank → right_of (top_rank frames) ≤ f.rank
+      → Fills (Binds (right_of f.rank)) (Binds f.rank) op → Awaits frames pre → Awaits (f ∷ frames) (pre ++ op)
 
--- where an operand comes next beside an `until` or `since`, or with neither
-record Right (had : Bool) (b : List Token) : Type 0 where
-  fills : Fills AnOperand (Binds 4) b
-  none : had ≡ false → b ≡ []
-
-by_itself : Right false []
-by_itself = record { fills = λ ts p k. ((p k).0, alone (p k).1); none = λ e. refl }
-
--- the tokens up to a place where an operand comes next, with what is pending
-mutual
-  data Awaits : Bool → List Mark → List Token → Type 0 where
-    level : {h : Bool} {marks : List Mark} {pre a b : List Token} → Base marks pre → TimedHole a → Right h b → Awaits h marks (pre ++ (a ++ b))
-    inside_operator : {h : Bool} {marks : List Mark} {pre : List Token} (op : List Token) → Awaits h marks pre
-        → Fills AnOperand AnOperand op → Awaits h (operator ∷ marks) (pre ++ op)
-
-  -- the tokens up to the last parenthesis that is pending
-  data Base : List Mark → List Token → Type 0 where
-    bottom : Base [] []
-    implied : {marks : List Mark} {pre : List Token} → Base marks pre → Base (implication ∷ marks) pre
-    in_parens : {h : Bool} {marks : List Mark} {pre : List Token} → Awaits h marks pre → Base (paren h ∷ marks) (pre ++ open_paren ∷ [])
-
--- the tokens up to the end of an operand
-record After (had : Bool) (marks : List Mark) (whole : List Token) : Type 0 where
+-- after the tokens of what binds at least as tightly as r
+record Stands (r : ℕ) (frames : List Frame) (whole : List Token) : Type 0 where
   pre : List Token
-  a : List Token
-  b : List Token
-  us : List Token
-  base : Base marks pre
-  hole : TimedHole a
-  right : Right had b
-  last : AnOperand us
-  is : whole ≡ pre ++ (a ++ (b ++ us))
+  last : List Token
+  awaits : Awaits frames pre
+  ends : Binds r last
+  is : whole ≡ pre ++ last
 
-base_marks : {marks : List Mark} {pre : List Token} → Base marks pre → without_operators marks ≡ marks
-base_marks bottom = refl
-base_marks _ = refl
+-- with it ends what binds as tightly
+folds : {frames : List Frame} {pre : List Token} → Awaits frames pre → (r n : ℕ) → 0 < r → r ≤ n → right_of (top_rank frames) ≤ n
+    → (us : List Token) → Binds n us → Stands r (frames_after r frames) (pre ++ us)
+folds nothing r n p l h us b = record { pre = []; last = us; awaits = nothing; ends = loosened r n us l b; is = refl }
+folds (inside f e w) r n p l h us b =
+    let g : nat_le r f.rank ≡ false = grind (arith, nat_tests, e, p) in
+    rw g (record { pre = _; last = us; awaits = inside f e w; ends = loosened r n us l b; is = refl })
+folds (waits {frames = frames} {pre = pre} f op q order fills w) r n p l h us b =
+    split (nat_le r f.rank) refl (λ m. folds w r f.rank p m order (op ++ us) (fills us (loosened (right_of f.rank) n us h b)))
+  where
+    split : (c : Bool) → nat_le r f.rank ≡ c → (r ≤ f.rank → Stands r (frames_after r frames) (pre ++ (op ++ us)))
+        → Stands r (frames_after r (f ∷ frames)) (pre ++ op ++ us)
+    split true e x = let m : r ≤ f.rank = grind (arith, nat_tests, e) in rw (e, append_assoc pre op us) (x m)
+    split false e x = rw e (record { pre = pre ++ op; last = us; awaits = waits f op q order fills w; ends = loosened r n us l b; is = refl })
 
-finish : {h : Bool} {marks : List Mark} {pre : List Token} → Awaits h marks pre → (us : List Token) → AnOperand us
-    → After h (without_operators marks) (pre ++ us)
-finish (level {pre = pre} {a} {b} base hole right) us p =
-    rw (base_marks base) (record { pre = pre; a = a; b = b; us = us; base = base; hole = hole; right = right; last = p; is = simp append_assoc })
-finish (inside_operator {pre = pre} op w f) us p = rw (append_assoc pre op us) (finish w (op ++ us) (f us p))
+-- what is left binds less tightly
+pub after_top : (r : ℕ) (frames : List Frame) → 0 < r → top_rank (frames_after r frames) < r
+after_top r [] l = l
+after_top r (f ∷ frames) l = split (nat_le r f.rank) refl (after_top r frames l)
+  where
+    split : (b : Bool) → nat_le r f.rank ≡ b → top_rank (frames_after r frames) < r → top_rank (frames_after r (f ∷ frames)) < r
+    split true e h = rw e h
+    split false e h = let m : f.rank < r = grind (arith, nat_tests, e) in rw e m
 
--- after an operand: a connective
-base_joined : (o : Connective) {marks : List Mark} {pre : List Token} → Base marks pre → Base (after_connective o marks) pre
-base_joined by_implies b = implied b
-base_joined _ b = b
-
-after_joined : (o : Connective) {h : Bool} {marks : List Mark} {whole : List Token} → After h marks whole
-    → Awaits false (after_connective o marks) (whole ++ word (connective_word o) ∷ [])
-after_joined o {h} {marks} {whole} r =
-    let e : whole ++ word (connective_word o) ∷ [] ≡ r.pre ++ (r.a ++ ((r.b ++ r.us) ++ word (connective_word o) ∷ []) ++ []) =
-    rw r.is (simp (append_assoc, append-nil {A = Token})) in
-    rw e (level (base_joined o r.base) (hole_joined o r.a (r.b ++ r.us) r.hole (r.right.fills r.us r.last)) by_itself)
-
--- or an operator with a bound
-right_beside : (of : Timed) → is_beside of ≡ true → (us bs : List Token) → AnOperand us → Bound (owner of) bs → Right true (us ++ word (timed_word of) ∷ bs)
-right_beside of i us bs p f = record {
-  fills = λ vs v k.
-      let x = p k in let y = v (k + length x.0) in
-      rw (append_assoc us (word (timed_word of) ∷ bs) vs) (_, beside of {r = 4} i (omega arith) x.1 (fits (owner of) f).4 y.1);
-  none = λ e. absurd (cc);
-}
-
-after_beside : (of : Timed) → is_beside of ≡ true → {marks : List Mark} {whole : List Token} → After false marks whole → (bs : List Token)
-    → Bound (owner of) bs → Awaits true marks (whole ++ word (timed_word of) ∷ [] ++ bs)
-after_beside of i {marks} {whole} r bs f =
-    let e : whole ++ word (timed_word of) ∷ [] ++ bs ≡ r.pre ++ (r.a ++ (r.us ++ word (timed_word of) ∷ bs)) =
-    rw (r.is, r.right.none refl) (simp append_assoc) in
-    rw e (level r.base r.hole (right_beside of i r.us bs r.last f))
+-- an operand ends
+finish : {frames : List Frame} {pre : List Token} → Awaits frames pre → (us : List Token) → AnOperand us → Stands 5 (frames_after 5 frames) (pre ++ us)
+finish {frames = frames} w us p = folds w 5 5 (omega arith) (omega arith) (right_most (top_rank frames)) us (by_itself us p)
 
 -- the operators before an operand
-fills_not : Fills AnOperand AnOperand (word (codes "not") ∷ [])
-fills_not ts p k = (_, negated (p k).1)
+fills_not : Fills (Binds 5) (Binds 5) (word (codes "not") ∷ [])
+fills_not ts p k = (_, alone (negated (an_operand ts p k).1))
 
-fills_before : (of : Timed) → is_beside of ≡ false → (bs : List Token) → Bound (owner of) bs → Fills AnOperand AnOperand (word (timed_word of) ∷ bs)
-fills_before of i bs f ts p k = (_, prefixed of i (fits (owner of) f).4 (p k).1)
+fills_before : (of : Timed) → is_beside of ≡ false → (bs : List Token) → Bound of bs → Fills (Binds 5) (Binds 5) (word (timed_word of) ∷ bs)
+fills_before of i bs f ts p k = (_, alone (prefixed of i (fits of f).4 (an_operand ts p k).1))
+
+fills_beside : (of : Timed) → is_beside of ≡ true → (us bs : List Token) → Binds 5 us → Bound of bs
+    → Fills (Binds 5) (Binds 4) (us ++ word (timed_word of) ∷ bs)
+fills_beside of i us bs p f ts q k =
+    let x = an_operand us p k in let y = an_operand ts q (k + length x.0) in
+    rw (append_assoc us (word (timed_word of) ∷ bs) ts) (_, beside of {r = 4} i (omega arith) x.1 (fits of f).4 y.1)
+
+fills_right : (o : Connective) (us : List Token) → Binds (left_binds o) us
+    → Fills (Binds (right_binds o)) (Binds (binds o)) (us ++ word (connective_word o) ∷ [])
+fills_right o us d ts e k =
+    let p = d k in let q = e (k + length p.0) in
+    rw (append_assoc us (word (connective_word o) ∷ []) ts) (_, joined o {r = binds o} (omega arith) p.1 q.1)
+
+-- and how tightly they bind
+abbrev pub rank_of : Timed → ℕ
+rank_of of = if is_beside of then 4 else 5
+
+prefix_waits : (of : Timed) → is_beside of ≡ false → (bs : List Token) → Bound of bs → (f : Frame) → f.rank ≡ rank_of of
+    → {frames : List Frame} {pre : List Token} → Awaits frames pre → Awaits (f ∷ frames) (pre ++ word (timed_word of) ∷ bs)
+prefix_waits of i bs b f r {frames} x =
+    let e : f.rank ≡ 5 = r ∙ rw i refl in
+    waits f (word (timed_word of) ∷ bs) (omega (arith, e)) (rw e (right_most (top_rank frames))) (rw e (fills_before of i bs b)) x
+
+beside_waits : (of : Timed) → is_beside of ≡ true → (us bs : List Token) → Binds 5 us → Bound of bs → (f : Frame) → f.rank ≡ rank_of of
+    → {frames : List Frame} {pre : List Token} → top_rank frames < 4 → Awaits frames pre → Awaits (f ∷ frames) (pre ++ (us ++ word (timed_word of) ∷ bs))
+beside_waits of i us bs p b f r {frames} l x =
+    let e : f.rank ≡ 4 = r ∙ rw i refl in
+    waits f (us ++ word (timed_word of) ∷ bs) (omega (arith, e)) (omega (arith, right_next (top_rank frames), l, e)) (rw e (fills_beside of i us bs p b)) x
+
+right_low : (o : Connective) (r : ℕ) → r < left_binds o → right_of r ≤ binds o
+right_low by_and r l = omega (arith, right_next r, l)
+right_low by_or r l = omega (arith, right_next r, l)
+right_low by_implies zero l = omega arith
+right_low by_implies (suc zero) l = omega arith
+right_low by_implies (suc (suc r)) l = absurd (omega (arith, l))
+
+right_is : (o : Connective) → right_of (binds o) ≡ right_binds o
+right_is by_and = refl
+right_is _ = refl
+
+connective_waits : (o : Connective) (left : ℕ) {frames : List Frame} {whole : List Token} → top_rank frames < left_binds o → Stands (left_binds o) frames whole
+    → Awaits (connective_frame o left ∷ frames) (whole ++ word (connective_word o) ∷ [])
+connective_waits o left {frames} {whole} l y =
+    let e : whole ++ word (connective_word o) ∷ [] ≡ y.pre ++ (y.last ++ word (connective_word o) ∷ []) = rw y.is (append_assoc y.pre y.last _) in
+    rw e (waits (connective_frame o left) (y.last ++ word (connective_word o) ∷ []) (one_binds o) (right_low o (top_rank frames) l)
+    (rw (right_is o) (fills_right o y.last y.ends)) y.awaits)
 
 -- what is left of an atom
 data NumberTail : List Token → Type 0 where
@@ -297,305 +283,316 @@ plus_operand us t k = let x = term_tail t in let y = x.5 in rw (term_splits x) (
 minus_operand : (us : List Token) → TermTail us → AnOperand (minus ∷ us)
 minus_operand us t k = let x = term_tail t in let y = x.5 in rw (term_splits x) (_, compared (signed (more_minus x.4 y.5) y.6))
 
--- what stands before a place: the rest of a bound leads to an operand, and the rest of an atom to its end
-abbrev Holds : Place → Bool → List Mark → List Token → Type 0
-Holds at_operand h marks whole = Awaits h marks whole
-Holds (at_bound o) h marks whole = (us : List Token) → Bound o us → Awaits h marks (whole ++ us)
-Holds (at_low o) h marks whole = (us : List Token) → Low o us → Awaits h marks (whole ++ us)
-Holds (at_comma o a j) h marks whole = (us : List Token) → Comma o us → Awaits h marks (whole ++ us)
-Holds (at_high o a j) h marks whole = (us : List Token) → High o us → Awaits h marks (whole ++ us)
-Holds (at_closing o) h marks whole = (us : List Token) → Closing o us → Awaits h marks (whole ++ us)
-Holds (at_term n) h marks whole = (us : List Token) → TermTail us → After h (without_operators marks) (whole ++ us)
-Holds (at_star n) h marks whole = (us : List Token) → StarTail us → After h (without_operators marks) (whole ++ us)
-Holds (at_name n) h marks whole = (us : List Token) → NameTail us → After h (without_operators marks) (whole ++ us)
-Holds (at_sign n) h marks whole = (us : List Token) → SignTail us → After h (without_operators marks) (whole ++ us)
-Holds at_constant h marks whole = (us : List Token) → ConstantTail us → After h (without_operators marks) (whole ++ us)
-Holds at_number h marks whole = (us : List Token) → NumberTail us → After h (without_operators marks) (whole ++ us)
-Holds at_end h marks whole = After h marks whole
+-- what stands before a place: with the rest of a bound its operator waits, and with the rest of an atom an operand ends
+abbrev AfterBound : Timed → List Frame → List Token → Type 0
+AfterBound of frames whole = (f : Frame) → f.rank ≡ rank_of of → Awaits (f ∷ frames) whole
+
+abbrev AfterAtom : List Frame → List Token → Type 0
+AfterAtom frames whole = Stands 5 (frames_after 5 frames) whole
+
+abbrev Holds : Place → List Frame → List Token → Type 0
+Holds at_operand frames whole = Awaits frames whole
+Holds (at_bound of) frames whole = (us : List Token) → Bound of us → AfterBound of frames (whole ++ us)
+Holds (at_low of x) frames whole = (us : List Token) → Low of us → AfterBound of frames (whole ++ us)
+Holds (at_comma of x a j) frames whole = (us : List Token) → Comma of us → AfterBound of frames (whole ++ us)
+Holds (at_high of x a j) frames whole = (us : List Token) → High of us → AfterBound of frames (whole ++ us)
+Holds (at_closing of x a j b) frames whole = (us : List Token) → Closing of us → AfterBound of frames (whole ++ us)
+Holds (at_term less) frames whole = (us : List Token) → TermTail us → AfterAtom frames (whole ++ us)
+Holds (at_star less n) frames whole = (us : List Token) → StarTail us → AfterAtom frames (whole ++ us)
+Holds (at_name less n) frames whole = (us : List Token) → NameTail us → AfterAtom frames (whole ++ us)
+Holds at_sign frames whole = (us : List Token) → SignTail us → AfterAtom frames (whole ++ us)
+Holds (at_constant r) frames whole = (us : List Token) → ConstantTail us → AfterAtom frames (whole ++ us)
+Holds (at_number r less) frames whole = (us : List Token) → NumberTail us → AfterAtom frames (whole ++ us)
+Holds at_end frames whole = Stands 5 frames whole × (top_rank frames < 5)
 
 abbrev HoldsAt : State → List Token → Type 0
-HoldsAt s whole = Holds s.place s.had s.marks whole
+HoldsAt st whole = Holds st.place st.frames whole
 
 same_state : (a b : State) (whole : List Token) → Some a ≡ Some b → HoldsAt a whole → HoldsAt b whole
 same_state a b whole e h = let f : a ≡ b = same_Some a b e in rw (← f) h
 
 -- one token more, and then those
-shifted : (h : Bool) (marks : List Mark) (whole : List Token) (t : Token) (us : List Token) → After h marks (whole ++ t ∷ us)
-    → After h marks (whole ++ t ∷ [] ++ us)
-shifted h marks whole t us x = rw append_assoc x
+shifted : {frames : List Frame} (whole : List Token) (t : Token) (us : List Token) → Stands 5 frames (whole ++ t ∷ us)
+    → Stands 5 frames (whole ++ t ∷ [] ++ us)
+shifted whole t us x = rw append_assoc x
 
-shifted_awaits : (h : Bool) (marks : List Mark) (whole : List Token) (t : Token) (us : List Token)
-    → Awaits h marks (whole ++ t ∷ us) → Awaits h marks (whole ++ t ∷ [] ++ us)
-shifted_awaits h marks whole t us x = rw append_assoc x
-
-module _ (h : Bool) (marks : List Mark) (n : ℕ) (p : Place) (whole : List Token) where
-  -- the state before the token
-  abbrev now : State
-  now = record { place = p; had = h; marks = marks; nodes = n }
-
-  before : (of : Timed) {o : Owner} → is_beside of ≡ false → owner of ≡ o → Awaits h marks whole → (w : List ℕ) → w ≡ timed_word of
-      → (us : List Token) → Bound o us → Awaits h (operator ∷ marks) (whole ++ word w ∷ [] ++ us)
-  before of i e x w f us b =
-      rw f (shifted_awaits h (operator ∷ marks) whole _ us (inside_operator (word (timed_word of) ∷ us) x (fills_before of i us (rw (← e) at b))))
-
-  begins_word : Awaits h marks whole → (w : List ℕ) (k : Kind) → OfKind k w → (next : State) → begin_word now k ≡ Some next
-      → HoldsAt next (whole ++ word w ∷ [])
-  begins_word x w a_constant (b, f) next e = same_state _ next _ e (rw f (finish x _ (λ k. (_, constant b))))
-  begins_word x w a_negation f next e = same_state _ next _ e (rw f (inside_operator _ x fills_not))
-  begins_word x w a_future (of, f, i, o) next e = same_state _ next _ e (before of i o x w f)
-  begins_word x w a_past (of, f, i, o) next e = same_state _ next _ e (before of i o x w f)
-  begins_word x w a_name g next e = same_state _ next _ e
-      (λ us b. shifted h _ whole _ us (finish x (word w ∷ us) (term_operand (word w ∷ us) (term_tail (plain_name w g b)))))
-  begins_word x w _ f next e = absurd (none-some next e)
-
-  begins : Awaits h marks whole → (t : Token) (next : State) → begin_operand now t ≡ Some next → HoldsAt next (whole ++ t ∷ [])
-  begins x (word w) next e = begins_word x w (kind w) (kind_of w) next e
-  begins x (number m k) next e = same_state _ next _ e
-      (λ us b. shifted h _ whole _ us (finish x (number m k ∷ us) (term_operand (number m k ∷ us) (star_tail m k b))))
-  begins x open_paren next e = same_state _ next _ e (rw append-nil at (level {a = []} {b = []} (in_parens x) no_hole by_itself))
-  begins x plus next e = same_state _ next _ e (λ us b. shifted h _ whole _ us (finish x (plus ∷ us) (plus_operand us b)))
-  begins x minus next e = same_state _ next _ e (λ us b. shifted h _ whole _ us (finish x (minus ∷ us) (minus_operand us b)))
-  begins x _ next e = absurd (none-some next e)
-
-  bounds : (o : Owner) → ((us : List Token) → Bound o us → Awaits h marks (whole ++ us)) → (t : Token) (next : State)
-      → step_bound o now t ≡ Some next → HoldsAt next (whole ++ t ∷ [])
-  bounds o x t next e = opened (opens o t) refl
-    where
-      left : (b : Bool) → looks_back o ≡ b → opens o t ≡ false → HoldsAt next (whole ++ t ∷ [])
-      left true f g = begins (rw append-nil at (x [] (left_out f))) t next (rw (g, f) at e)
-      left false f g = let z = rw (g, f) at e in absurd (none-some next z)
-
-      opened : (b : Bool) → opens o t ≡ b → HoldsAt next (whole ++ t ∷ [])
-      opened true f = same_state _ next _ (rw f at e) (λ us b. shifted_awaits h marks whole t us (x (t ∷ us) (opening t f b)))
-      opened false f = left (looks_back o) refl f
-
-  closes_bound : (o : Owner) → ((us : List Token) → Closing o us → Awaits h marks (whole ++ us)) → (t : Token) (next : State)
-      → step_at (at_closing o) now t ≡ Some next
-      → HoldsAt next (whole ++ t ∷ [])
-  closes_bound o x t next e = closed_by (closes o t) refl
-    where
-      closed_by : (b : Bool) → closes o t ≡ b → HoldsAt next (whole ++ t ∷ [])
-      closed_by true f = same_state _ next _ (rw f at e) (x (t ∷ []) (the_end t f))
-      closed_by false f = let z = rw f at e in absurd (none-some next z)
-
-  infinite : (o : Owner) → ((us : List Token) → High o us → Awaits h marks (whole ++ us)) → (w : List ℕ) (k : Kind) → OfKind k w → (next : State)
-      → step_inf o now k ≡ Some next → HoldsAt next (whole ++ word w ∷ [])
-  infinite o x w an_inf f next e = back (looks_back o) refl
-    where
-      back : (b : Bool) → looks_back o ≡ b → HoldsAt next (whole ++ word w ∷ [])
-      back true g = same_state _ next _ (rw g at e) (λ us b. rw f (shifted_awaits h marks whole _ us (x (word (codes "inf") ∷ us) (no_upper g b))))
-      back false g = let z = rw g at e in absurd (none-some next z)
-  infinite o x w _ f next e = absurd (none-some next e)
-
-  names : (m : ℕ) (w : List ℕ) (k : Kind) → OfKind k w
-      → (is_among w reserved ≡ false → (us : List Token) → SignTail us → After h (without_operators marks) (whole ++ word w ∷ us)) → (next : State)
-      → step_name m now k ≡ Some next → HoldsAt next (whole ++ word w ∷ [])
-  names m w a_name g x next e = same_state _ next _ e (λ us b. shifted h _ whole _ us (x g us b))
-  names m w _ g x next e = absurd (none-some next e)
-
-  fresh : (of : Timed) {o : Owner} → is_beside of ≡ true → owner of ≡ o → After h marks whole → (w : List ℕ) → w ≡ timed_word of → (b : Bool) → h ≡ b
-      → (next : State) → (if h then None else Some (record { place = at_bound o; had = true; marks = marks; nodes = suc n })) ≡ Some next
-      → HoldsAt next (whole ++ word w ∷ [])
-  fresh of i o x w f true g next e = let z = rw g at e in absurd (none-some next z)
-  fresh of i o x w f false g next e =
-      same_state _ next _ (rw g at e) (λ us b. rw f (after_beside of i (rw g at x) us (rw (← o) at b)))
-
-  connects : After h marks whole → (w : List ℕ) (k : Kind) → OfKind k w → (next : State) → step_connective now k ≡ Some next
-      → HoldsAt next (whole ++ word w ∷ [])
-  connects x w a_join (inl f) next e = same_state _ next _ e (rw f (after_joined by_and x))
-  connects x w a_join (inr f) next e = same_state _ next _ e (rw f (after_joined by_or x))
-  connects x w an_implication f next e = same_state _ next _ e (rw f (after_joined by_implies x))
-  connects x w an_until f next e = fresh TUntil refl refl x w f h refl next e
-  connects x w a_since f next e = fresh TSince refl refl x w f h refl next e
-  connects x w _ f next e = absurd (none-some next e)
+shifted_awaits : {frames : List Frame} (whole : List Token) (t : Token) (us : List Token) → Awaits frames (whole ++ t ∷ us)
+    → Awaits frames (whole ++ t ∷ [] ++ us)
+shifted_awaits whole t us x = rw append_assoc x
 
 a_parens : (f : List Token) → Binds 1 f → AnOperand (open_paren ∷ f ++ close_paren ∷ [])
 a_parens f p k = (_, enclosed (p k).1)
 
-closes_base : {marks : List Mark} {pre : List Token} → Base marks pre → (n : ℕ) (next : State) → closed marks n ≡ Some next → (f : List Token) → Binds 1 f
-    → HoldsAt next (pre ++ (f ++ close_paren ∷ []))
-closes_base bottom n next e f p = absurd (none-some next e)
-closes_base (implied b) n next e f p = closes_base b n next e f p
-closes_base (in_parens {h = h} {marks} {pre = pre} w) n next e f p =
-    same_state _ next _ e (rw (append_assoc pre (open_paren ∷ []) (f ++ close_paren ∷ [])) (finish w (open_paren ∷ f ++ close_paren ∷ []) (a_parens f p)))
+-- a parenthesis ends
+closes_paren : {frames : List Frame} {pre : List Token} → Awaits frames pre → top_rank frames < 1 → (us : List Token) → Binds 1 us → (st next : State)
+    → st.frames ≡ frames → closed st ≡ Some next → HoldsAt next (pre ++ us ++ close_paren ∷ [])
+closes_paren nothing l us b st next f e = let z = rw f at e in absurd (none-some next z)
+closes_paren (waits g op p order fills w) l us b st next f e = absurd (omega (arith, p, l))
+closes_paren (inside {frames = frames} {pre = pre} g i w) l us b st next f e =
+    let x : pre ++ open_paren ∷ [] ++ us ++ close_paren ∷ [] ≡ pre ++ (open_paren ∷ us ++ close_paren ∷ []) = simp append_assoc in
+    same_state _ next _ (rw f at e) (rw x (finish w (open_paren ∷ us ++ close_paren ∷ []) (a_parens us b)), after_top 5 frames (omega arith))
 
-closes_paren : {h : Bool} {marks : List Mark} {whole : List Token} → After h marks whole → (n : ℕ) (next : State) → closed marks n ≡ Some next
-    → HoldsAt next (whole ++ close_paren ∷ [])
-closes_paren {h} {marks} {whole} r n next e =
-    let f : whole ++ close_paren ∷ [] ≡ r.pre ++ (r.a ++ (r.b ++ r.us) ++ close_paren ∷ []) = rw r.is (simp append_assoc) in
-    rw f (closes_base r.base n next e (r.a ++ (r.b ++ r.us)) (hole_filled r.a (r.b ++ r.us) r.hole (r.right.fills r.us r.last)))
+module _ (s : Scale) (st : State) (whole : List Token) where
+  begins_word : Awaits st.frames whole → (w : List ℕ) (k : Kind) → OfKind k w → (next : State) → begin_word st w k ≡ Some next
+      → HoldsAt next (whole ++ word w ∷ [])
+  begins_word x w (a_constant b) f next e =
+      same_state _ next _ e (rw f (finish x _ (λ k. (_, constant b))), after_top 5 st.frames (omega arith))
+  begins_word x w a_negation f next e = same_state _ next _ e (rw f (waits negation _ (omega arith) (right_most (top_rank st.frames)) fills_not x))
+  begins_word x w (a_timed of) f next e = split (is_beside of) refl
+    where
+      split : (b : Bool) → is_beside of ≡ b → HoldsAt next (whole ++ word w ∷ [])
+      split true i = let z = rw i at e in absurd (none-some next z)
+      split false i = same_state _ next _ (rw i at e) (λ us b g r. rw f (shifted_awaits whole _ us (prefix_waits of i us b g r x)))
+  begins_word x w a_name g next e = same_state _ next _ e
+      (λ us b. shifted whole _ us (finish x (word w ∷ us) (term_operand (word w ∷ us) (term_tail (plain_name w g b)))))
+  begins_word x w _ f next e = absurd (none-some next e)
+
+  begins : Awaits st.frames whole → (t : Token) (next : State) → begin_operand st t ≡ Some next → HoldsAt next (whole ++ t ∷ [])
+  begins x (word w) next e = begins_word x w (kind w) (kind_of w) next e
+  begins x (number m k) next e = same_state _ next _ e
+      (λ us b. shifted whole _ us (finish x (number m k ∷ us) (term_operand (number m k ∷ us) (star_tail m k b))))
+  begins x open_paren next e = same_state _ next _ e (inside _ refl x)
+  begins x plus next e = same_state _ next _ e (λ us b. shifted whole _ us (finish x (plus ∷ us) (plus_operand us b)))
+  begins x minus next e = same_state _ next _ e (λ us b. shifted whole _ us (finish x (minus ∷ us) (minus_operand us b)))
+  begins x _ next e = absurd (none-some next e)
+
+  closes_bound : (of : Timed) (x : Bool) (a j : ℕ) (b : Option (ℕ × ℕ)) → ((us : List Token) → Closing of us → AfterBound of st.frames (whole ++ us))
+      → (t : Token) (next : State) → end_bound s of x a j b st (closing of t) ≡ Some next → HoldsAt next (whole ++ t ∷ [])
+  closes_bound of x a j b h t next e = split (closing of t) refl
+    where
+      split : (o : Option Bool) → closing of t ≡ o → HoldsAt next (whole ++ t ∷ [])
+      split None f = let z = rw f at e in absurd (none-some next z)
+      split (Some y) f = same_state _ next _ (rw f at e) (h (t ∷ []) (the_end t y f) _ refl)
+
+  infinite : (of : Timed) (x : Bool) (a j : ℕ) → ((us : List Token) → High of us → AfterBound of st.frames (whole ++ us)) → (w : List ℕ) (k : Kind)
+      → OfKind k w → (next : State) → step_inf of x a j st k ≡ Some next → HoldsAt next (whole ++ word w ∷ [])
+  infinite of x a j h w an_inf f next e = back (looks_back of) refl
+    where
+      back : (b : Bool) → looks_back of ≡ b → HoldsAt next (whole ++ word w ∷ [])
+      back true g = same_state _ next _ (rw g at e) (λ us b i r. rw f (shifted_awaits whole _ us (h (word (codes "inf") ∷ us) (no_upper g b) i r)))
+      back false g = let z = rw g at e in absurd (none-some next z)
+  infinite of x a j h w _ f next e = absurd (none-some next e)
+
+  names : (less : Bool) (n : ℕ) (w : List ℕ) (k : Kind) → OfKind k w
+      → (is_among w reserved ≡ false → (us : List Token) → SignTail us → AfterAtom st.frames (whole ++ word w ∷ us)) → (next : State)
+      → step_name less n st w k ≡ Some next → HoldsAt next (whole ++ word w ∷ [])
+  names less n w a_name g x next e = same_state _ next _ e (λ us b. shifted whole _ us (x g us b))
+  names less n w _ g x next e = absurd (none-some next e)
+
+  connects : Stands 5 st.frames whole → (w : List ℕ) (k : Kind) → OfKind k w → (next : State) → after_word st k ≡ Some next
+      → HoldsAt next (whole ++ word w ∷ [])
+  connects x w (a_connective o) f next e =
+      let y = folds x.awaits (left_binds o) 5 (left_some o) (left_few o) (right_most (top_rank st.frames)) x.last x.ends in
+      same_state _ next _ e (rw (f, x.is) (connective_waits o _ (after_top (left_binds o) st.frames (left_some o)) y))
+    where
+      left_some : (o : Connective) → 0 < left_binds o
+      left_some by_and = omega arith
+      left_some _ = omega arith
+
+      left_few : (o : Connective) → left_binds o ≤ 5
+      left_few by_and = omega arith
+      left_few _ = omega arith
+  connects x w (a_timed of) f next e = split (is_beside of) refl
+    where
+      free : (b : Bool) → nat_le 4 (top_rank st.frames) ≡ b → is_beside of ≡ true → HoldsAt next (whole ++ word w ∷ [])
+      free true g i = let z = rw (i, g) at e in absurd (none-some next z)
+      free false g i =
+          let l : top_rank st.frames < 4 = grind (arith, nat_tests, g) in
+          same_state _ next _ (rw (i, g) at e) (λ us b h r.
+          let y : whole ++ word w ∷ [] ++ us ≡ x.pre ++ (x.last ++ word (timed_word of) ∷ us) = rw (f, x.is) (simp append_assoc) in
+          rw y (beside_waits of i x.last us x.ends b h r l x.awaits))
+
+      split : (b : Bool) → is_beside of ≡ b → HoldsAt next (whole ++ word w ∷ [])
+      split true i = free (nat_le 4 (top_rank st.frames)) refl i
+      split false i = let z = rw i at e in absurd (none-some next z)
+  connects x w _ f next e = absurd (none-some next e)
+
+  parens : Stands 5 st.frames whole → (next : State) → closed (folded 1 st) ≡ Some next → HoldsAt next (whole ++ close_paren ∷ [])
+  parens x next e =
+      let y = folds x.awaits 1 5 (omega arith) (omega arith) (right_most (top_rank st.frames)) x.last x.ends in
+      let f : whole ≡ y.pre ++ y.last = x.is ∙ y.is in
+      rw f (closes_paren y.awaits (after_top 1 st.frames (omega arith)) y.last y.ends (folded 1 st) next refl e)
+
+-- a bound begins
+bounds : (s : Scale) (of : Timed) (st : State) (whole : List Token) → ((us : List Token) → Bound of us → AfterBound of st.frames (whole ++ us))
+    → (t : Token) (next : State) → begin_bound of st t ≡ Some next → HoldsAt next (whole ++ t ∷ [])
+bounds s of st whole h t next e = split (opening of t) refl
+  where
+    left : (b : Bool) → looks_back of ≡ b → opening of t ≡ None → HoldsAt next (whole ++ t ∷ [])
+    left true g f =
+        let i : Frame = timed_frame of 0 None true true (length st.nodes - 1) in
+        begins s (opened i st) whole (rw append-nil at (h [] (left_out g) i refl)) t next (rw (f, g) at e)
+    left false g f = let z = rw (f, g) at e in absurd (none-some next z)
+
+    split : (o : Option Bool) → opening of t ≡ o → HoldsAt next (whole ++ t ∷ [])
+    split None f = left (looks_back of) refl f
+    split (Some x) f = same_state _ next _ (rw f at e) (λ us b g r. shifted_awaits whole t us (h (t ∷ us) (opens t x f b) g r))
 
 -- one token more
-module _ (h : Bool) (marks : List Mark) (n : ℕ) (whole : List Token) where
-  abbrev at : Place → State
-  at p = record { place = p; had = h; marks = marks; nodes = n }
+module _ (s : Scale) (frames : List Frame) (nodes : List Node) (terms : List Term) (made : ℕ) (whole : List Token) where
+  abbrev now : Place → State
+  now p = record { place = p; frames = frames; nodes = nodes; terms = terms; made = made }
 
-  abbrev Steps : Place → Type 0
-  Steps p = Holds p h marks whole → (t : Token) (next : State) → step_at p (at p) t ≡ Some next → HoldsAt next (whole ++ t ∷ [])
-
-  low_holds : (o : Owner) → Steps (at_low o)
-  low_holds o x (number a j) next e = same_state _ next _ e (λ us b. shifted_awaits h marks whole _ us (x (number a j ∷ us) (lower a j b)))
-  low_holds o x _ next e = absurd (none-some next e)
-
-  comma_holds : (o : Owner) (a j : ℕ) → Steps (at_comma o a j)
-  comma_holds o a j x comma next e = same_state _ next _ e (λ us b. shifted_awaits h marks whole _ us (x (comma ∷ us) (then_high b)))
-  comma_holds o a j x _ next e = absurd (none-some next e)
-
-  high_holds : (o : Owner) (a j : ℕ) → Steps (at_high o a j)
-  high_holds o a j x (number b k) next e = same_state _ next _ e (λ us c. shifted_awaits h marks whole _ us (x (number b k ∷ us) (upper b k c)))
-  high_holds o a j x (word w) next e = infinite h marks n (at_high o a j) whole o x w (kind w) (kind_of w) next e
-  high_holds o a j x _ next e = absurd (none-some next e)
-
-  term_holds : (m : ℕ) → Steps (at_term m)
-  term_holds m x (number a j) next e = same_state _ next _ e (λ us b. shifted h _ whole _ us (x (number a j ∷ us) (a_coefficient a j b)))
-  term_holds m x (word w) next e = names h marks n (at_term m) whole m w (kind w) (kind_of w) (λ g us b. x (word w ∷ us) (plain_name w g b)) next e
-  term_holds m x _ next e = absurd (none-some next e)
-
-  star_holds : (m : ℕ) → Steps (at_star m)
-  star_holds m x star next e = same_state _ next _ e (λ us b. shifted h _ whole _ us (x (star ∷ us) (a_star b)))
-  star_holds m x _ next e = absurd (none-some next e)
-
-  name_holds : (m : ℕ) → Steps (at_name m)
-  name_holds m x (word w) next e = names h marks n (at_name m) whole m w (kind w) (kind_of w) (λ g us b. x (word w ∷ us) (the_name w g b)) next e
-  name_holds m x _ next e = absurd (none-some next e)
-
-  sign_holds : (m : ℕ) → Steps (at_sign m)
-  sign_holds m x plus next e = same_state _ next _ e (λ us b. shifted h _ whole _ us (x (plus ∷ us) (a_plus b)))
-  sign_holds m x minus next e = same_state _ next _ e (λ us b. shifted h _ whole _ us (x (minus ∷ us) (a_minus b)))
-  sign_holds m x (relation r) next e = same_state _ next _ e (λ us b. shifted h _ whole _ us (x (relation r ∷ us) (a_relation r b)))
-  sign_holds m x _ next e = absurd (none-some next e)
-
-  constant_holds : Steps at_constant
-  constant_holds x (number a j) next e = same_state _ next _ e (x (number a j ∷ []) (a_number a j))
-  constant_holds x plus next e = same_state _ next _ e (λ us b. shifted h _ whole _ us (x (plus ∷ us) (after_plus b)))
-  constant_holds x minus next e = same_state _ next _ e (λ us b. shifted h _ whole _ us (x (minus ∷ us) (after_minus b)))
-  constant_holds x _ next e = absurd (none-some next e)
-
-  number_holds : Steps at_number
-  number_holds x (number a j) next e = same_state _ next _ e (x (number a j ∷ []) (the_number a j))
-  number_holds x _ next e = absurd (none-some next e)
-
-  end_holds : Steps at_end
-  end_holds x (word w) next e = connects h marks n at_end whole x w (kind w) (kind_of w) next e
-  end_holds x close_paren next e = closes_paren x n next e
-  end_holds x _ next e = absurd (none-some next e)
-
-  step_holds : (p : Place) → Steps p
-  step_holds at_operand x t next e = begins h marks n at_operand whole x t next e
-  step_holds (at_bound o) x t next e = bounds h marks n (at_bound o) whole o x t next e
-  step_holds (at_low o) x t next e = low_holds o x t next e
-  step_holds (at_comma o a j) x t next e = comma_holds o a j x t next e
-  step_holds (at_high o a j) x t next e = high_holds o a j x t next e
-  step_holds (at_closing o) x t next e = closes_bound h marks n (at_closing o) whole o x t next e
-  step_holds (at_term m) x t next e = term_holds m x t next e
-  step_holds (at_star m) x t next e = star_holds m x t next e
-  step_holds (at_name m) x t next e = name_holds m x t next e
-  step_holds (at_sign m) x t next e = sign_holds m x t next e
-  step_holds at_constant x t next e = constant_holds x t next e
-  step_holds at_number x t next e = number_holds x t next e
-  step_holds at_end x t next e = end_holds x t next e
+  step_holds : (p : Place) → Holds p frames whole → (t : Token) (next : State) → step_at s p (now p) t ≡ Some next → HoldsAt next (whole ++ t ∷ [])
+  step_holds at_operand h t next e = begins s (now at_operand) whole h t next e
+  step_holds (at_bound of) h t next e = bounds s of (now (at_bound of)) whole h t next e
+  step_holds (at_low of x) h (number a j) next e = same_state _ next _ e (λ us b f r. shifted_awaits whole _ us (h (number a j ∷ us) (lower a j b) f r))
+  step_holds (at_comma of x a j) h comma next e = same_state _ next _ e (λ us b f r. shifted_awaits whole _ us (h (comma ∷ us) (then_high b) f r))
+  step_holds (at_high of x a j) h (number b k) next e =
+      same_state _ next _ e (λ us c f r. shifted_awaits whole _ us (h (number b k ∷ us) (upper b k c) f r))
+  step_holds (at_high of x a j) h (word w) next e = infinite s (now (at_high of x a j)) whole of x a j h w (kind w) (kind_of w) next e
+  step_holds (at_closing of x a j b) h t next e = closes_bound s (now (at_closing of x a j b)) whole of x a j b h t next e
+  step_holds (at_term less) h (number a j) next e = same_state _ next _ e (λ us b. shifted whole _ us (h (number a j ∷ us) (a_coefficient a j b)))
+  step_holds (at_term less) h (word w) next e =
+      names s (now (at_term less)) whole less 1 w (kind w) (kind_of w) (λ g us b. h (word w ∷ us) (plain_name w g b)) next e
+  step_holds (at_star less n) h star next e = same_state _ next _ e (λ us b. shifted whole _ us (h (star ∷ us) (a_star b)))
+  step_holds (at_name less n) h (word w) next e =
+      names s (now (at_name less n)) whole less n w (kind w) (kind_of w) (λ g us b. h (word w ∷ us) (the_name w g b)) next e
+  step_holds at_sign h plus next e = same_state _ next _ e (λ us b. shifted whole _ us (h (plus ∷ us) (a_plus b)))
+  step_holds at_sign h minus next e = same_state _ next _ e (λ us b. shifted whole _ us (h (minus ∷ us) (a_minus b)))
+  step_holds at_sign h (relation r) next e = same_state _ next _ e (λ us b. shifted whole _ us (h (relation r ∷ us) (a_relation r b)))
+  step_holds (at_constant r) h (number a j) next e = same_state _ next _ e (h (number a j ∷ []) (a_number a j), after_top 5 frames (omega arith))
+  step_holds (at_constant r) h plus next e = same_state _ next _ e (λ us b. shifted whole _ us (h (plus ∷ us) (after_plus b)))
+  step_holds (at_constant r) h minus next e = same_state _ next _ e (λ us b. shifted whole _ us (h (minus ∷ us) (after_minus b)))
+  step_holds (at_number r less) h (number a j) next e = same_state _ next _ e (h (number a j ∷ []) (the_number a j), after_top 5 frames (omega arith))
+  step_holds at_end h (word w) next e = connects s (now at_end) whole h.0 w (kind w) (kind_of w) next e
+  step_holds at_end h close_paren next e = parens s (now at_end) whole h.0 next e
+  step_holds _ h _ next e = absurd (none-some next e)
 
 -- what the machine has read stands before its place
-run_holds : (before : List Token) (s : State) → run before ≡ Some s → HoldsAt s (reverse before)
-run_holds [] s e = same_state start s [] e (level bottom no_hole by_itself)
-run_holds (t ∷ before) s e = split (run before) refl (λ x f. run_holds before x f)
+run_holds : (s : Scale) (before : List Token) (st : State) → run s before ≡ Some st → HoldsAt st (reverse before)
+run_holds s [] st e = same_state start st [] e nothing
+run_holds s (t ∷ before) st e = split (run s before) refl (λ x f. run_holds s before x f)
   where
-    split : (o : Option State) → run before ≡ o → ((x : State) → run before ≡ Some x → HoldsAt x (reverse before)) → HoldsAt s (reverse (t ∷ before))
-    split None f g = let z = rw f at e in absurd (cc)
+    split : (o : Option State) → run s before ≡ o → ((x : State) → run s before ≡ Some x → HoldsAt x (reverse before)) → HoldsAt st (reverse (t ∷ before))
+    split None f g = let z = rw f at e in absurd (none-some st z)
     split (Some x) f g =
         let r : reverse (t ∷ before) ≡ reverse before ++ t ∷ [] = reverse-append (t ∷ []) before in
-        rw r (step_holds x.had x.marks x.nodes (reverse before) x.place (g x f) t s (rw f at e))
+        rw r (step_holds s x.frames x.nodes x.terms x.made (reverse before) x.place (g x f) t st (rw f at e))
 
 -- the tokens that finish a formula
 abbrev Finished : List Token → Type 0
 Finished whole = (after : List Token) × Binds 1 (whole ++ after)
 
-mutual
-  finish_base : {marks : List Mark} {pre : List Token} → Base marks pre → (f : List Token) → Binds 1 f → (after : List Token) × Binds 1 (pre ++ (f ++ after))
-  finish_base bottom f p = ([], rw append-nil p)
-  finish_base (implied b) f p = finish_base b f p
-  finish_base (in_parens {pre = pre} w) f p =
-      let r = finish_awaits w (open_paren ∷ f ++ close_paren ∷ []) (a_parens f p) in
-      let e : pre ++ open_paren ∷ [] ++ (f ++ close_paren ∷ r.0) ≡ pre ++ (open_paren ∷ f ++ close_paren ∷ [] ++ r.0) = simp append_assoc in
-      (close_paren ∷ r.0, rw e r.1)
-
-  finish_awaits : {h : Bool} {marks : List Mark} {pre : List Token} → Awaits h marks pre → (us : List Token) → AnOperand us
-      → (after : List Token) × Binds 1 (pre ++ (us ++ after))
-  finish_awaits (level {pre = pre} {a} {b} base hole right) us p =
-      let r = finish_base base (a ++ (b ++ us)) (hole_filled a (b ++ us) hole (right.fills us p)) in
-      let e : pre ++ (a ++ b) ++ (us ++ r.0) ≡ pre ++ (a ++ (b ++ us) ++ r.0) = simp append_assoc in
-      (r.0, rw e r.1)
-  finish_awaits (inside_operator {pre = pre} op w f) us p =
-      let r = finish_awaits w (op ++ us) (f us p) in
-      let e : pre ++ op ++ (us ++ r.0) ≡ pre ++ (op ++ us ++ r.0) = simp append_assoc in
-      (r.0, rw e r.1)
-
-finish_after : {h : Bool} {marks : List Mark} {whole : List Token} → After h marks whole → Finished whole
-finish_after {h} {marks} {whole} x =
-    let r = finish_base x.base (x.a ++ (x.b ++ x.us)) (hole_filled x.a (x.b ++ x.us) x.hole (x.right.fills x.us x.last)) in
-    let e : whole ++ r.0 ≡ x.pre ++ (x.a ++ (x.b ++ x.us) ++ r.0) = rw x.is (simp append_assoc) in
+finish_awaits : {frames : List Frame} {pre : List Token} → Awaits frames pre → (n : ℕ) → 1 ≤ n → right_of (top_rank frames) ≤ n → (us : List Token)
+    → Binds n us → (after : List Token) × Binds 1 (pre ++ (us ++ after))
+finish_awaits nothing n l h us b = ([], rw append-nil (loosened 1 n us l b))
+finish_awaits (inside {frames = frames} {pre = pre} f i w) n l h us b =
+    let p = by_itself (open_paren ∷ us ++ close_paren ∷ []) (a_parens us (loosened 1 n us l b)) in
+    let r = finish_awaits w 5 (omega arith) (right_most (top_rank frames)) (open_paren ∷ us ++ close_paren ∷ []) p in
+    let e : pre ++ open_paren ∷ [] ++ (us ++ close_paren ∷ r.0) ≡ pre ++ (open_paren ∷ us ++ close_paren ∷ [] ++ r.0) = simp append_assoc in
+    (close_paren ∷ r.0, rw e r.1)
+finish_awaits (waits {pre = pre} f op p order fills w) n l h us b =
+    let r = finish_awaits w f.rank p order (op ++ us) (fills us (loosened (right_of f.rank) n us h b)) in
+    let e : pre ++ op ++ (us ++ r.0) ≡ pre ++ (op ++ us ++ r.0) = simp append_assoc in
     (r.0, rw e r.1)
 
 -- by `true`, by a bound, or by the rest of an atom
 true_operand : AnOperand (word (codes "true") ∷ [])
 true_operand k = (_, constant true)
 
-from_awaits : {h : Bool} {marks : List Mark} (whole us : List Token) → Awaits h marks (whole ++ us) → Finished whole
-from_awaits whole us x =
-    let r = finish_awaits x (word (codes "true") ∷ []) true_operand in
+from_awaits : {frames : List Frame} (whole us : List Token) → Awaits frames (whole ++ us) → Finished whole
+from_awaits {frames} whole us x =
+    let r = finish_awaits x 5 (omega arith) (right_most (top_rank frames)) (word (codes "true") ∷ []) (by_itself _ true_operand) in
     let e : whole ++ (us ++ word (codes "true") ∷ r.0) ≡ whole ++ us ++ word (codes "true") ∷ r.0 = simp append_assoc in
     (us ++ word (codes "true") ∷ r.0, rw e r.1)
 
-from_after : {h : Bool} {marks : List Mark} (whole us : List Token) → After h marks (whole ++ us) → Finished whole
-from_after whole us x =
-    let r = finish_after x in
-    let e : whole ++ (us ++ r.0) ≡ whole ++ us ++ r.0 = simp append_assoc in
+from_stands : {frames : List Frame} (whole us : List Token) → Stands 5 frames (whole ++ us) → Finished whole
+from_stands {frames} whole us x =
+    let r = finish_awaits x.awaits 5 (omega arith) (right_most (top_rank frames)) x.last x.ends in
+    let e : whole ++ (us ++ r.0) ≡ x.pre ++ (x.last ++ r.0) = sym (append_assoc whole us r.0) ∙ (ap (λ z. z ++ r.0) x.is ∙ append_assoc x.pre x.last r.0) in
     (us ++ r.0, rw e r.1)
 
 some_signs : SignTail (relation AtLeast ∷ number 0 0 ∷ [])
 some_signs = a_relation AtLeast (a_number 0 0)
 
-finished : (h : Bool) (marks : List Mark) (whole : List Token) (p : Place) → Holds p h marks whole → Finished whole
-finished h marks whole at_operand x = from_awaits {h = h} {marks = marks} whole [] (rw append-nil x)
-finished h marks whole (at_bound o) x = from_awaits whole _ (x _ (opening open_bracket refl (lower 0 0 (then_high (upper 0 0 (the_end close_bracket refl))))))
-finished h marks whole (at_low o) x = from_awaits whole _ (x _ (lower 0 0 (then_high (upper 0 0 (the_end close_bracket refl)))))
-finished h marks whole (at_comma o a j) x = from_awaits whole _ (x _ (then_high (upper 0 0 (the_end close_bracket refl))))
-finished h marks whole (at_high o a j) x = from_awaits whole _ (x _ (upper 0 0 (the_end close_bracket refl)))
-finished h marks whole (at_closing o) x = from_awaits whole _ (x _ (the_end close_bracket refl))
-finished h marks whole (at_term n) x = from_after whole _ (x _ (plain_name (codes "x") refl some_signs))
-finished h marks whole (at_star n) x = from_after whole _ (x _ (a_star (the_name (codes "x") refl some_signs)))
-finished h marks whole (at_name n) x = from_after whole _ (x _ (the_name (codes "x") refl some_signs))
-finished h marks whole (at_sign n) x = from_after whole _ (x _ some_signs)
-finished h marks whole at_constant x = from_after whole _ (x _ (a_number 0 0))
-finished h marks whole at_number x = from_after whole _ (x _ (the_number 0 0))
-finished h marks whole at_end x = finish_after x
+some_end : (of : Timed) → Closing of (close_bracket ∷ [])
+some_end of = the_end close_bracket true refl
+
+some_frame : Timed → Frame
+some_frame of = record { rank = rank_of of; node = λ last. negation.node last }
+
+finished : (frames : List Frame) (whole : List Token) (p : Place) → Holds p frames whole → Finished whole
+unfolding some_frame
+finished frames whole at_operand x = from_awaits {frames = frames} whole [] (rw append-nil x)
+finished frames whole (at_bound of) x =
+    from_awaits whole _ (x _ (opens open_bracket true refl (lower 0 0 (then_high (upper 0 0 (some_end of))))) (some_frame of) refl)
+finished frames whole (at_low of i) x = from_awaits whole _ (x _ (lower 0 0 (then_high (upper 0 0 (some_end of)))) (some_frame of) refl)
+finished frames whole (at_comma of i a j) x = from_awaits whole _ (x _ (then_high (upper 0 0 (some_end of))) (some_frame of) refl)
+finished frames whole (at_high of i a j) x = from_awaits whole _ (x _ (upper 0 0 (some_end of)) (some_frame of) refl)
+finished frames whole (at_closing of i a j b) x = from_awaits whole _ (x _ (some_end of) (some_frame of) refl)
+finished frames whole (at_term less) x = from_stands whole _ (x _ (plain_name (codes "x") refl some_signs))
+finished frames whole (at_star less n) x = from_stands whole _ (x _ (a_star (the_name (codes "x") refl some_signs)))
+finished frames whole (at_name less n) x = from_stands whole _ (x _ (the_name (codes "x") refl some_signs))
+finished frames whole at_sign x = from_stands whole _ (x _ some_signs)
+finished frames whole (at_constant r) x = from_stands whole _ (x _ (a_number 0 0))
+finished frames whole (at_number r less) x = from_stands whole _ (x _ (the_number 0 0))
+finished frames whole at_end x = from_stands {frames = frames} whole [] (rw append-nil x.0)
 
 -- what the machine has read begins a formula
-pub run_begins : (before : List Token) (s : State) → run before ≡ Some s → MayBegin before
-run_begins before s e = let r = finished s.had s.marks (reverse before) s.place (run_holds before s e) in (r.0, (r.1 0).0, as_formula (r.1 0).1)
+pub run_begins : (s : Scale) (before : List Token) (st : State) → run s before ≡ Some st → MayBegin before
+run_begins s before st e =
+    let r = finished st.frames (reverse before) st.place (run_holds s before st e) in (r.0, (r.1 0).0, as_formula (r.1 0).1)
 
-base_end : {marks : List Mark} {pre : List Token} → Base marks pre → in_paren marks ≡ false → pre ≡ []
-base_end bottom e = refl
-base_end (implied b) e = base_end b e
-base_end (in_parens w) e = absurd (cc)
+-- what stands outside parentheses is whole
+whole_awaits : {frames : List Frame} {pre : List Token} → Awaits frames pre → has_paren (pending_of (ranks frames)) ≡ false → (n : ℕ) → 1 ≤ n
+    → right_of (top_rank frames) ≤ n → (us : List Token) → Binds n us → Binds 1 (pre ++ us)
+whole_awaits nothing h n l i us b = loosened 1 n us l b
+whole_awaits (inside f e w) h n l i us b = let x = rw e at h in absurd (cc)
+whole_awaits (waits {frames = frames} {pre = pre} f op p order fills w) h n l i us b =
+    let g : has_paren (pending_of (ranks frames)) ≡ false = sym (no_paren f.rank (pending_of (ranks frames)) p) ∙ h in
+    rw (append_assoc pre op us) (whole_awaits w g f.rank p order (op ++ us) (fills us (loosened (right_of f.rank) n us i b)))
 
-after_end : {h : Bool} {marks : List Mark} {whole : List Token} → After h marks whole → in_paren marks ≡ false → Binds 1 whole
-after_end {h} {marks} {whole} x e =
-    let f : whole ≡ x.a ++ (x.b ++ x.us) = x.is ∙ ap (λ z. z ++ (x.a ++ (x.b ++ x.us))) (base_end x.base e) in
-    rw f (hole_filled x.a (x.b ++ x.us) x.hole (x.right.fills x.us x.last))
-
-may_end : (h : Bool) (marks : List Mark) (whole : List Token) (p : Place) → Holds p h marks whole → ends_at p marks ≡ true → Binds 1 whole
-may_end h marks whole at_end x e = split (in_paren marks) refl
+may_end : (frames : List Frame) (whole : List Token) (p : Place) → Holds p frames whole → ends_at p (ranks frames) ≡ true → Binds 1 whole
+may_end frames whole at_end x e = split (has_paren (pending_of (ranks frames))) refl
   where
-    split : (b : Bool) → in_paren marks ≡ b → Binds 1 whole
+    split : (b : Bool) → has_paren (pending_of (ranks frames)) ≡ b → Binds 1 whole
     split true f = let z = rw f at e in absurd (cc)
-    split false f = after_end x f
-may_end h marks whole _ x e = absurd (cc)
+    split false f = rw x.0.is (whole_awaits x.0.awaits f 5 (omega arith) (right_most (top_rank frames)) x.0.last x.0.ends)
+may_end frames whole _ x e = absurd (cc)
 
 -- it is a formula where an operand has ended outside parentheses
-pub run_ends : (before : List Token) (s : State) → run before ≡ Some s → ends_at s.place s.marks ≡ true → MayEnd before
-run_ends before s e f = let d = may_end s.had s.marks (reverse before) s.place (run_holds before s e) f 0 in (d.0, as_formula d.1)
+pub run_ends : (s : Scale) (before : List Token) (st : State) → run s before ≡ Some st → ends_at st.place (ranks st.frames) ≡ true → MayEnd before
+run_ends s before st e f = let d = may_end st.frames (reverse before) st.place (run_holds s before st e) f 0 in (d.0, as_formula d.1)
 
 -- what the machine goes on with begins a formula too
-pub step_begins : (before : List Token) (s next : State) (t : Token) → run before ≡ Some s → step s t ≡ Some next → MayBegin (t ∷ before)
-step_begins before s next t e f = run_begins (t ∷ before) next (ap (λ o. step_from o t) e ∙ f)
+pub step_begins : (s : Scale) (before : List Token) (st next : State) (t : Token) → run s before ≡ Some st → step s st t ≡ Some next → MayBegin (t ∷ before)
+step_begins s before st next t e f = run_begins s (t ∷ before) next (ap (λ o. step_from s o t) e ∙ f)
+
+-- what waits is in order, once the operands that may end have ended
+abbrev pub Tidy : List Frame → Type 0
+Tidy frames = (pre : List Token) × Awaits frames pre
+
+-- so it is at each place
+abbrev pub TidyAt : Place → List Frame → Type 0
+TidyAt (at_bound of) frames = (f : Frame) → f.rank ≡ rank_of of → Tidy (frames_after 5 (f ∷ frames))
+TidyAt (at_low of x) frames = Unit {0}
+TidyAt (at_comma of x a j) frames = Unit {0}
+TidyAt (at_high of x a j) frames = Unit {0}
+TidyAt (at_closing of x a j b) frames = Unit {0}
+TidyAt at_end frames = Tidy frames × (top_rank frames < 5)
+TidyAt _ frames = Tidy (frames_after 5 frames)
+
+-- after an operand
+pub tidy_after : {frames : List Frame} → Tidy frames → Tidy (frames_after 5 frames)
+tidy_after (pre, w) = let x = finish w (word (codes "true") ∷ []) true_operand in (x.pre, x.awaits)
+
+tidy_at : (frames : List Frame) (whole : List Token) (p : Place) → Holds p frames whole → TidyAt p frames
+tidy_at frames whole at_operand x = tidy_after (whole, x)
+tidy_at frames whole (at_bound of) x =
+    λ f r. tidy_after (_, x _ (opens open_bracket true refl (lower 0 0 (then_high (upper 0 0 (some_end of))))) f r)
+tidy_at frames whole (at_low of i) x = tt
+tidy_at frames whole (at_comma of i a j) x = tt
+tidy_at frames whole (at_high of i a j) x = tt
+tidy_at frames whole (at_closing of i a j b) x = tt
+tidy_at frames whole (at_term less) x = let y = x _ (plain_name (codes "x") refl some_signs) in (y.pre, y.awaits)
+tidy_at frames whole (at_star less n) x = let y = x _ (a_star (the_name (codes "x") refl some_signs)) in (y.pre, y.awaits)
+tidy_at frames whole (at_name less n) x = let y = x _ (the_name (codes "x") refl some_signs) in (y.pre, y.awaits)
+tidy_at frames whole at_sign x = let y = x _ some_signs in (y.pre, y.awaits)
+tidy_at frames whole (at_constant r) x = let y = x _ (a_number 0 0) in (y.pre, y.awaits)
+tidy_at frames whole (at_number r less) x = let y = x _ (the_number 0 0) in (y.pre, y.awaits)
+tidy_at frames whole at_end x = ((x.0.pre, x.0.awaits), x.1)
+
+-- after what the machine has read
+pub run_tidy : (s : Scale) (before : List Token) (st : State) → run s before ≡ Some st → TidyAt st.place st.frames
+run_tidy s before st e = tidy_at st.frames (reverse before) st.place (run_holds s before st e)

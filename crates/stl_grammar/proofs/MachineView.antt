@@ -1,6 +1,9 @@
 -- What the refusals read off the tokens is what the machine's state says.
-use Rattle.std.proofs.Common.{◌≡◌, ℕ, suc, List, [], ◌∷◌, length, refl, ap, sym, ◌∙◌, Bool, true, false, if◌then◌else◌}
-use Rattle.std.specs.Prelude.{Option, Some, None, not, ◌==◌}
+use Rattle.std.proofs.Common.{◌≡◌, ℕ, zero, suc, ◌-◌, ◌<◌, ◌≤◌, List, [], ◌∷◌, ◌++◌, length, refl, ap, sym, ◌∙◌, Bool, true, false}
+use Rattle.std.proofs.Common.{if◌then◌else◌, arith, inl, inr, ◌⊎◌}
+use Rattle.std.specs.Prelude.{Option, Some, None, not, ◌==◌, nat_le}
+use Rattle.std.proofs.lemmas.Bool.Decides.{nat_tests}
+use Rattle.std.proofs.lemmas.List.{length_push}
 use Rattle.std.proofs.lemmas.Option.{same_Some, none-some}
 use Rattle.std.proofs.lemmas.Bool.{false≢true}
 use Rattle.std.proofs.Math.Bool.{and-true, and-false}
@@ -12,13 +15,17 @@ use Rattle.stl_grammar.specs.FormulaRefusals.{Pending, a_paren, an_operator, an_
 use Rattle.stl_grammar.specs.FormulaRefusals.{ends_constant, pending_after, pending, has_paren, after_whole, expected}
 use Rattle.stl_grammar.specs.FormulaRefusals.{begins_future_bound, makes_node, is_operand, nodes_made, terms_made}
 use Rattle.stl_grammar.specs.FormulaRefusals.{begins_fifth_term, passes_limit, is_bad_number, is_out_of_order}
-use Rattle.stl_grammar.specs.Machine.{Kind, kind, a_constant, a_negation, a_join, an_implication, an_until, a_since}
-use Rattle.stl_grammar.specs.Machine.{a_future, a_past, an_inf, a_name, Owner, of_until, of_since, of_future, of_past}
-use Rattle.stl_grammar.specs.Machine.{looks_back, opens, closes, Place, at_operand, at_bound, at_low, at_comma, at_high}
-use Rattle.stl_grammar.specs.Machine.{at_closing, at_term, at_star, at_name, at_sign, at_constant, at_number, at_end, Mark}
-use Rattle.stl_grammar.specs.Machine.{paren, operator, implication, State, start, without_operators, closed, begin_word}
-use Rattle.stl_grammar.specs.Machine.{begin_operand, step_inf, step_name, step_connective, step, step_at, run}
-use Rattle.stl_grammar.specs.Machine.{in_paren, expected_at, all_pending, terms_at, fifth_at, disorder_at, future_at}
+use Rattle.stl_grammar.specs.Operators.{by_and, by_or, by_implies, is_beside, looks_back}
+use Rattle.stl_grammar.specs.Machine.{Kind, kind, a_constant, a_negation, a_connective, a_timed, an_inf, a_name, Place, at_operand, at_bound, at_low}
+use Rattle.stl_grammar.specs.Machine.{at_comma, at_high, at_closing, at_term, at_star, at_name, at_sign, at_constant, at_number, at_end}
+use Rattle.stl_grammar.specs.Machine.{Frame, State, start, top_rank, frames_after, opening, closing, timed_frame, begin_word, begin_operand}
+use Rattle.stl_grammar.specs.Machine.{step_inf, step_name, after_word, closed, folded, step_at, run, ranks, with_rank, pending_of}
+use Rattle.stl_grammar.specs.Machine.{bound_of, pending_in, expected_at, terms_at, fifth_at, disorder_at, future_at}
+use Rattle.stl_grammar.specs.declared.operator.Timed.{Timed}
+use Rattle.stl_syntax.specs.declared.scale.Scale.{Scale}
+use Rattle.stl_syntax.specs.declared.atom.Term.{Term as AtomTerm}
+use Rattle.stl_syntax.specs.declared.node.Node.{Node}
+use Rattle.stl_grammar.proofs.MachineBegins.{Awaits, nothing as none_waits, inside, waits, right_of, Tidy, TidyAt, tidy_after, run_tidy}
 use Rattle.stl_grammar.proofs.WordKinds.{ends_operand, has_operand, is_implication, is_inf, looks_ahead, is_word}
 use Rattle.stl_grammar.proofs.WordKinds.{among_constants, among_prefixes, among_implies, among_inf, among_ahead}
 use Rattle.stl_grammar.proofs.WordKinds.{among_reserved}
@@ -47,31 +54,18 @@ makes_word what w k e = rw (among_reserved w, among_inf w, e) refl
 terms_word : (w : List ℕ) (k : Kind) (before : List Token) → kind w ≡ k → terms_made (word w ∷ before) ≡ (if is_word k then 0 else suc (terms_made before))
 terms_word w k before e = rw (among_reserved w, e) refl
 
--- a word after which an operand begins, and one that may have a bound
+-- a word after which an operand begins
 abbrev begins_kind : Kind → Bool
-begins_kind a_constant = false
+begins_kind (a_constant b) = false
 begins_kind an_inf = false
 begins_kind a_name = false
 begins_kind _ = true
 
-abbrev owner : Kind → Option Owner
-owner an_until = Some of_until
-owner a_since = Some of_since
-owner a_future = Some of_future
-owner a_past = Some of_past
-owner _ = None
-
-owner_begins : (k : Kind) (o : Owner) → owner k ≡ Some o → begins_kind k ≡ true
-owner_begins an_until o e = refl
-owner_begins a_since o e = refl
-owner_begins a_future o e = refl
-owner_begins a_past o e = refl
-owner_begins _ o e = absurd (none-some o e)
-
 begin_expected : (k : Kind) (whole : List Token) → begins_kind k ≡ true → word_expected k whole ≡ Operand
-begin_expected a_constant whole e = absurd (false≢true e)
+begin_expected (a_constant b) whole e = absurd (false≢true e)
 begin_expected an_inf whole e = absurd (false≢true e)
 begin_expected a_name whole e = absurd (false≢true e)
+begin_expected (a_connective by_and) whole e = refl
 begin_expected _ whole e = refl
 
 data IsBracket : Token → Type 0 where
@@ -99,23 +93,25 @@ data Terms : List Token → Type 0 where
 -- the last tokens before a place
 data Shape : Place → List Token → Type 0 where
   an_operand : {before : List Token} → Begins before → Shape at_operand before
-  a_bound : {w : List ℕ} {before : List Token} {o : Owner} (k : Kind) → kind w ≡ k → owner k ≡ Some o → Shape (at_bound o) (word w ∷ before)
-  a_low : {t : Token} {w : List ℕ} {before : List Token} {o : Owner} (k : Kind) → IsBracket t → kind w ≡ k → owner k ≡ Some o
-      → Shape (at_low o) (t ∷ word w ∷ before)
-  a_comma : {t : Token} {w : List ℕ} {before : List Token} {o : Owner} {a j : ℕ} (k : Kind) → IsBracket t → kind w ≡ k → owner k ≡ Some o
-      → Shape (at_comma o a j) (number a j ∷ t ∷ word w ∷ before)
-  a_high : {t : Token} {w : List ℕ} {before : List Token} {o : Owner} {a j : ℕ} (k : Kind) → IsBracket t → kind w ≡ k → owner k ≡ Some o
-      → Shape (at_high o a j) (comma ∷ number a j ∷ t ∷ word w ∷ before)
-  closing_number : {before : List Token} {o : Owner} {b k : ℕ} → Shape (at_closing o) (number b k ∷ comma ∷ before)
-  closing_inf : {w : List ℕ} {before : List Token} {o : Owner} → kind w ≡ an_inf → Shape (at_closing o) (word w ∷ comma ∷ before)
-  first_term : {t : Token} {before : List Token} {n : ℕ} → IsSign t → Begins before → Shape (at_term n) (t ∷ before)
-  next_term : {t : Token} {w : List ℕ} {before : List Token} {n : ℕ} → IsSign t → Shape (at_term n) (t ∷ word w ∷ before)
-  a_star : {before : List Token} {m k n : ℕ} → Terms before → Shape (at_star n) (number m k ∷ before)
-  the_name : {before : List Token} {n : ℕ} → Shape (at_name n) (star ∷ before)
-  a_sign : {w : List ℕ} {before : List Token} {n : ℕ} → kind w ≡ a_name → Shape (at_sign n) (word w ∷ before)
-  the_constant : {r : Rel} {before : List Token} → Shape at_constant (relation r ∷ before)
-  the_number : {t : Token} {r : Rel} {before : List Token} → IsSign t → Shape at_number (t ∷ relation r ∷ before)
-  end_word : {w : List ℕ} {before : List Token} → kind w ≡ a_constant → Shape at_end (word w ∷ before)
+  a_bound : {w : List ℕ} {before : List Token} {of : Timed} → kind w ≡ a_timed of → Shape (at_bound of) (word w ∷ before)
+  a_low : {t : Token} {w : List ℕ} {before : List Token} {of : Timed} {x : Bool} → IsBracket t → kind w ≡ a_timed of
+      → Shape (at_low of x) (t ∷ word w ∷ before)
+  a_comma : {t : Token} {w : List ℕ} {before : List Token} {of : Timed} {x : Bool} {a j : ℕ} → IsBracket t → kind w ≡ a_timed of
+      → Shape (at_comma of x a j) (number a j ∷ t ∷ word w ∷ before)
+  a_high : {t : Token} {w : List ℕ} {before : List Token} {of : Timed} {x : Bool} {a j : ℕ} → IsBracket t → kind w ≡ a_timed of
+      → Shape (at_high of x a j) (comma ∷ number a j ∷ t ∷ word w ∷ before)
+  closing_number : {before : List Token} {of : Timed} {x : Bool} {a j b k : ℕ} {c : Option (ℕ × ℕ)}
+      → Shape (at_closing of x a j c) (number b k ∷ comma ∷ before)
+  closing_inf : {w : List ℕ} {before : List Token} {of : Timed} {x : Bool} {a j : ℕ} {c : Option (ℕ × ℕ)} → kind w ≡ an_inf
+      → Shape (at_closing of x a j c) (word w ∷ comma ∷ before)
+  first_term : {t : Token} {before : List Token} {less : Bool} → IsSign t → Begins before → Shape (at_term less) (t ∷ before)
+  next_term : {t : Token} {w : List ℕ} {before : List Token} {less : Bool} → IsSign t → Shape (at_term less) (t ∷ word w ∷ before)
+  a_star : {before : List Token} {m k n : ℕ} {less : Bool} → Terms before → Shape (at_star less n) (number m k ∷ before)
+  the_name : {before : List Token} {n : ℕ} {less : Bool} → Shape (at_name less n) (star ∷ before)
+  a_sign : {w : List ℕ} {before : List Token} → kind w ≡ a_name → Shape at_sign (word w ∷ before)
+  the_constant : {r : Rel} {before : List Token} → Shape (at_constant r) (relation r ∷ before)
+  the_number : {t : Token} {r : Rel} {before : List Token} {less : Bool} → IsSign t → Shape (at_number r less) (t ∷ relation r ∷ before)
+  end_word : {w : List ℕ} {before : List Token} {b : Bool} → kind w ≡ a_constant b → Shape at_end (word w ∷ before)
   end_paren : {before : List Token} → Shape at_end (close_paren ∷ before)
   end_number : {r : Rel} {before : List Token} {n k : ℕ} → Shape at_end (number n k ∷ relation r ∷ before)
   end_signed : {t : Token} {r : Rel} {before : List Token} {n k : ℕ} → IsSign t → Shape at_end (number n k ∷ t ∷ relation r ∷ before)
@@ -159,56 +155,59 @@ sign_expected t before a_minus (after_number an_open) = refl
 sign_expected t before a_minus (after_inf an_open e) = refl
 sign_expected t before _ _ = refl
 
-paren_pending : (marks : List Mark) → has_paren (all_pending marks) ≡ in_paren marks
-paren_pending [] = refl
-paren_pending (paren h ∷ marks) = refl
-paren_pending (operator ∷ marks) = paren_pending marks
-paren_pending (implication ∷ marks) = paren_pending marks
-
-whole_expected : (before : List Token) (marks : List Mark) → pending before ≡ all_pending marks → after_whole before ≡ expected_at at_end marks
-whole_expected before marks e = ap (λ z. if has_paren z then Paren else End) e ∙ ap (λ b. if b then Paren else End) (paren_pending marks)
-
-owner_low : (k : Kind) (o : Owner) → owner k ≡ Some o → is_inf k ≡ false
-owner_low an_inf o e = absurd (none-some o e)
-owner_low _ o e = refl
+whole_expected : (before : List Token) (rs : List ℕ) → pending before ≡ pending_of rs → after_whole before ≡ expected_at at_end rs
+whole_expected before rs e = ap (λ z. if has_paren z then Paren else End) e
 
 -- what is expected, by the place
-shape_expected : (p : Place) (before : List Token) (marks : List Mark) → Shape p before → pending before ≡ all_pending marks
-    → expected before ≡ expected_at p marks
-shape_expected p before marks (an_operand b) e = begins_expected before b
-shape_expected p before marks (a_bound {w = w} {before = more} {o = o} k f g) e = begins_expected (word w ∷ more) (a_word k f (owner_begins k o g))
-shape_expected p before marks (a_low {w = w} {o = o} k an_open f g) e = rw (among_inf w, f, owner_low k o g) refl
-shape_expected p before marks (a_low {w = w} {o = o} k a_close f g) e = rw (among_inf w, f, owner_low k o g) refl
-shape_expected p before marks (a_comma {w = w} {o = o} k an_open f g) e = rw (among_inf w, f, owner_low k o g) refl
-shape_expected p before marks (a_comma {w = w} {o = o} k a_close f g) e = rw (among_inf w, f, owner_low k o g) refl
-shape_expected p before marks (closing_inf {w = w} f) e = rw (among_inf w, f) refl
-shape_expected p before marks (first_term {t = t} {before = more} s b) e = sign_expected t more s b
-shape_expected p before marks (next_term a_plus) e = refl
-shape_expected p before marks (a_star {before = more} {m = m} {k} t) e = terms_expected more m k t
-shape_expected p before marks (a_sign {w = w} {before = more} f) e = expected_word w a_name more f
-shape_expected p before marks (the_number a_plus) e = refl
-shape_expected p before marks (end_word {w = w} {before = more} f) e = expected_word w a_constant more f ∙ whole_expected (word w ∷ more) marks e
-shape_expected p before marks end_paren e = whole_expected before marks e
-shape_expected p before marks end_number e = whole_expected before marks e
-shape_expected p before marks (end_signed a_plus) e = whole_expected before marks e
-shape_expected p before marks (end_signed a_minus) e = whole_expected before marks e
-shape_expected p before marks _ e = refl
+shape_expected : (p : Place) (before : List Token) (rs : List ℕ) → Shape p before → pending before ≡ pending_in (bound_of p) rs
+    → expected before ≡ expected_at p rs
+shape_expected p before rs (an_operand b) e = begins_expected before b
+shape_expected p before rs (a_bound {w = w} {before = more} {of = of} f) e = begins_expected (word w ∷ more) (a_word (a_timed of) f refl)
+shape_expected p before rs (a_low {w = w} an_open f) e = rw (among_inf w, f) refl
+shape_expected p before rs (a_low {w = w} a_close f) e = rw (among_inf w, f) refl
+shape_expected p before rs (a_comma {w = w} an_open f) e = rw (among_inf w, f) refl
+shape_expected p before rs (a_comma {w = w} a_close f) e = rw (among_inf w, f) refl
+shape_expected p before rs (closing_inf {w = w} f) e = rw (among_inf w, f) refl
+shape_expected p before rs (first_term {t = t} {before = more} s b) e = sign_expected t more s b
+shape_expected p before rs (next_term a_plus) e = refl
+shape_expected p before rs (a_star {before = more} {m = m} {k} t) e = terms_expected more m k t
+shape_expected p before rs (a_sign {w = w} {before = more} f) e = expected_word w a_name more f
+shape_expected p before rs (the_number a_plus) e = refl
+shape_expected p before rs (end_word {w = w} {before = more} {b = b} f) e =
+    expected_word w (a_constant b) more f ∙ whole_expected (word w ∷ more) rs e
+shape_expected p before rs end_paren e = whole_expected before rs e
+shape_expected p before rs end_number e = whole_expected before rs e
+shape_expected p before rs (end_signed a_plus) e = whole_expected before rs e
+shape_expected p before rs (end_signed a_minus) e = whole_expected before rs e
+shape_expected p before rs _ e = refl
+
+-- outside an atom there are no terms
+abbrev Outside : Place → List AtomTerm → Type 0
+Outside (at_term less) terms = Unit {0}
+Outside (at_star less n) terms = Unit {0}
+Outside (at_name less n) terms = Unit {0}
+Outside at_sign terms = Unit {0}
+Outside (at_constant r) terms = Unit {0}
+Outside (at_number r less) terms = Unit {0}
+Outside _ terms = terms ≡ []
 
 -- the tokens and the state say the same
 record View (s : State) (before : List Token) : Type 0 where
   shape : Shape s.place before
-  pend : pending before ≡ all_pending s.marks
-  count : nodes_made before ≡ s.nodes
-  terms : terms_made before ≡ terms_at s.place
+  pend : pending before ≡ pending_in (bound_of s.place) (ranks s.frames)
+  count : nodes_made before ≡ s.made
+  terms : terms_made before ≡ terms_at s.place (length s.terms)
+  outside : Outside s.place s.terms
 
 same_view : (a b : State) (before : List Token) → Some a ≡ Some b → View a before → View b before
 same_view a b before e v = let f : a ≡ b = same_Some a b e in rw (← f) v
 
 -- a view of the next state by its parts
-viewed : {p : Place} {h : Bool} {marks : List Mark} {n : ℕ} {next : State} {before : List Token}
-    → Some (record { place = p; had = h; marks = marks; nodes = n }) ≡ Some next → Shape p before → pending before ≡ all_pending marks
-    → nodes_made before ≡ n → terms_made before ≡ terms_at p → View next before
-viewed {before = before} e s q c t = same_view _ _ before e (record { shape = s; pend = q; count = c; terms = t })
+viewed : {p : Place} {frames : List Frame} {nodes : List Node} {terms : List AtomTerm} {n : ℕ} {next : State} {before : List Token}
+    → Some (record { place = p; frames = frames; nodes = nodes; terms = terms; made = n }) ≡ Some next → Shape p before
+    → pending before ≡ pending_in (bound_of p) (ranks frames) → nodes_made before ≡ n → terms_made before ≡ terms_at p (length terms)
+    → Outside p terms → View next before
+viewed {before = before} e s q c t o = same_view _ _ before e (record { shape = s; pend = q; count = c; terms = t; outside = o })
 
 count_token : (t : Token) (what : What) (before : List Token) (n : ℕ) → expected before ≡ what → nodes_made before ≡ n
     → nodes_made (t ∷ before) ≡ (if makes_node what t then suc n else n)
@@ -220,75 +219,174 @@ count_word : (w : List ℕ) (k : Kind) (what : What) (before : List Token) (n : 
 count_word w k what before n e f g = count_token (word w) what before n f g ∙ ap (λ b. if b then suc n else n) (makes_word what w k e)
 
 -- and after a word, by its kind
-word_viewed : {w : List ℕ} {k : Kind} {what : What} {p : Place} {h : Bool} {marks : List Mark} {n m : ℕ} {next : State} {before : List Token} → kind w ≡ k
-    → expected before ≡ what → nodes_made before ≡ n → Some (record { place = p; had = h; marks = marks; nodes = m }) ≡ Some next
-    → Shape p (word w ∷ before) → word_pending k (pending before) ≡ all_pending marks → (if word_makes what k then suc n else n) ≡ m
-    → (if is_word k then 0 else suc (terms_made before)) ≡ terms_at p → View next (word w ∷ before)
-word_viewed {w} {k} {what} {n = n} {before = before} f x c e s q m t =
-    viewed e s (pending_word w k before f ∙ q) (count_word w k what before n f x c ∙ m) (terms_word w k before f ∙ t)
+word_viewed : {w : List ℕ} {k : Kind} {what : What} {p : Place} {frames : List Frame} {nodes : List Node} {terms : List AtomTerm} {n m : ℕ} {next : State}
+    {before : List Token} → kind w ≡ k → expected before ≡ what → nodes_made before ≡ n
+    → Some (record { place = p; frames = frames; nodes = nodes; terms = terms; made = m }) ≡ Some next
+    → Shape p (word w ∷ before) → word_pending k (pending before) ≡ pending_in (bound_of p) (ranks frames)
+    → (if word_makes what k then suc n else n) ≡ m
+    → (if is_word k then 0 else suc (terms_made before)) ≡ terms_at p (length terms) → Outside p terms → View next (word w ∷ before)
+word_viewed {w} {k} {what} {n = n} {before = before} f x c e s q m t o =
+    viewed e s (pending_word w k before f ∙ q) (count_word w k what before n f x c ∙ m) (terms_word w k before f ∙ t) o
 
-operand_pending : (marks : List Mark) → after_operand (all_pending marks) ≡ all_pending (without_operators marks)
-operand_pending (operator ∷ marks) = operand_pending marks
-operand_pending _ = refl
+-- one rank of those below is 1, or more
+one_or_more : (n : ℕ) → 0 < n → (n ≡ 1) ⊎ (1 < n)
+one_or_more zero l = absurd (omega (arith, l))
+one_or_more (suc zero) l = inl refl
+one_or_more (suc (suc n)) l = inr (omega arith)
 
-closed_pending : (marks : List Mark) (n : ℕ) (next : State) → closed marks n ≡ Some next → after_paren (all_pending marks) ≡ all_pending next.marks
-closed_pending [] n next e = absurd (none-some next e)
-closed_pending (paren h ∷ marks) n next e =
-    let f : record { place = at_end; had = h; marks = without_operators marks; nodes = n } ≡ next = same_Some _ next e in
-    operand_pending marks ∙ ap (λ s. all_pending s.marks) f
-closed_pending (operator ∷ marks) n next e = closed_pending marks n next e
-closed_pending (implication ∷ marks) n next e = closed_pending marks n next e
+-- what binds with 2 to 4 is not pending
+low_rank : (n : ℕ) (pending : List Pending) → 1 < n → n < 5 → with_rank n pending ≡ pending
+low_rank zero pending l m = absurd (omega (arith, l))
+low_rank (suc zero) pending l m = absurd (omega (arith, l))
+low_rank (suc (suc n)) pending l m = let e : nat_le 5 (suc (suc n)) ≡ false = grind (arith, nat_tests, m) in rw e refl
 
-closed_place : (marks : List Mark) (n : ℕ) (next : State) → closed marks n ≡ Some next → (next.place ≡ at_end) × (next.nodes ≡ n)
-closed_place [] n next e = absurd (none-some next e)
-closed_place (paren h ∷ marks) n next e =
-    let f : record { place = at_end; had = h; marks = without_operators marks; nodes = n } ≡ next = same_Some _ next e in (rw (← f) refl, rw (← f) refl)
-closed_place (operator ∷ marks) n next e = closed_place marks n next e
-closed_place (implication ∷ marks) n next e = closed_place marks n next e
+-- what binds with 5 is
+high_rank : (n : ℕ) (pending : List Pending) → 5 ≤ n → with_rank n pending ≡ an_operator ∷ pending
+high_rank zero pending l = absurd (omega (arith, l))
+high_rank (suc zero) pending l = absurd (omega (arith, l))
+high_rank (suc (suc n)) pending l = let e : nat_le 5 (suc (suc n)) ≡ true = grind (arith, nat_tests, l) in rw e refl
+
+below_five : (n : ℕ) → right_of n ≤ 4 → n < 5
+below_five zero l = omega arith
+below_five (suc zero) l = omega arith
+below_five (suc (suc n)) l = omega (arith, l)
+
+-- no operator before its operand is the last where none waits
+no_operators : {frames : List Frame} {pre : List Token} → Awaits frames pre → top_rank frames < 5
+    → after_operand (pending_of (ranks frames)) ≡ pending_of (ranks frames)
+no_operators none_waits l = refl
+no_operators (inside f e w) l = rw e refl
+no_operators (waits {frames = frames} f op p order fills w) l =
+    by_rank (one_or_more f.rank p) (λ m. no_operators w (below_five (top_rank frames) (omega (arith, order, l))))
+  where
+    by_rank : (f.rank ≡ 1) ⊎ (1 < f.rank) → (1 < f.rank → after_operand (pending_of (ranks frames)) ≡ pending_of (ranks frames))
+        → after_operand (with_rank f.rank (pending_of (ranks frames))) ≡ with_rank f.rank (pending_of (ranks frames))
+    by_rank (inl e) h = rw e refl
+    by_rank (inr m) h = let g = low_rank f.rank (pending_of (ranks frames)) m l in rw g (h m)
+
+-- after an operand
+operand_pending : (frames : List Frame) → Tidy (frames_after 5 frames)
+    → after_operand (pending_of (ranks frames)) ≡ pending_of (ranks (frames_after 5 frames))
+operand_pending [] h = refl
+operand_pending (f ∷ frames) h = split (nat_le 5 f.rank) refl (operand_pending frames)
+  where
+    split : (b : Bool) → nat_le 5 f.rank ≡ b
+        → (Tidy (frames_after 5 frames) → after_operand (pending_of (ranks frames)) ≡ pending_of (ranks (frames_after 5 frames)))
+        → after_operand (pending_of (ranks (f ∷ frames))) ≡ pending_of (ranks (frames_after 5 (f ∷ frames)))
+    split true e x =
+        let l : 5 ≤ f.rank = grind (arith, nat_tests, e) in
+        let g = high_rank f.rank (pending_of (ranks frames)) l in rw (e, g) (x (rw e at h))
+    split false e x = let l : f.rank < 5 = grind (arith, nat_tests, e) in let t : Tidy (f ∷ frames) = rw e at h in rw e (no_operators t.1 l)
+
+-- before a connective
+joined_pending : (r : ℕ) → 1 < r → {frames : List Frame} {pre : List Token} → Awaits frames pre → top_rank frames < 5
+    → pending_of (ranks (frames_after r frames)) ≡ pending_of (ranks frames)
+joined_pending r s none_waits l = refl
+joined_pending r s (inside f e w) l = let g : nat_le r f.rank ≡ false = grind (arith, nat_tests, e, s) in rw g refl
+joined_pending r s (waits {frames = frames} f op p order fills w) l =
+    split (nat_le r f.rank) refl (joined_pending r s w (below_five (top_rank frames) (omega (arith, order, l))))
+  where
+    split : (b : Bool) → nat_le r f.rank ≡ b → pending_of (ranks (frames_after r frames)) ≡ pending_of (ranks frames)
+        → pending_of (ranks (frames_after r (f ∷ frames))) ≡ pending_of (ranks (f ∷ frames))
+    split true e h =
+        let m : 1 < f.rank = grind (arith, nat_tests, e, s) in
+        let g = low_rank f.rank (pending_of (ranks frames)) m l in rw (e, g) h
+    split false e h = rw e refl
+
+-- what waits below is in order too
+tidy_below : (f : Frame) (frames : List Frame) → Tidy (f ∷ frames) → Tidy frames
+tidy_below f frames (pre, inside g e w) = (_, w)
+tidy_below f frames (pre, waits g op p order fills w) = (_, w)
+
+-- after a parenthesis
+paren_rank : (n : ℕ) (pending : List Pending) → 0 < n → after_paren (with_rank n pending) ≡ after_paren pending
+paren_rank zero pending l = absurd (omega (arith, l))
+paren_rank (suc zero) pending l = refl
+paren_rank (suc (suc n)) pending l = split (nat_le 5 (suc (suc n))) refl
+  where
+    split : (b : Bool) → nat_le 5 (suc (suc n)) ≡ b → after_paren (with_rank (suc (suc n)) pending) ≡ after_paren pending
+    split true e = rw e refl
+    split false e = rw e refl
+
+record Closed (frames : List Frame) (ts : List AtomTerm) (n : ℕ) (next : State) : Type 0 where
+  place : next.place ≡ at_end
+  made : next.made ≡ n
+  terms : next.terms ≡ ts
+  pend : after_paren (pending_of (ranks frames)) ≡ pending_of (ranks next.frames)
+
+closes : (place : Place) (frames : List Frame) (nodes : List Node) (terms : List AtomTerm) (made : ℕ) (next : State) → Tidy frames
+    → closed (record { place = place; frames = frames_after 1 frames; nodes = nodes; terms = terms; made = made }) ≡ Some next → Closed frames terms made next
+closes place [] nodes terms made next t e = absurd (none-some next e)
+closes place (f ∷ frames) nodes terms made next t e = split (nat_le 1 f.rank) refl (closes place frames nodes terms made next (tidy_below f frames t))
+  where
+    split : (b : Bool) → nat_le 1 f.rank ≡ b
+        → (closed (record { place = place; frames = frames_after 1 frames; nodes = nodes; terms = terms; made = made }) ≡ Some next
+        → Closed frames terms made next) → Closed (f ∷ frames) terms made next
+    split true g h =
+        let l : 0 < f.rank = grind (arith, nat_tests, g) in
+        let x = h (rw g at e) in
+        record { place = x.place; made = x.made; terms = x.terms; pend = paren_rank f.rank (pending_of (ranks frames)) l ∙ x.pend }
+    split false g h =
+        let z : f.rank ≡ 0 = grind (arith, nat_tests, g) in
+        let x : folded 5 (record { place = at_end; frames = frames; nodes = nodes; terms = terms; made = made }) ≡ next = same_Some _ next (rw g at e) in
+        let p : after_paren (with_rank f.rank (pending_of (ranks frames))) ≡ pending_of (ranks (frames_after 5 frames)) =
+        rw z (operand_pending frames (tidy_after (tidy_below f frames t))) in
+        rw (← x) (record { place = refl; made = refl; terms = refl; pend = p })
+
+-- an operator waits from the end of its bound on, and is pending from its word on if it stands before its operand
+timed_pending : (b : Bool) (pending : List Pending) → (if b then pending else an_operator ∷ pending) ≡ with_rank (if b then 4 else 5) pending
+timed_pending true pending = refl
+timed_pending false pending = refl
+
+grown : (terms : List AtomTerm) (t : AtomTerm) → length (terms ++ t ∷ []) ≡ suc (length terms)
+grown terms t = omega (arith, length_push terms t)
 
 -- one token more, at each place
-module _ (h : Bool) (marks : List Mark) (n : ℕ) (before : List Token) where
+module _ (s : Scale) (frames : List Frame) (nodes : List Node) (terms : List AtomTerm) (n : ℕ) (before : List Token) where
   abbrev now : Place → State
-  now p = record { place = p; had = h; marks = marks; nodes = n }
+  now p = record { place = p; frames = frames; nodes = nodes; terms = terms; made = n }
 
   -- a word in the place of an operand
-  word_view : (p : Place) → Begins before → pending before ≡ all_pending marks → nodes_made before ≡ n → terms_made before ≡ 0
-      → (w : List ℕ) (k : Kind) → kind w ≡ k → (next : State) → begin_word (now p) k ≡ Some next → View next (word w ∷ before)
-  word_view p b q c t w a_constant f next e =
-      word_viewed f (begins_expected before b) c e (end_word f) (ap after_operand q ∙ operand_pending marks) refl refl
-  word_view p b q c t w a_negation f next e =
-      word_viewed f (begins_expected before b) c e (an_operand (a_word a_negation f refl)) (ap (λ z. an_operator ∷ z) q) refl refl
-  word_view p b q c t w a_future f next e = word_viewed f (begins_expected before b) c e (a_bound a_future f refl) (ap (λ z. an_operator ∷ z) q) refl refl
-  word_view p b q c t w a_past f next e = word_viewed f (begins_expected before b) c e (a_bound a_past f refl) (ap (λ z. an_operator ∷ z) q) refl refl
-  word_view p b q c t w a_name f next e = word_viewed f (begins_expected before b) c e (a_sign f) q refl (ap (λ z. suc z) t)
-  word_view p b q c t w _ f next e = absurd (none-some next e)
+  word_view : (p : Place) → Begins before → pending before ≡ pending_of (ranks frames) → nodes_made before ≡ n → terms_made before ≡ length terms
+      → terms ≡ [] → Tidy (frames_after 5 frames) → (w : List ℕ) (k : Kind) → kind w ≡ k → (next : State) → begin_word (now p) w k ≡ Some next
+      → View next (word w ∷ before)
+  word_view p b q c z o t w (a_constant i) f next e =
+      word_viewed f (begins_expected before b) c e (end_word f) (ap after_operand q ∙ operand_pending frames t) refl refl refl
+  word_view p b q c z o t w a_negation f next e =
+      word_viewed f (begins_expected before b) c e (an_operand (a_word a_negation f refl)) (ap (λ z. an_operator ∷ z) q) refl refl o
+  word_view p b q c z o t w (a_timed of) f next e = split (is_beside of) refl
+    where
+      split : (i : Bool) → is_beside of ≡ i → View next (word w ∷ before)
+      split true i = let x = rw i at e in absurd (none-some next x)
+      split false i = word_viewed f (begins_expected before b) c (rw i at e) (a_bound f) (rw i (ap (λ z. an_operator ∷ z) q)) refl refl o
+  word_view p b q c z o t w a_name f next e =
+      word_viewed f (begins_expected before b) c e (a_sign f) q refl (ap (λ z. suc z) z ∙ sym (grown terms _)) tt
+  word_view p b q c z o t w _ f next e = absurd (none-some next e)
 
-  begin_view : (p : Place) → Begins before → pending before ≡ all_pending marks → nodes_made before ≡ n → terms_made before ≡ 0
-      → (t : Token) (next : State) → begin_operand (now p) t ≡ Some next → View next (t ∷ before)
-  begin_view p b q c z (word w) next e = word_view p b q c z w (kind w) refl next e
-  begin_view p b q c z (number m k) next e = viewed e (a_star (at_first b))
+  begin_view : (p : Place) → Begins before → pending before ≡ pending_of (ranks frames) → nodes_made before ≡ n → terms_made before ≡ length terms
+      → terms ≡ [] → Tidy (frames_after 5 frames) → (t : Token) (next : State) → begin_operand (now p) t ≡ Some next → View next (t ∷ before)
+  begin_view p b q c z o y (word w) next e = word_view p b q c z o y w (kind w) refl next e
+  begin_view p b q c z o y (number m k) next e = viewed e (a_star (at_first b))
       (ap (λ x. pending_after x (number m k) (pending before)) (terms_constant before m k (at_first b)) ∙ q)
-      (count_token (number m k) Operand before n (begins_expected before b) c) z
-  begin_view p b q c z open_paren next e = viewed e (an_operand a_parenthesis) (ap (λ x. a_paren ∷ x) q)
-      (count_token open_paren Operand before n (begins_expected before b) c) refl
-  begin_view p b q c z plus next e = viewed e (first_term a_plus b) q
-      (count_token plus Operand before n (begins_expected before b) c) z
-  begin_view p b q c z minus next e = viewed e (first_term a_minus b) q
-      (count_token minus Operand before n (begins_expected before b) c) z
-  begin_view p b q c z _ next e = absurd (none-some next e)
+      (count_token (number m k) Operand before n (begins_expected before b) c) z tt
+  begin_view p b q c z o y open_paren next e = viewed e (an_operand a_parenthesis) (ap (λ x. a_paren ∷ x) q)
+      (count_token open_paren Operand before n (begins_expected before b) c) refl o
+  begin_view p b q c z o y plus next e = viewed e (first_term a_plus b) q
+      (count_token plus Operand before n (begins_expected before b) c) z tt
+  begin_view p b q c z o y minus next e = viewed e (first_term a_minus b) q
+      (count_token minus Operand before n (begins_expected before b) c) z tt
+  begin_view p b q c z o y _ next e = absurd (none-some next e)
 
 -- brackets
-opens_bracket : (o : Owner) (t : Token) → opens o t ≡ true → IsBracket t
-opens_bracket o open_bracket e = an_open
-opens_bracket o close_bracket e = a_close
-opens_bracket o (word w) e = absurd (cc)
-opens_bracket o _ e = absurd (cc)
+opens_bracket : (of : Timed) (t : Token) (x : Bool) → opening of t ≡ Some x → IsBracket t
+opens_bracket of open_bracket x e = an_open
+opens_bracket of close_bracket x e = a_close
+opens_bracket of _ x e = absurd (none-some x e)
 
-closes_bracket : (o : Owner) (t : Token) → closes o t ≡ true → IsBracket t
-closes_bracket o open_bracket e = an_open
-closes_bracket o close_bracket e = a_close
-closes_bracket o (word w) e = absurd (cc)
-closes_bracket o _ e = absurd (cc)
+closes_bracket : (of : Timed) (t : Token) (y : Bool) → closing of t ≡ Some y → IsBracket t
+closes_bracket of open_bracket y e = an_open
+closes_bracket of close_bracket y e = a_close
+closes_bracket of _ y e = absurd (none-some y e)
 
 bracket_pending : (t : Token) (before : List Token) → IsBracket t → pending (t ∷ before) ≡ pending before
 bracket_pending t before an_open = refl
@@ -314,199 +412,159 @@ signed_terms : (t : Token) (r : Rel) (before : List Token) → IsSign t → term
 signed_terms t r before a_plus = refl
 signed_terms t r before a_minus = refl
 
-module _ (h : Bool) (marks : List Mark) (n : ℕ) where
+module _ (s : Scale) (frames : List Frame) (nodes : List Node) (terms : List AtomTerm) (n : ℕ) where
   abbrev there : Place → State
-  there p = record { place = p; had = h; marks = marks; nodes = n }
+  there p = record { place = p; frames = frames; nodes = nodes; terms = terms; made = n }
 
   -- from the tokens before a place to those one step on
   abbrev Moves : Place → List Token → Type 0
-  Moves p before = pending before ≡ all_pending marks → nodes_made before ≡ n → terms_made before ≡ terms_at p → (t : Token) (next : State)
-      → step_at p (there p) t ≡ Some next → View next (t ∷ before)
+  Moves p before = pending before ≡ pending_in (bound_of p) (ranks frames) → nodes_made before ≡ n → terms_made before ≡ terms_at p (length terms)
+      → Outside p terms → TidyAt p frames → (t : Token) (next : State) → step_at s p (there p) t ≡ Some next → View next (t ∷ before)
 
-  bound_view : {o : Owner} {before : List Token} → Shape (at_bound o) before → Moves (at_bound o) before
-  bound_view (a_bound {w = w} {before = more} {o = o} k f g) q c z t next e = split (opens o t) refl
+  -- outside atoms
+  no_terms : (before : List Token) → terms_made before ≡ 0 → terms ≡ [] → terms_made before ≡ length terms
+  no_terms before z o = z ∙ ap (λ x. length x) (sym o)
+
+  bound_view : {of : Timed} {before : List Token} → Shape (at_bound of) before → Moves (at_bound of) before
+  bound_view (a_bound {w = w} {before = more} {of = of} f) q c z o y t next e = split (opening of t) refl
     where
-      back : (b : Bool) → looks_back o ≡ b → opens o t ≡ false → View next (t ∷ word w ∷ more)
-      back true r d = begin_view h marks n (word w ∷ more) (at_bound o) (a_word k f (owner_begins k o g)) q c z t next (rw (d, r) at e)
+      back : (b : Bool) → looks_back of ≡ b → opening of t ≡ None → View next (t ∷ word w ∷ more)
+      back true r d =
+          let i : Frame = timed_frame of 0 None true true (length nodes - 1) in
+          begin_view s (i ∷ frames) nodes terms n (word w ∷ more) at_operand (a_word (a_timed of) f refl) (q ∙ timed_pending (is_beside of) _) c
+          (no_terms (word w ∷ more) z o) o (y i refl) t next (rw (d, r) at e)
       back false r d = let x = rw (d, r) at e in absurd (none-some next x)
 
-      split : (b : Bool) → opens o t ≡ b → View next (t ∷ word w ∷ more)
-      split true d = let s = opens_bracket o t d in viewed (rw d at e) (a_low k s f g) (bracket_pending t (word w ∷ more) s ∙ q)
-          (bracket_nodes t (word w ∷ more) s ∙ c) (bracket_terms t (word w ∷ more) s)
-      split false d = back (looks_back o) refl d
+      split : (b : Option Bool) → opening of t ≡ b → View next (t ∷ word w ∷ more)
+      split (Some x) d = let i = opens_bracket of t x d in viewed (rw d at e) (a_low i f) (bracket_pending t (word w ∷ more) i ∙ q)
+          (bracket_nodes t (word w ∷ more) i ∙ c) (bracket_terms t (word w ∷ more) i) o
+      split None d = back (looks_back of) refl d
 
-  low_view : {o : Owner} {before : List Token} → Shape (at_low o) before → Moves (at_low o) before
-  low_view (a_low {t = b} {w = w} {before = more} {o = o} k s f g) q c z (number a j) next e = viewed e (a_comma k s f g)
-      (ap (λ x. pending_after x (number a j) (pending (b ∷ word w ∷ more))) (low_constant b w a j more s) ∙ q)
-      (count_token (number a j) Number (b ∷ word w ∷ more) n (shape_expected (at_low o) (b ∷ word w ∷ more) marks (a_low k s f g) q) c) z
-  low_view (a_low k s f g) q c z _ next e = absurd (none-some next e)
-
-  comma_view : {o : Owner} {a j : ℕ} {before : List Token} → Shape (at_comma o a j) before → Moves (at_comma o a j) before
-  comma_view (a_comma k s f g) q c z comma next e = viewed e (a_high k s f g) q c refl
-  comma_view (a_comma k s f g) q c z _ next e = absurd (none-some next e)
-
-  inf_view : (o : Owner) (a j : ℕ) (before : List Token) → pending (comma ∷ before) ≡ all_pending marks → nodes_made (comma ∷ before) ≡ n
-      → (w : List ℕ) (k : Kind) → kind w ≡ k → (next : State) → step_inf o (there (at_high o a j)) k ≡ Some next → View next (word w ∷ comma ∷ before)
-  inf_view o a j before q c w an_inf f next e = split (looks_back o) refl
+  inf_view : (of : Timed) (x : Bool) (a j : ℕ) (before : List Token) → pending (comma ∷ before) ≡ pending_in (Some of) (ranks frames)
+      → nodes_made (comma ∷ before) ≡ n → terms ≡ [] → (w : List ℕ) (k : Kind) → kind w ≡ k → (next : State)
+      → step_inf of x a j (there (at_high of x a j)) k ≡ Some next → View next (word w ∷ comma ∷ before)
+  inf_view of x a j before q c o w an_inf f next e = split (looks_back of) refl
     where
-      split : (b : Bool) → looks_back o ≡ b → View next (word w ∷ comma ∷ before)
-      split true d = word_viewed f refl c (rw d at e) (closing_inf f) q refl refl
+      split : (b : Bool) → looks_back of ≡ b → View next (word w ∷ comma ∷ before)
+      split true d = word_viewed f refl c (rw d at e) (closing_inf f) q refl refl o
       split false d = let x = rw d at e in absurd (none-some next x)
-  inf_view o a j before q c w _ f next e = absurd (none-some next e)
+  inf_view of x a j before q c o w _ f next e = absurd (none-some next e)
 
-  high_view : {o : Owner} {a j : ℕ} {before : List Token} → Shape (at_high o a j) before → Moves (at_high o a j) before
-  high_view (a_high k s f g) q c z (number b i) next e = viewed e closing_number q c refl
-  high_view (a_high {t = b} {w = w} {before = more} {o = o} {a = a} {j} k s f g) q c z (word v) next e =
-      inf_view o a j (number a j ∷ b ∷ word w ∷ more) q c v (kind v) refl next e
-  high_view (a_high k s f g) q c z _ next e = absurd (none-some next e)
-
-  closing_begins : {o : Owner} {before : List Token} → Shape (at_closing o) before → (t : Token) → IsBracket t → Begins (t ∷ before)
+  closing_begins : {of : Timed} {x : Bool} {a j : ℕ} {b : Option (ℕ × ℕ)} {before : List Token} → Shape (at_closing of x a j b) before
+      → (t : Token) → IsBracket t → Begins (t ∷ before)
   closing_begins closing_number t s = after_number s
   closing_begins (closing_inf f) t s = after_inf s f
 
-  closing_view : (o : Owner) (before : List Token) → Shape (at_closing o) before → Moves (at_closing o) before
-  closing_view o before x q c z t next e = split (closes o t) refl
+  closing_view : (of : Timed) (x : Bool) (a j : ℕ) (b : Option (ℕ × ℕ)) (before : List Token) → Shape (at_closing of x a j b) before
+      → Moves (at_closing of x a j b) before
+  closing_view of x a j b before h q c z o y t next e = split (closing of t) refl
     where
-      split : (b : Bool) → closes o t ≡ b → View next (t ∷ before)
-      split true d = let s = closes_bracket o t d in viewed (rw d at e) (an_operand (closing_begins x t s)) (bracket_pending t before s ∙ q)
-          (bracket_nodes t before s ∙ c) (bracket_terms t before s)
-      split false d = let y = rw d at e in absurd (none-some next y)
+      split : (i : Option Bool) → closing of t ≡ i → View next (t ∷ before)
+      split (Some i) d =
+          let k = closes_bracket of t i d in
+          viewed (rw d at e) (an_operand (closing_begins h t k)) (bracket_pending t before k ∙ (q ∙ timed_pending (is_beside of) _))
+          (bracket_nodes t before k ∙ c) (bracket_terms t before k) o
+      split None d = let y = rw d at e in absurd (none-some next y)
 
-  -- a name after m other terms
-  name_view : {m : ℕ} {what : What} (p : Place) → is_operand what ≡ false → (before : List Token) → expected before ≡ what
-      → pending before ≡ all_pending marks → nodes_made before ≡ n
-      → terms_made before ≡ m → (w : List ℕ) (k : Kind) → kind w ≡ k → (next : State) → step_name m (there p) k ≡ Some next → View next (word w ∷ before)
-  name_view p y before x q c z w a_name f next e = word_viewed f x c e (a_sign f) q (ap (λ b. if b then suc n else n) y) (ap (λ i. suc i) z)
-  name_view p y before x q c z w _ f next e = absurd (none-some next e)
+  -- a name after the other terms
+  name_view : {what : What} (p : Place) (less : Bool) (i : ℕ) → is_operand what ≡ false → (before : List Token) → expected before ≡ what
+      → pending before ≡ pending_of (ranks frames) → nodes_made before ≡ n → terms_made before ≡ length terms
+      → (w : List ℕ) (k : Kind) → kind w ≡ k → (next : State) → step_name less i (there p) w k ≡ Some next → View next (word w ∷ before)
+  name_view p less i y before x q c z w a_name f next e =
+      word_viewed f x c e (a_sign f) q (ap (λ b. if b then suc n else n) y) (ap (λ i. suc i) z ∙ sym (grown terms _)) tt
+  name_view p less i y before x q c z w _ f next e = absurd (none-some next e)
 
-  term_terms : {m : ℕ} {before : List Token} → Shape (at_term m) before → Terms before
+  term_terms : {less : Bool} {before : List Token} → Shape (at_term less) before → Terms before
   term_terms (first_term s b) = signed_first s b
   term_terms (next_term s) = signed_next s
 
-  term_view : (m : ℕ) (before : List Token) → Shape (at_term m) before → Moves (at_term m) before
-  term_view m before x q c z (number i k) next e = viewed e (a_star (term_terms x))
-      (ap (λ b. pending_after b (number i k) (pending before)) (terms_constant before i k (term_terms x)) ∙ q)
-      (count_token (number i k) Term before n (shape_expected (at_term m) before marks x q) c) z
-  term_view m before x q c z (word w) next e =
-      name_view (at_term m) refl before (shape_expected (at_term m) before marks x q) q c z w (kind w) refl next e
-  term_view m before x q c z _ next e = absurd (none-some next e)
-
-  star_view : (m : ℕ) (before : List Token) → Moves (at_star m) before
-  star_view m before q c z star next e = viewed e the_name q c z
-  star_view m before q c z _ next e = absurd (none-some next e)
-
-  coefficient_view : (m : ℕ) (before : List Token) → Shape (at_name m) before → Moves (at_name m) before
-  coefficient_view m before x q c z (word w) next e =
-      name_view (at_name m) refl before (shape_expected (at_name m) before marks x q) q c z w (kind w) refl next e
-  coefficient_view m before x q c z _ next e = absurd (none-some next e)
-
-  sign_view : {m : ℕ} {before : List Token} → Shape (at_sign m) before → Moves (at_sign m) before
-  sign_view (a_sign {w = w} {before = more} f) q c z plus next e = viewed e (next_term a_plus) q
-      (count_token plus Relation (word w ∷ more) n (expected_word w a_name more f) c) z
-  sign_view (a_sign {w = w} {before = more} f) q c z minus next e = viewed e (next_term a_minus) q
-      (count_token minus Relation (word w ∷ more) n (expected_word w a_name more f) c) z
-  sign_view (a_sign f) q c z (relation r) next e = viewed e the_constant q c refl
-  sign_view (a_sign f) q c z _ next e = absurd (none-some next e)
-
-  constant_view : {before : List Token} → Shape at_constant before → Moves at_constant before
-  constant_view the_constant q c z (number i k) next e =
-      viewed e end_number (ap after_operand q ∙ operand_pending marks) c refl
-  constant_view the_constant q c z plus next e = viewed e (the_number a_plus) q c refl
-  constant_view the_constant q c z minus next e = viewed e (the_number a_minus) q c refl
-  constant_view the_constant q c z _ next e = absurd (none-some next e)
-
-  number_view : {before : List Token} → Shape at_number before → Moves at_number before
-  number_view (the_number {t = s} {r = r} {before = more} y) q c z (number i k) next e = viewed e (end_signed y)
-      (ap (λ b. pending_after b (number i k) (pending (s ∷ relation r ∷ more))) (signed_constant s r i k more y) ∙ (ap after_operand q ∙ operand_pending marks))
-      (count_token (number i k) Constant (s ∷ relation r ∷ more) n (shape_expected at_number (s ∷ relation r ∷ more) marks (the_number y) q) c)
-      (signed_terms s r more y)
-  number_view (the_number y) q c z _ next e = absurd (none-some next e)
-
-  connective_view : (before : List Token) → pending before ≡ all_pending marks → nodes_made before ≡ n
-      → (w : List ℕ) (k : Kind) → kind w ≡ k → (next : State) → step_connective (there at_end) k ≡ Some next → View next (word w ∷ before)
-  connective_view before q c w a_join f next e = word_viewed f refl c e (an_operand (a_word a_join f refl)) q refl refl
-  connective_view before q c w an_implication f next e =
-      word_viewed f refl c e (an_operand (a_word an_implication f refl)) (ap (λ z. an_implies ∷ z) q) refl refl
-  connective_view before q c w an_until f next e = split h refl
+  connective_view : (before : List Token) → pending before ≡ pending_of (ranks frames) → nodes_made before ≡ n → terms ≡ []
+      → Tidy frames × (top_rank frames < 5) → (w : List ℕ) (k : Kind) → kind w ≡ k → (next : State) → after_word (there at_end) k ≡ Some next
+      → View next (word w ∷ before)
+  connective_view before q c o y w (a_connective by_implies) f next e =
+      word_viewed f refl c e (an_operand (a_word (a_connective by_implies) f refl))
+      (ap (λ z. an_implies ∷ z) (q ∙ sym (joined_pending 2 (omega arith) y.0.1 y.1))) refl refl o
+  connective_view before q c o y w (a_connective by_and) f next e =
+      word_viewed f refl c e (an_operand (a_word (a_connective by_and) f refl)) (q ∙ sym (joined_pending 3 (omega arith) y.0.1 y.1)) refl refl o
+  connective_view before q c o y w (a_connective by_or) f next e =
+      word_viewed f refl c e (an_operand (a_word (a_connective by_or) f refl)) (q ∙ sym (joined_pending 2 (omega arith) y.0.1 y.1)) refl refl o
+  connective_view before q c o y w (a_timed of) f next e = split (is_beside of) (nat_le 4 (top_rank frames)) refl refl
     where
-      split : (b : Bool) → h ≡ b → View next (word w ∷ before)
-      split true d = let x = rw d at e in absurd (none-some next x)
-      split false d = word_viewed f refl c (rw d at e) (a_bound an_until f refl) q refl refl
-  connective_view before q c w a_since f next e = split h refl
-    where
-      split : (b : Bool) → h ≡ b → View next (word w ∷ before)
-      split true d = let x = rw d at e in absurd (none-some next x)
-      split false d = word_viewed f refl c (rw d at e) (a_bound a_since f refl) q refl refl
-  connective_view before q c w _ f next e = absurd (none-some next e)
+      split : (i g : Bool) → is_beside of ≡ i → nat_le 4 (top_rank frames) ≡ g → View next (word w ∷ before)
+      split false g i d = let x = rw i at e in absurd (none-some next x)
+      split true true i d = let x = rw (i, d) at e in absurd (none-some next x)
+      split true false i d = word_viewed f refl c (rw (i, d) at e) (a_bound f) (rw i q) refl refl o
+  connective_view before q c o y w _ f next e = absurd (none-some next e)
 
-  paren_view : (before : List Token) → pending before ≡ all_pending marks → nodes_made before ≡ n → (next : State)
-      → closed marks n ≡ Some next → View next (close_paren ∷ before)
-  paren_view before q c next e = let p = closed_place marks n next e in record {
-    shape = rw p.0 end_paren;
-    pend = ap after_paren q ∙ closed_pending marks n next e;
-    count = c ∙ sym p.1;
-    terms = rw p.0 refl;
-  }
+  moves : (p : Place) (before : List Token) → Shape p before → Moves p before
+  moves at_operand before (an_operand b) q c z o y t next e =
+      begin_view s frames nodes terms n before at_operand b q c (no_terms before z o) o y t next e
+  moves (at_bound of) before h q c z o y t next e = bound_view h q c z o y t next e
+  moves (at_low of x) before (a_low {t = b} {w = w} {before = more} i f) q c z o y (number a j) next e = viewed e (a_comma i f)
+      (ap (λ x. pending_after x (number a j) (pending before)) (low_constant b w a j more i) ∙ q)
+      (count_token (number a j) Number before n (shape_expected (at_low of x) before (ranks frames) (a_low i f) q) c) z o
+  moves (at_comma of x a j) before (a_comma i f) q c z o y comma next e = viewed e (a_high i f) q c refl o
+  moves (at_high of x a j) before (a_high i f) q c z o y (number b k) next e = viewed e closing_number q c refl o
+  moves (at_high of x a j) before (a_high {t = b} {w = w} {before = more} i f) q c z o y (word v) next e =
+      inf_view of x a j (number a j ∷ b ∷ word w ∷ more) q c o v (kind v) refl next e
+  moves (at_closing of x a j b) before h q c z o y t next e = closing_view of x a j b before h q c z o y t next e
+  moves (at_term less) before h q c z o y (number i k) next e = viewed e (a_star (term_terms h))
+      (ap (λ b. pending_after b (number i k) (pending before)) (terms_constant before i k (term_terms h)) ∙ q)
+      (count_token (number i k) Term before n (shape_expected (at_term less) before (ranks frames) h q) c) z tt
+  moves (at_term less) before h q c z o y (word w) next e =
+      name_view (at_term less) less 1 refl before (shape_expected (at_term less) before (ranks frames) h q) q c z w (kind w) refl next e
+  moves (at_star less m) before h q c z o y star next e = viewed e the_name q c z tt
+  moves (at_name less m) before h q c z o y (word w) next e =
+      name_view (at_name less m) less m refl before (shape_expected (at_name less m) before (ranks frames) h q) q c z w (kind w) refl next e
+  moves at_sign before (a_sign {w = w} {before = more} f) q c z o y plus next e = viewed e (next_term a_plus) q
+      (count_token plus Relation (word w ∷ more) n (expected_word w a_name more f) c) z tt
+  moves at_sign before (a_sign {w = w} {before = more} f) q c z o y minus next e = viewed e (next_term a_minus) q
+      (count_token minus Relation (word w ∷ more) n (expected_word w a_name more f) c) z tt
+  moves at_sign before (a_sign f) q c z o y (relation r) next e = viewed e the_constant q c refl tt
+  moves (at_constant r) before the_constant q c z o y (number i k) next e =
+      viewed e end_number (ap after_operand q ∙ operand_pending frames y) c refl refl
+  moves (at_constant r) before the_constant q c z o y plus next e = viewed e (the_number a_plus) q c refl tt
+  moves (at_constant r) before the_constant q c z o y minus next e = viewed e (the_number a_minus) q c refl tt
+  moves (at_number r less) before (the_number {t = g} {before = more} h) q c z o y (number i k) next e = viewed e (end_signed h)
+      (ap (λ b. pending_after b (number i k) (pending before)) (signed_constant g r i k more h) ∙ (ap after_operand q ∙ operand_pending frames y))
+      (count_token (number i k) Constant before n (shape_expected (at_number r less) before (ranks frames) (the_number h) q) c)
+      (signed_terms g r more h) refl
+  moves at_end before h q c z o y (word w) next e = connective_view before q c o y w (kind w) refl next e
+  moves at_end before h q c z o y close_paren next e =
+      let x = closes at_end frames _ terms n next y.0 e in record {
+        shape = rw x.place end_paren;
+        pend = rw x.place (ap after_paren q ∙ x.pend);
+        count = c ∙ sym x.made;
+        terms = rw x.place refl;
+        outside = rw x.place (x.terms ∙ o);
+      }
+  moves _ before h q c z o y _ next e = absurd (none-some next e)
 
-  end_view : (before : List Token) → Moves at_end before
-  end_view before q c z (word w) next e = connective_view before q c w (kind w) refl next e
-  end_view before q c z close_paren next e = paren_view before q c next e
-  end_view before q c z _ next e = absurd (none-some next e)
-
-  operand_view : {before : List Token} → Shape at_operand before → Moves at_operand before
-  operand_view {before} (an_operand b) q c z t next e = begin_view h marks n before at_operand b q c z t next e
-
-  step_view : (p : Place) (before : List Token) → View (there p) before → (t : Token) (next : State) → step (there p) t ≡ Some next → View next (t ∷ before)
-  step_view at_operand before v t next e = operand_view v.shape v.pend v.count v.terms t next e
-  step_view (at_bound o) before v t next e = bound_view v.shape v.pend v.count v.terms t next e
-  step_view (at_low o) before v t next e = low_view v.shape v.pend v.count v.terms t next e
-  step_view (at_comma o a j) before v t next e = comma_view v.shape v.pend v.count v.terms t next e
-  step_view (at_high o a j) before v t next e = high_view v.shape v.pend v.count v.terms t next e
-  step_view (at_closing o) before v t next e = closing_view o before v.shape v.pend v.count v.terms t next e
-  step_view (at_term m) before v t next e = term_view m before v.shape v.pend v.count v.terms t next e
-  step_view (at_star m) before v t next e = star_view m before v.pend v.count v.terms t next e
-  step_view (at_name m) before v t next e = coefficient_view m before v.shape v.pend v.count v.terms t next e
-  step_view (at_sign m) before v t next e = sign_view v.shape v.pend v.count v.terms t next e
-  step_view at_constant before v t next e = constant_view v.shape v.pend v.count v.terms t next e
-  step_view at_number before v t next e = number_view v.shape v.pend v.count v.terms t next e
-  step_view at_end before v t next e = end_view before v.pend v.count v.terms t next e
-
-run_view : (before : List Token) (s : State) → run before ≡ Some s → View s before
-run_view [] s e = same_view start s [] e (record { shape = an_operand nothing; pend = refl; count = refl; terms = refl })
-run_view (t ∷ before) s e = split (run before) refl (λ x f. run_view before x f)
+run_view : (s : Scale) (before : List Token) (st : State) → run s before ≡ Some st → View st before
+run_view s [] st e = same_view start st [] e (record { shape = an_operand nothing; pend = refl; count = refl; terms = refl; outside = refl })
+run_view s (t ∷ before) st e = split (run s before) refl (λ x f. run_view s before x f)
   where
-    split : (o : Option State) → run before ≡ o → ((x : State) → run before ≡ Some x → View x before) → View s (t ∷ before)
-    split None f g = let z = rw f at e in absurd (none-some s z)
-    split (Some x) f g = step_view x.had x.marks x.nodes x.place before (g x f) t s (rw f at e)
+    split : (o : Option State) → run s before ≡ o → ((x : State) → run s before ≡ Some x → View x before) → View st (t ∷ before)
+    split None f g = let z = rw f at e in absurd (none-some st z)
+    split (Some x) f g = let v = g x f in
+        moves s x.frames x.nodes x.terms x.made x.place before v.shape v.pend v.count v.terms v.outside (run_tidy s before x f) t st (rw f at e)
 
 -- what is expected
-pub run_expected : (before : List Token) (s : State) → run before ≡ Some s → expected before ≡ expected_at s.place s.marks
-run_expected before s e = let v = run_view before s e in shape_expected s.place before s.marks v.shape v.pend
+pub run_expected : (s : Scale) (before : List Token) (st : State) → run s before ≡ Some st → expected before ≡ expected_at st.place (ranks st.frames)
+run_expected s before st e = let v = run_view s before st e in shape_expected st.place before (ranks st.frames) v.shape v.pend
 
 -- what is pending
-pub run_pending : (before : List Token) (s : State) → run before ≡ Some s → pending before ≡ all_pending s.marks
-run_pending before s e = (run_view before s e).pend
-
-all_length : (marks : List Mark) → length (all_pending marks) ≡ length marks
-all_length [] = refl
-all_length (m ∷ marks) = ap (λ n. suc n) (all_length marks)
-
--- how much
-pub run_depth : (before : List Token) (s : State) → run before ≡ Some s → length (pending before) ≡ length s.marks
-run_depth before s e = ap (λ z. length z) (run_pending before s e) ∙ all_length s.marks
+pub run_pending : (s : Scale) (before : List Token) (st : State) → run s before ≡ Some st → pending before ≡ pending_in (bound_of st.place) (ranks st.frames)
+run_pending s before st e = (run_view s before st e).pend
 
 -- how many nodes are made
-pub run_nodes : (before : List Token) (s : State) → run before ≡ Some s → nodes_made before ≡ s.nodes
-run_nodes before s e = (run_view before s e).count
-
--- how many terms of an atom
-pub run_terms : (before : List Token) (s : State) → run before ≡ Some s → terms_made before ≡ terms_at s.place
-run_terms before s e = (run_view before s e).terms
+pub run_nodes : (s : Scale) (before : List Token) (st : State) → run s before ≡ Some st → nodes_made before ≡ st.made
+run_nodes s before st e = (run_view s before st e).count
 
 -- whether a number passes its limit
-pub run_bad_number : (before : List Token) (s : State) → run before ≡ Some s → (n k : ℕ)
-    → is_bad_number before (number n k) ≡ passes_limit (expected_at s.place s.marks) n k
-run_bad_number before s e n k = ap (λ z. passes_limit z n k) (run_expected before s e)
+pub run_bad_number : (s : Scale) (before : List Token) (st : State) → run s before ≡ Some st → (n k : ℕ)
+    → is_bad_number before (number n k) ≡ passes_limit (expected_at st.place (ranks st.frames)) n k
+run_bad_number s before st e n k = ap (λ z. passes_limit z n k) (run_expected s before st e)
 
 -- a fifth term
 abbrev fifth_of : What → ℕ → Token → Bool
@@ -523,21 +581,23 @@ fifth_computes before minus what n e f = rw (e, f) (and-false (n == 4))
 fifth_computes before t Relation n e f = refl
 fifth_computes before t what n e f = refl
 
-fifth_place : (p : Place) (marks : List Mark) (t : Token) → fifth_of (expected_at p marks) (terms_at p) t ≡ fifth_at p t
-fifth_place (at_sign n) marks plus = refl
-fifth_place (at_sign n) marks minus = refl
-fifth_place (at_sign n) marks t = refl
-fifth_place at_end marks t = split (in_paren marks)
+fifth_place : (p : Place) (rs : List ℕ) (n : ℕ) (t : Token) → fifth_of (expected_at p rs) (terms_at p n) t ≡ fifth_at p n t
+fifth_place at_sign rs n plus = refl
+fifth_place at_sign rs n minus = refl
+fifth_place at_sign rs n t = refl
+fifth_place at_end rs n t = split (has_paren (pending_of rs))
   where
     split : (b : Bool) → fifth_of (if b then Paren else End) 0 t ≡ false
     split true = refl
     split false = refl
-fifth_place p marks t = refl
+fifth_place p rs n t = refl
 
 -- whether a fifth term begins
-pub run_fifth : (before : List Token) (s : State) → run before ≡ Some s → (t : Token) → begins_fifth_term before t ≡ fifth_at s.place t
-run_fifth before s e t =
-    fifth_computes before t (expected_at s.place s.marks) (terms_at s.place) (run_expected before s e) (run_terms before s e) ∙ fifth_place s.place s.marks t
+pub run_fifth : (s : Scale) (before : List Token) (st : State) → run s before ≡ Some st → (t : Token)
+    → begins_fifth_term before t ≡ fifth_at st.place (length st.terms) t
+run_fifth s before st e t =
+    fifth_computes before t (expected_at st.place (ranks st.frames)) (terms_at st.place (length st.terms)) (run_expected s before st e)
+    (run_view s before st e).terms ∙ fifth_place st.place (ranks st.frames) (length st.terms) t
 
 -- the bounds in order
 begins_order : (before : List Token) (t : Token) → Begins before → is_out_of_order before t ≡ false
@@ -545,31 +605,25 @@ begins_order before t (after_number an_open) = refl
 begins_order before t (after_inf an_open e) = refl
 begins_order before t _ = refl
 
-high_order : (before : List Token) (o : Owner) (a j : ℕ) (t : Token) → is_out_of_order (comma ∷ number a j ∷ before) t ≡ disorder_at (at_high o a j) t
-high_order before o a j (number b k) = refl
-high_order before o a j t = refl
+high_order : (before : List Token) (of : Timed) (x : Bool) (a j : ℕ) (t : Token)
+    → is_out_of_order (comma ∷ number a j ∷ before) t ≡ disorder_at (at_high of x a j) t
+high_order before of x a j (number b k) = refl
+high_order before of x a j t = refl
 
 shape_order : (p : Place) (before : List Token) (t : Token) → Shape p before → is_out_of_order before t ≡ disorder_at p t
 shape_order p before t (an_operand b) = begins_order before t b
-shape_order p before t (a_low k an_open f g) = refl
-shape_order p before t (a_high {t = b} {w = w} {before = more} {o = o} {a = a} {j} k s f g) = high_order (b ∷ word w ∷ more) o a j t
+shape_order p before t (a_low an_open f) = refl
+shape_order p before t (a_high {t = b} {w = w} {before = more} {of = of} {x = x} {a = a} {j} s f) = high_order (b ∷ word w ∷ more) of x a j t
 shape_order p before t (first_term a_plus b) = refl
 shape_order p before t (next_term a_plus) = refl
 shape_order p before t (the_number a_plus) = refl
 shape_order p before t _ = refl
 
 -- whether a bound is out of order
-pub run_disorder : (before : List Token) (s : State) → run before ≡ Some s → (t : Token) → is_out_of_order before t ≡ disorder_at s.place t
-run_disorder before s e t = shape_order s.place before t (run_view before s e).shape
+pub run_disorder : (s : Scale) (before : List Token) (st : State) → run s before ≡ Some st → (t : Token) → is_out_of_order before t ≡ disorder_at st.place t
+run_disorder s before st e t = shape_order st.place before t (run_view s before st e).shape
 
 -- the upper end of a bound that looks ahead
-owner_ahead : (k : Kind) (o : Owner) → owner k ≡ Some o → looks_ahead k ≡ not (looks_back o)
-owner_ahead an_until o e = let f : of_until ≡ o = same_Some of_until o e in rw (← f) refl
-owner_ahead a_since o e = let f : of_since ≡ o = same_Some of_since o e in rw (← f) refl
-owner_ahead a_future o e = let f : of_future ≡ o = same_Some of_future o e in rw (← f) refl
-owner_ahead a_past o e = let f : of_past ≡ o = same_Some of_past o e in rw (← f) refl
-owner_ahead _ o e = absurd (none-some o e)
-
 begins_future : (before : List Token) → Begins before → begins_future_bound before ≡ false
 begins_future before (after_number an_open) = refl
 begins_future before (after_inf an_open e) = refl
@@ -577,14 +631,14 @@ begins_future before _ = refl
 
 shape_future : (p : Place) (before : List Token) → Shape p before → begins_future_bound before ≡ future_at p
 shape_future p before (an_operand b) = begins_future before b
-shape_future p before (a_low k an_open f g) = refl
-shape_future p before (a_high {w = w} {o = o} k an_open f g) = among_ahead w ∙ (ap looks_ahead f ∙ owner_ahead k o g)
-shape_future p before (a_high {w = w} {o = o} k a_close f g) = among_ahead w ∙ (ap looks_ahead f ∙ owner_ahead k o g)
+shape_future p before (a_low an_open f) = refl
+shape_future p before (a_high {w = w} an_open f) = among_ahead w ∙ ap looks_ahead f
+shape_future p before (a_high {w = w} a_close f) = among_ahead w ∙ ap looks_ahead f
 shape_future p before (first_term a_plus b) = refl
 shape_future p before (next_term a_plus) = refl
 shape_future p before (the_number a_plus) = refl
 shape_future p before _ = refl
 
 -- whether a bound of the future begins
-pub run_future : (before : List Token) (s : State) → run before ≡ Some s → begins_future_bound before ≡ future_at s.place
-run_future before s e = shape_future s.place before (run_view before s e).shape
+pub run_future : (s : Scale) (before : List Token) (st : State) → run s before ≡ Some st → begins_future_bound before ≡ future_at st.place
+run_future s before st e = shape_future st.place before (run_view s before st e).shape

@@ -1,9 +1,10 @@
 -- The tokens of nodes within their limits, with few decimals: no number passes its limit, no bound is out of order, and no fifth term begins.
 use Rattle.std.proofs.Common.{◌≡◌, ℕ, suc, ◌+◌, ◌-◌, ◌*◌, ◌^◌, ◌<◌, ◌≤◌, List, [], ◌∷◌, ◌++◌, length}
-use Rattle.std.proofs.Common.{refl, ap, sym, ◌∙◌, subst, Bool, true, false, arith, append_assoc, lit<}
+use Rattle.std.proofs.Common.{refl, ap, sym, ◌∙◌, subst, Bool, true, false, arith, append_assoc, lit<, max}
 use Rattle.std.specs.Prelude.{codes, nat_lt, nat_abs, neg_ℤ, pos, Option, Some, None, All, ◌==◌, ◌||◌}
 use Rattle.std.proofs.Math.Nat.{mul-le-mul_right, one-le-pow}
 use Rattle.std.proofs.lemmas.Bool.Decides.{nat_tests}
+use Rattle.std.proofs.lemmas.List.{length_push}
 use Rattle.std.proofs.lemmas.List.Elements.{All-head, All-tail}
 use Rattle.stl_syntax.specs.Characters.{ticks}
 use Rattle.stl_syntax.specs.Limits.{reach_of_bound}
@@ -20,19 +21,18 @@ use Rattle.stl_grammar.specs.Grammar.{none as no_terms}
 use Rattle.stl_grammar.specs.declared.fault.What.{What}
 use Rattle.stl_grammar.specs.declared.fault.What.TheVariants.{Operand as AnOperand, Bracket, Number, Constant}
 use Rattle.stl_grammar.specs.FormulaRefusals.{passes_limit}
-use Rattle.stl_grammar.specs.Machine.{kind, Owner, of_until, of_future, at_operand, at_bound, at_low, at_term, at_sign, at_constant, at_end, Mark, paren}
-use Rattle.stl_grammar.specs.Machine.{operator, State, without_operators, step_from, expected_at, fifth_at, disorder_at}
-use Rattle.stl_grammar.specs.Refusing.{owner}
-use Rattle.stl_grammar.specs.declared.place.Timed.{Timed}
-use Rattle.stl_grammar.specs.declared.place.Timed.TheVariants.{Until as TUntil, Since as TSince, Eventually as TEventually}
-use Rattle.stl_grammar.specs.declared.place.Timed.TheVariants.{Always as TAlways, Once as TOnce, Historically as THistorically}
+use Rattle.stl_grammar.specs.Machine.{kind, at_operand, at_bound, at_low, at_term, at_sign, at_constant, at_end, Frame, paren, negation, State, top_rank}
+use Rattle.stl_grammar.specs.Machine.{timed_frame, connective_frame, step_from, ranks, expected_at, fifth_at, disorder_at}
+use Rattle.stl_grammar.specs.declared.operator.Timed.{Timed}
+use Rattle.stl_grammar.specs.declared.operator.Timed.TheVariants.{Until as TUntil, Since as TSince, Eventually as TEventually}
+use Rattle.stl_grammar.specs.declared.operator.Timed.TheVariants.{Always as TAlways, Once as TOnce, Historically as THistorically}
 use Rattle.stl_grammar.proofs.NumberLemmas.{abs_neg}
-use Rattle.stl_grammar.proofs.Derivations.{connective_word, left_binds, left_two, timed_word, timed_node, Bounded, left_out, within, endless, has_upper}
+use Rattle.stl_grammar.proofs.Derivations.{connective_word, left_binds, timed_word, timed_node, Bounded, left_out, within, endless, has_upper}
 use Rattle.stl_grammar.proofs.Derivations.{Opens, opens_in, opens_out, Closes, closes_in, closes_out}
 use Rattle.stl_grammar.proofs.Derivations.{Operand, negated, prefixed, constant, enclosed, compared, Derived, joined, beside, alone, operand_begins}
-use Rattle.stl_grammar.proofs.MachineRuns.{go, go_then, st, term_runs, first_runs, terms_run, signed_runs, skips, opens_step, closes_step, inf_step}
-use Rattle.stl_grammar.proofs.MachineRuns.{after_connective, connective_steps}
-use Rattle.stl_grammar.proofs.MachineRuns.{beside_steps, before_steps, derived_runs, left_runs, operand_runs}
+use Rattle.stl_grammar.proofs.MachineRuns.{go, go_then, at, st, timed_st, term_of, term_runs, first_runs, terms_run, signed_runs, skips, opens_step}
+use Rattle.stl_grammar.proofs.MachineRuns.{closes_step, ends_step, inf_step, connective_steps, beside_steps, before_steps, count_is, operand_state}
+use Rattle.stl_grammar.proofs.MachineRuns.{has_room, derived_runs, operand_runs}
 use Rattle.stl_grammar.proofs.ReadNodes.{power_parts, cross}
 use Rattle.stl_grammar.proofs.TokenNeat.{IsNeat}
 use Rattle.stl_grammar.proofs.PrintedRead.{IsFit, all_left, all_right, all_last}
@@ -45,16 +45,17 @@ bad_of what _ = false
 -- the token begins no fifth term, is no upper bound less than the lower, and no number past its limit
 abbrev pub FineAt : Option State → Token → Type 0
 FineAt None t = Unit {0}
-FineAt (Some s) t = (fifth_at s.place t ≡ false) × (disorder_at s.place t ≡ false) × (bad_of (expected_at s.place s.marks) t ≡ false)
+FineAt (Some q) t = (fifth_at q.place (length q.terms) t ≡ false) × (disorder_at q.place t ≡ false)
+    × (bad_of (expected_at q.place (ranks q.frames)) t ≡ false)
 
 -- nor are those after it
-abbrev pub Fine : Option State → List Token → Type 0
-Fine o [] = Unit {0}
-Fine o (t ∷ ts) = FineAt o t × Fine (step_from o t) ts
+abbrev pub Fine : Scale → Option State → List Token → Type 0
+Fine s o [] = Unit {0}
+Fine s o (t ∷ ts) = FineAt o t × Fine s (step_from s o t) ts
 
-fine_then : (o m : Option State) (ts us : List Token) → Fine o ts → go o ts ≡ m → Fine m us → Fine o (ts ++ us)
-fine_then o m [] us f e g = rw e g
-fine_then o m (t ∷ ts) us f e g = (f.0, fine_then (step_from o t) m ts us f.1 e g)
+fine_then : (s : Scale) (o m : Option State) (ts us : List Token) → Fine s o ts → go s o ts ≡ m → Fine s m us → Fine s o (ts ++ us)
+fine_then s o m [] us f e g = rw e g
+fine_then s o m (t ∷ ts) us f e g = (f.0, fine_then s (step_from s o t) m ts us f.1 e g)
 
 -- the places in tokens where decimals count
 pub data Piece : Type 0 where
@@ -156,60 +157,65 @@ two_fine : (d a j b k : ℕ) → d ≤ 6 → (j ≤ d) × (k ≤ d) → ticks d 
 two_fine d a j b k s c o l = (bound_fine d a j s c.0 (omega (arith, o, l)), order_fine d a j b k c.0 c.1 o, bound_fine d b k s c.1 l)
 
 -- a bracket of a bound is no number
-opening_fine : {o : Owner} {t : Token} {x : Bool} (what : What) → Opens o t x → bad_of what t ≡ false
+opening_fine : {o : Timed} {t : Token} {x : Bool} (what : What) → Opens o t x → bad_of what t ≡ false
 opening_fine what opens_in = refl
 opening_fine what (opens_out e) = refl
 
-closing_fine : {o : Owner} {t : Token} {x : Bool} (what : What) → Closes o t x → bad_of what t ≡ false
+closing_fine : {o : Timed} {t : Token} {x : Bool} (what : What) → Closes o t x → bad_of what t ≡ false
 closing_fine what closes_in = refl
 closing_fine what (closes_out e) = refl
 
 -- a bound, and the operand after it
-bound_then_fine : (s : Scale) {o : Owner} {a : ℕ} {b : Option ℕ} {us : List Token} {x y : Bool} {k : ℕ} {ts : List Token} {ns : List Node}
-    → Bounded s.time o us a b x y → Operand s k ts ns → s.time ≤ 6 → Pieces s (us ++ ts) → IsInOrder a b × (reach_of_bound a b ≤ 4294967295)
-    → (h : Bool) (marks : List Mark) (n : ℕ) → Fine (st at_operand h marks n) ts → Fine (st (at_bound o) h marks n) (us ++ ts)
+bound_then_fine : (s : Scale) {of : Timed} {a : ℕ} {b : Option ℕ} {us : List Token} {x y : Bool} {k : ℕ} {ts : List Token} {ns : List Node}
+    → Bounded s.time of us a b x y → Operand s k ts ns → s.time ≤ 6 → Pieces s (us ++ ts) → IsInOrder a b × (reach_of_bound a b ≤ 4294967295)
+    → (frames : List Frame) (nodes : List Node) (made : ℕ) → Fine s (timed_st of a b x y frames nodes made) ts
+    → Fine s (st (at_bound of) frames nodes made) (us ++ ts)
 unfolding kind
-bound_then_fine s {o} (left_out e) r d c l h marks n f =
+bound_then_fine s {of} (left_out e) r d c l frames nodes made f =
     let b = operand_begins r in let g = rw b.is at f in
-    rw b.is ((refl, refl, g.0.2), rw (← skips o e h marks n b.head b.other) at g.1)
-bound_then_fine s {o} {ts = ts} (within {a = a} {j} {b} {k} {t} {u} p q) r d c l h marks n f =
+    rw b.is ((refl, refl, g.0.2), rw (← skips s of e frames nodes made b.head b.other) at g.1)
+bound_then_fine s {of} {ts = ts} (within {a = a} {j} {b} {k} {t} {u} {x} p q) r d c l frames nodes made f =
     let z = two_fine s.time a j b k d (c (t ∷ []) (u ∷ ts) (bounds a j b k) refl) l.0 l.1 in
-    let e = subst (λ z. Fine z ts) (sym (closes_step q h marks n)) f in
-    let g : Fine (st (at_low o) h marks n) (number a j ∷ comma ∷ number b k ∷ u ∷ ts) =
-    ((refl, refl, z.0), ((refl, refl, refl), ((refl, z.1, z.2), ((refl, refl, closing_fine Bracket q), e)))) in
-    ((refl, refl, opening_fine AnOperand p), subst (λ z. Fine z (number a j ∷ comma ∷ number b k ∷ u ∷ ts)) (sym (opens_step p h marks n)) g)
-bound_then_fine s {o} {ts = ts} (endless {a = a} {j} {t} {u} e p q) r d c l h marks n f =
+    let e = subst (λ z. Fine s z ts) (sym (closes_step s of x a j q b k frames nodes made)) f in
+    let g : Fine s (st (at_low of x) frames nodes made) (number a j ∷ comma ∷ number b k ∷ u ∷ ts) =
+    ((refl, refl, z.0), ((refl, refl, refl), ((refl, z.1, z.2), ((refl, refl, closing_fine Bracket q), e)))) in (
+      (refl, refl, opening_fine AnOperand p),
+      subst (λ z. Fine s z (number a j ∷ comma ∷ number b k ∷ u ∷ ts)) (sym (opens_step s of p frames nodes made)) g,
+    )
+bound_then_fine s {of} {ts = ts} (endless {a = a} {j} {t} {u} {x} e p q) r d c l frames nodes made f =
     let z = bound_fine s.time a j d (c (t ∷ []) (word (codes "inf") ∷ u ∷ ts) (low a j) refl) l.1 in
-    let g = subst (λ z. Fine z ts) (sym (closes_step q h marks n)) f in
-    let i = subst (λ z. Fine z (u ∷ ts)) (sym (inf_step o e a j h marks n)) ((refl, refl, closing_fine Bracket q), g) in
-    let m : Fine (st (at_low o) h marks n) (number a j ∷ comma ∷ word (codes "inf") ∷ u ∷ ts) =
-    ((refl, refl, z), ((refl, refl, refl), ((refl, refl, refl), i))) in
-    ((refl, refl, opening_fine AnOperand p), subst (λ z. Fine z (number a j ∷ comma ∷ word (codes "inf") ∷ u ∷ ts)) (sym (opens_step p h marks n)) m)
+    let g = subst (λ z. Fine s z ts) (sym (ends_step s of x a j q frames nodes made)) f in
+    let i = subst (λ z. Fine s z (u ∷ ts)) (sym (inf_step s of e x a j frames nodes made)) ((refl, refl, closing_fine Bracket q), g) in
+    let m : Fine s (st (at_low of x) frames nodes made) (number a j ∷ comma ∷ word (codes "inf") ∷ u ∷ ts) =
+    ((refl, refl, z), ((refl, refl, refl), ((refl, refl, refl), i))) in (
+      (refl, refl, opening_fine AnOperand p),
+      subst (λ z. Fine s z (number a j ∷ comma ∷ word (codes "inf") ∷ u ∷ ts)) (sym (opens_step s of p frames nodes made)) m,
+    )
 
 -- the bound of an operator's node is in order and within the limit
 abbrev IsSmall : ℕ → Option ℕ → Type 0
 IsSmall a b = IsInOrder a b × (reach_of_bound a b ≤ 4294967295)
 
-small_bound : (of : Timed) {d a : ℕ} {b : Option ℕ} {us : List Token} {x y : Bool} (p q : ℕ) → Bounded d (owner of) us a b x y
+small_bound : (of : Timed) {d a : ℕ} {b : Option ℕ} {us : List Token} {x y : Bool} (p q : ℕ) → Bounded d of us a b x y
     → IsFit (timed_node of a b x y p q) → IsSmall a b
-small_bound TUntil {a = a} p q w f = subst (λ z. IsSmall a z) (has_upper of_until refl w) (f.bounds, f.reach)
-small_bound TEventually {a = a} p q w f = subst (λ z. IsSmall a z) (has_upper of_future refl w) (f.bounds, f.reach)
-small_bound TAlways {a = a} p q w f = subst (λ z. IsSmall a z) (has_upper of_future refl w) (f.bounds, f.reach)
+small_bound TUntil {a = a} p q w f = subst (λ z. IsSmall a z) (has_upper TUntil refl w) (f.bounds, f.reach)
+small_bound TEventually {a = a} p q w f = subst (λ z. IsSmall a z) (has_upper TEventually refl w) (f.bounds, f.reach)
+small_bound TAlways {a = a} p q w f = subst (λ z. IsSmall a z) (has_upper TAlways refl w) (f.bounds, f.reach)
 small_bound TSince p q w f = (f.bounds, f.reach)
 small_bound TOnce p q w f = (f.bounds.0, f.reach)
 small_bound THistorically p q w f = (f.bounds.0, f.reach)
 
 -- atoms
 term_fine : (s : Scale) {ts : List Token} {k : ℕ} {w : List ℕ} → IsTerm ts k w → k ≤ 16 → Pieces s ts
-    → (j : ℕ) (h : Bool) (marks : List Mark) (n : ℕ) → Fine (st (at_term j) h marks n) ts
-term_fine s (term_name e) l c j h marks n = ((refl, refl, refl), tt)
-term_fine s (scaled {n = i} {k} {w} e) l c j h marks n =
+    → (less : Bool) (frames : List Frame) (nodes : List Node) (terms : List Term) (made : ℕ) → Fine s (at (at_term less) frames nodes terms made) ts
+term_fine s (term_name e) l c less frames nodes terms made = ((refl, refl, refl), tt)
+term_fine s (scaled {n = i} {k} {w} e) l c less frames nodes terms made =
     ((refl, refl, coefficient_fine i k (c [] (word w ∷ []) (coefficient i k) refl) l), ((refl, refl, refl), ((refl, refl, refl), tt)))
 
 first_fine : (s : Scale) {ts : List Token} {k : ℕ} {w : List ℕ} → IsTerm ts k w → k ≤ 16 → Pieces s ts
-    → (h : Bool) (marks : List Mark) (n : ℕ) → Fine (st at_operand h marks n) ts
-first_fine s (term_name e) l c h marks n = ((refl, refl, refl), tt)
-first_fine s (scaled {n = i} {k} {w} e) l c h marks n =
+    → (frames : List Frame) (nodes : List Node) (made : ℕ) → Fine s (st at_operand frames nodes made) ts
+first_fine s (term_name e) l c frames nodes made = ((refl, refl, refl), tt)
+first_fine s (scaled {n = i} {k} {w} e) l c frames nodes made =
     ((refl, refl, coefficient_fine i k (c [] (word w ∷ []) (coefficient i k) refl) l), ((refl, refl, refl), ((refl, refl, refl), tt)))
 
 not_fifth : (j m : ℕ) → j + suc m ≤ 4 → (j == 4) ≡ false
@@ -224,71 +230,79 @@ plus_coefficient k w terms g = (All-head IsTermInLimits (record { coef = pos k; 
 minus_coefficient : (k : ℕ) (w : List ℕ) (terms : List Term) → All IsTermInLimits (record { coef = neg_ℤ (pos k); name = w } ∷ terms) → k ≤ 16
 minus_coefficient k w terms g = let x = (All-head IsTermInLimits (record { coef = neg_ℤ (pos k); name = w }) terms g).coef in rw (abs_neg k) at x
 
-terms_fine : (s : Scale) {us : List Token} {terms : List Term} → AreTerms us terms → (j : ℕ) → j + length terms ≤ 4 → All IsTermInLimits terms → Pieces s us
-    → (h : Bool) (marks : List Mark) (n : ℕ) → Fine (st (at_sign j) h marks n) us
-terms_fine s no_terms j l g c h marks n = tt
-terms_fine s (more_plus {k = k} {w} {ts = ts} {us} {terms} t u) j l g c h marks n =
-    let r = pieces_rest s plus (ts ++ us) c in (
-      (not_fifth j (length terms) l, refl, refl),
-      fine_then (st (at_term j) h marks n) (st (at_sign (suc j)) h marks n) ts us
-          (term_fine s t (plus_coefficient k w terms g) (pieces_left s ts us r) j h marks n) (term_runs t j h marks n)
-          (terms_fine s u (suc j) (omega (arith, l)) (All-tail IsTermInLimits (record { coef = pos k; name = w }) terms g) (pieces_right s ts us r) h marks n),
+few_more : (terms : List Term) (t : Term) (n : ℕ) → length terms + suc n ≤ 4 → length (terms ++ t ∷ []) + n ≤ 4
+few_more terms t n l = omega (arith, length_push terms t, l)
+
+terms_fine : (s : Scale) {us : List Token} {more : List Term} → AreTerms us more → (terms : List Term) → length terms + length more ≤ 4
+    → All IsTermInLimits more → Pieces s us
+    → (frames : List Frame) (nodes : List Node) (made : ℕ) → Fine s (at at_sign frames nodes terms made) us
+terms_fine s no_terms terms l g c frames nodes made = tt
+terms_fine s (more_plus {k = k} {w} {ts = ts} {us} {terms = more} t u) terms l g c frames nodes made =
+    let r = pieces_rest s plus (ts ++ us) c in
+    let x = term_of s false k w in (
+      (not_fifth (length terms) (length more) l, refl, refl),
+      fine_then s (at (at_term false) frames nodes terms made) (at at_sign frames nodes (terms ++ x ∷ []) made) ts us
+          (term_fine s t (plus_coefficient k w more g) (pieces_left s ts us r) false frames nodes terms made) (term_runs s t false frames nodes terms made)
+          (terms_fine s u (terms ++ x ∷ []) (few_more terms x (length more) l) (All-tail IsTermInLimits x more g) (pieces_right s ts us r) frames nodes made),
     )
-terms_fine s (more_minus {k = k} {w} {ts = ts} {us} {terms} t u) j l g c h marks n =
-    let r = pieces_rest s minus (ts ++ us) c in (
-      (not_fifth j (length terms) l, refl, refl),
-      fine_then (st (at_term j) h marks n) (st (at_sign (suc j)) h marks n) ts us
-          (term_fine s t (minus_coefficient k w terms g) (pieces_left s ts us r) j h marks n) (term_runs t j h marks n)
-          (terms_fine s u (suc j) (omega (arith, l)) (All-tail IsTermInLimits (record { coef = neg_ℤ (pos k); name = w }) terms g)
-          (pieces_right s ts us r) h marks n),
+terms_fine s (more_minus {k = k} {w} {ts = ts} {us} {terms = more} t u) terms l g c frames nodes made =
+    let r = pieces_rest s minus (ts ++ us) c in
+    let x = term_of s true k w in (
+      (not_fifth (length terms) (length more) l, refl, refl),
+      fine_then s (at (at_term true) frames nodes terms made) (at at_sign frames nodes (terms ++ x ∷ []) made) ts us
+          (term_fine s t (minus_coefficient k w more g) (pieces_left s ts us r) true frames nodes terms made) (term_runs s t true frames nodes terms made)
+          (terms_fine s u (terms ++ x ∷ []) (few_more terms x (length more) l) (All-tail IsTermInLimits x more g) (pieces_right s ts us r) frames nodes made),
     )
 
-signed_fine : (s : Scale) {us : List Token} {t : Term} {terms : List Term} → AreTerms us (t ∷ terms) → 1 + length terms ≤ 4
-    → All IsTermInLimits (t ∷ terms) → Pieces s us
-    → (h : Bool) (marks : List Mark) (n : ℕ) → Fine (st at_operand h marks n) us
-signed_fine s (more_plus {k = k} {w} {ts = ts} {us} {terms} t u) l g c h marks n =
-    let r = pieces_rest s plus (ts ++ us) c in (
+signed_fine : (s : Scale) {us : List Token} {t : Term} {more : List Term} → AreTerms us (t ∷ more) → 1 + length more ≤ 4
+    → All IsTermInLimits (t ∷ more) → Pieces s us
+    → (frames : List Frame) (nodes : List Node) (made : ℕ) → Fine s (st at_operand frames nodes made) us
+signed_fine s (more_plus {k = k} {w} {ts = ts} {us} {terms = more} t u) l g c frames nodes made =
+    let r = pieces_rest s plus (ts ++ us) c in
+    let x = term_of s false k w in (
       (refl, refl, refl),
-      fine_then (st (at_term 0) h marks (suc n)) (st (at_sign 1) h marks (suc n)) ts us
-          (term_fine s t (plus_coefficient k w terms g) (pieces_left s ts us r) 0 h marks (suc n)) (term_runs t 0 h marks (suc n))
-          (terms_fine s u 1 l (All-tail IsTermInLimits (record { coef = pos k; name = w }) terms g) (pieces_right s ts us r) h marks (suc n)),
+      fine_then s (at (at_term false) frames nodes [] (suc made)) (at at_sign frames nodes (x ∷ []) (suc made)) ts us
+          (term_fine s t (plus_coefficient k w more g) (pieces_left s ts us r) false frames nodes [] (suc made))
+          (term_runs s t false frames nodes [] (suc made))
+          (terms_fine s u (x ∷ []) l (All-tail IsTermInLimits x more g) (pieces_right s ts us r) frames nodes (suc made)),
     )
-signed_fine s (more_minus {k = k} {w} {ts = ts} {us} {terms} t u) l g c h marks n =
-    let r = pieces_rest s minus (ts ++ us) c in (
+signed_fine s (more_minus {k = k} {w} {ts = ts} {us} {terms = more} t u) l g c frames nodes made =
+    let r = pieces_rest s minus (ts ++ us) c in
+    let x = term_of s true k w in (
       (refl, refl, refl),
-      fine_then (st (at_term 0) h marks (suc n)) (st (at_sign 1) h marks (suc n)) ts us
-          (term_fine s t (minus_coefficient k w terms g) (pieces_left s ts us r) 0 h marks (suc n)) (term_runs t 0 h marks (suc n))
-          (terms_fine s u 1 l (All-tail IsTermInLimits (record { coef = neg_ℤ (pos k); name = w }) terms g) (pieces_right s ts us r) h marks (suc n)),
+      fine_then s (at (at_term true) frames nodes [] (suc made)) (at at_sign frames nodes (x ∷ []) (suc made)) ts us
+          (term_fine s t (minus_coefficient k w more g) (pieces_left s ts us r) true frames nodes [] (suc made))
+          (term_runs s t true frames nodes [] (suc made))
+          (terms_fine s u (x ∷ []) l (All-tail IsTermInLimits x more g) (pieces_right s ts us r) frames nodes (suc made)),
     )
 
 constant_fine : (s : Scale) (r : Rel) {vs : List Token} {c : _} → IsConstant s.value vs c → s.value ≤ 6 → nat_abs c ≤ 1073741824 → Pieces s (relation r ∷ vs)
-    → (h : Bool) (marks : List Mark) (n : ℕ) → Fine (st at_constant h marks n) vs
-constant_fine s r (plain {n = i} {k}) d l c h marks n = ((refl, refl, limit_fine s.value i k d (c [] [] (after_relation r i k) refl) l), tt)
-constant_fine s r (positive {n = i} {k}) d l c h marks n =
+    → (frames : List Frame) (nodes : List Node) (terms : List Term) (made : ℕ) → Fine s (at (at_constant r) frames nodes terms made) vs
+constant_fine s r (plain {n = i} {k}) d l c frames nodes terms made =
+    ((refl, refl, limit_fine s.value i k d (c [] [] (after_relation r i k) refl) l), tt)
+constant_fine s r (positive {n = i} {k}) d l c frames nodes terms made =
     ((refl, refl, refl), ((refl, refl, limit_fine s.value i k d (c [] [] (after_plus r i k) refl) l), tt))
-constant_fine s r (negative {n = i} {k}) d l c h marks n =
+constant_fine s r (negative {n = i} {k}) d l c frames nodes terms made =
     ((refl, refl, refl), ((refl, refl, limit_fine s.value i k d (c [] [] (after_minus r i k) refl) (rw (abs_neg (ticks s.value i k)) at l)), tt))
 
 atom_fine : (s : Scale) {ts : List Token} {a : Atom} → IsAtom s.value ts a → s.value ≤ 6 → IsAtomInLimits a → Pieces s ts
-    → (h : Bool) (marks : List Mark) (n : ℕ) → Fine (st at_operand h marks n) ts
-atom_fine s (first {k = k} {w} {ts = ts} {us} {vs} {terms} {rel = rel} t u v) d g c h marks n =
-    let r = terms_run u 1 h marks (suc n) in
+    → (frames : List Frame) (nodes : List Node) (made : ℕ) → Fine s (st at_operand frames nodes made) ts
+atom_fine s (first {k = k} {w} {ts = ts} {us} {vs} {terms = more} {rel = rel} t u v) d g c frames nodes made =
     let x = pieces_left s (ts ++ us) (relation rel ∷ vs) c in
     let few = g.few in
-    let e : go (st at_operand h marks n) (ts ++ us) ≡ st (at_sign r.0) h marks (suc n) =
-    go_then (st at_operand h marks n) (st (at_sign 1) h marks (suc n)) (st (at_sign r.0) h marks (suc n)) ts us (first_runs t h marks n) r.1 in
-    fine_then (st at_operand h marks n) (st (at_sign r.0) h marks (suc n)) (ts ++ us) (relation rel ∷ vs)
-    (fine_then (st at_operand h marks n) (st (at_sign 1) h marks (suc n)) ts us
-    (first_fine s t (plus_coefficient k w terms g.terms) (pieces_left s ts us x) h marks n) (first_runs t h marks n)
-    (terms_fine s u 1 (omega (arith, few)) (All-tail IsTermInLimits (record { coef = pos k; name = w }) terms g.terms)
-    (pieces_right s ts us x) h marks (suc n))) e
-    ((refl, refl, refl), constant_fine s rel v d g.limit (pieces_right s (ts ++ us) (relation rel ∷ vs) c) h marks (suc n))
-atom_fine s (signed {us = us} {vs} {terms = terms} {rel = rel} {t = t} u v) d g c h marks n =
-    let r = signed_runs u h marks n in
+    let y = term_of s false k w in
+    let r = terms_run s u frames nodes (y ∷ []) (suc made) in
+    fine_then s (st at_operand frames nodes made) (at at_sign frames nodes (y ∷ more) (suc made)) (ts ++ us) (relation rel ∷ vs)
+    (fine_then s (st at_operand frames nodes made) (at at_sign frames nodes (y ∷ []) (suc made)) ts us
+    (first_fine s t (plus_coefficient k w more g.terms) (pieces_left s ts us x) frames nodes made) (first_runs s t frames nodes made)
+    (terms_fine s u (y ∷ []) (omega (arith, few)) (All-tail IsTermInLimits y more g.terms) (pieces_right s ts us x) frames nodes (suc made)))
+    (go_then s _ _ _ ts us (first_runs s t frames nodes made) r)
+    ((refl, refl, refl), constant_fine s rel v d g.limit (pieces_right s (ts ++ us) (relation rel ∷ vs) c) frames nodes (y ∷ more) (suc made))
+atom_fine s (signed {us = us} {vs} {terms = more} {rel = rel} {t = t} u v) d g c frames nodes made =
     let few = g.few in
-    fine_then (st at_operand h marks n) (st (at_sign r.0) h marks (suc n)) us (relation rel ∷ vs)
-    (signed_fine s u (omega (arith, few)) g.terms (pieces_left s us (relation rel ∷ vs) c) h marks n) r.1
-    ((refl, refl, refl), constant_fine s rel v d g.limit (pieces_right s us (relation rel ∷ vs) c) h marks (suc n))
+    fine_then s (st at_operand frames nodes made) (at at_sign frames nodes (t ∷ more) (suc made)) us (relation rel ∷ vs)
+    (signed_fine s u (omega (arith, few)) g.terms (pieces_left s us (relation rel ∷ vs) c) frames nodes made) (signed_runs s u frames nodes made)
+    ((refl, refl, refl), constant_fine s rel v d g.limit (pieces_right s us (relation rel ∷ vs) c) frames nodes (t ∷ more) (suc made))
 
 -- the nodes before the last two or one
 first_part : (ns ms : List Node) (n : Node) → All IsFit (ns ++ ms ++ n ∷ []) → All IsFit ns
@@ -301,47 +315,56 @@ last_part : (ns ms : List Node) (n : Node) → All IsFit (ns ++ ms ++ n ∷ []) 
 last_part ns ms n f = all_last IsFit (ns ++ ms) n f
 
 module _ (s : Scale) (time : s.time ≤ 6) (value : s.value ≤ 6) where
+  -- the connective after its left side
+  word_fine : (q : State) (w : List ℕ) → q.place ≡ at_end → FineAt (Some q) (word w)
+  word_fine q w e = rw e (refl, refl, refl)
+
   mutual
     unfolding kind
 
     -- the tokens of a formula are so from its start
-    pub derived_fine : {r k : ℕ} {ts : List Token} {ns : List Node} → Derived s r k ts ns → All IsFit ns → Pieces s ts
-        → (marks : List Mark) (n : ℕ) → Fine (st at_operand false marks n) ts
-    derived_fine (joined o {ts = ts} {us} {ns} {ms} l d e) f c marks n =
+    pub derived_fine : {r k : ℕ} {ts : List Token} {ns : List Node} → Derived s r k ts ns → r ≤ 5 → All IsFit ns → Pieces s ts
+        → (frames : List Frame) (nodes : List Node) (made : ℕ) → top_rank frames < max 2 r → length nodes ≡ k
+        → Fine s (st at_operand frames nodes made) ts
+    derived_fine {r} {k} (joined o {ts = ts} {us} {ns} {ms} i d e) five f c frames nodes made l n =
         let w : Token = word (connective_word o) in
-        let m = without_operators marks in
-        let r = left_runs (left_binds o) (left_two o) d marks n in
+        let room = has_room o in
+        let m : top_rank frames < left_binds o = omega (arith, l, i, room.left, room.two) in
+        let (q, g, h) = derived_runs s d room.few frames nodes made (omega (arith, m)) n in
         let x = pieces_rest s w us (pieces_right s ts (w ∷ us) c) in
-        let y = derived_fine e (second_part ns ms _ f) x (after_connective o m) (suc (n + length ns)) in
-        fine_then (st at_operand false marks n) (st at_end r.0 m (n + length ns)) ts (w ∷ us)
-        (derived_fine d (first_part ns ms _ f) (pieces_left s ts (w ∷ us) c) marks n) r.1
-        ((refl, refl, refl), rw (connective_steps o r.0 m (n + length ns)) y)
-    derived_fine (beside of {ts = ts} {us} {vs} {ns} {ms} e l p b q) f c marks n =
+        let y = derived_fine e room.last (second_part ns ms _ f) x (connective_frame o (length (nodes ++ ns) - 1) ∷ frames) (nodes ++ ns)
+        (suc (made + length ns)) room.right (count_is k nodes ns n) in
+        fine_then s (st at_operand frames nodes made) (Some q) ts (w ∷ us)
+        (derived_fine d room.few (first_part ns ms _ f) (pieces_left s ts (w ∷ us) c) frames nodes made (omega (arith, m)) n) g
+        (word_fine q (connective_word o) h.place, rw (connective_steps s o q frames (nodes ++ ns) (made + length ns) m h) y)
+    derived_fine {r} {k} (beside of {a = a} {b} {x} {y} {ts} {us} {vs} {ns} {ms} i four p z q) five f c frames nodes made l n =
         let w : Token = word (timed_word of) in
-        let m = without_operators marks in
-        let x = pieces_rest s w (us ++ vs) (pieces_right s ts (w ∷ (us ++ vs)) c) in
-        let y = bound_then_fine s b q time x (small_bound of _ _ b (last_part ns ms _ f)) true m (suc (n + length ns))
-        (operand_fine q (second_part ns ms _ f) (pieces_right s us vs x) true m (suc (n + length ns))) in
-        fine_then (st at_operand false marks n) (st at_end false m (n + length ns)) ts (w ∷ (us ++ vs))
-        (operand_fine p (first_part ns ms _ f) (pieces_left s ts (w ∷ (us ++ vs)) c) false marks n) (operand_runs p false marks n)
-        ((refl, refl, refl), rw (beside_steps of e m (n + length ns)) y)
-    derived_fine (alone p) f c marks n = operand_fine p f c false marks n
+        let m : top_rank frames < 4 = omega (arith, l, four) in
+        let d = pieces_rest s w (us ++ vs) (pieces_right s ts (w ∷ (us ++ vs)) c) in
+        let g = bound_then_fine s z q time d (small_bound of _ _ z (last_part ns ms _ f)) frames (nodes ++ ns) (suc (made + length ns))
+        (operand_fine q (second_part ns ms _ f) (pieces_right s us vs d) (timed_frame of a b x y (length (nodes ++ ns) - 1) ∷ frames) (nodes ++ ns)
+        (suc (made + length ns)) (count_is k nodes ns n)) in
+        fine_then s (st at_operand frames nodes made) (st at_end frames (nodes ++ ns) (made + length ns)) ts (w ∷ (us ++ vs))
+        (operand_fine p (first_part ns ms _ f) (pieces_left s ts (w ∷ (us ++ vs)) c) frames nodes made n)
+        (operand_runs s p frames nodes made n ∙ operand_state s frames (nodes ++ ns) (made + length ns) (omega (arith, m)))
+        ((refl, refl, refl), rw (beside_steps s of i frames (nodes ++ ns) (made + length ns) m) g)
+    derived_fine (alone p) five f c frames nodes made l n = operand_fine p f c frames nodes made n
 
     operand_fine : {k : ℕ} {ts : List Token} {ns : List Node} → Operand s k ts ns → All IsFit ns → Pieces s ts
-        → (h : Bool) (marks : List Mark) (n : ℕ) → Fine (st at_operand h marks n) ts
-    operand_fine (negated {ts = ts} {ns} p) f c h marks n =
-        ((refl, refl, refl), operand_fine p (all_left IsFit ns _ f) (pieces_rest s (word (codes "not")) ts c) h (operator ∷ marks) (suc n))
-    operand_fine (prefixed of {ts = ts} {us} {ns} e b p) f c h marks n =
-        let x = pieces_rest s (word (timed_word of)) (us ++ ts) c in
-        let y = bound_then_fine s b p time x (small_bound of _ _ b (all_last IsFit ns _ f)) h (operator ∷ marks) (suc n)
-        (operand_fine p (all_left IsFit ns _ f) (pieces_right s us ts x) h (operator ∷ marks) (suc n)) in
-        ((refl, refl, refl), rw (before_steps of e h marks n) y)
-    operand_fine (constant b) f c h marks n = ((refl, refl, refl), tt)
-    operand_fine (enclosed {ts = ts} {ns} d) f c h marks n =
-        let r = derived_runs d (paren h ∷ marks) n in (
+        → (frames : List Frame) (nodes : List Node) (made : ℕ) → length nodes ≡ k → Fine s (st at_operand frames nodes made) ts
+    operand_fine (negated {ts = ts} {ns} p) f c frames nodes made n =
+        ((refl, refl, refl), operand_fine p (all_left IsFit ns _ f) (pieces_rest s (word (codes "not")) ts c) (negation ∷ frames) nodes (suc made) n)
+    operand_fine (prefixed of {a = a} {b} {x} {y} {ts} {us} {ns} i z p) f c frames nodes made n =
+        let d = pieces_rest s (word (timed_word of)) (us ++ ts) c in
+        let g = bound_then_fine s z p time d (small_bound of _ _ z (all_last IsFit ns _ f)) frames nodes (suc made)
+        (operand_fine p (all_left IsFit ns _ f) (pieces_right s us ts d) (timed_frame of a b x y (length nodes - 1) ∷ frames) nodes (suc made) n) in
+        ((refl, refl, refl), rw (before_steps s of i frames nodes made) g)
+    operand_fine (constant b) f c frames nodes made n = ((refl, refl, refl), tt)
+    operand_fine (enclosed {ts = ts} {ns} d) f c frames nodes made n =
+        let (q, g, h) = derived_runs s d (omega arith) (paren ∷ frames) nodes made (omega arith) n in (
           (refl, refl, refl),
-          fine_then (st at_operand false (paren h ∷ marks) n) (st at_end r.0 r.1 (n + length ns)) ts (close_paren ∷ [])
-              (derived_fine d f (pieces_left s ts (close_paren ∷ []) (pieces_rest s open_paren (ts ++ close_paren ∷ []) c)) (paren h ∷ marks) n) r.3
-              ((refl, refl, refl), tt),
+          fine_then s (st at_operand (paren ∷ frames) nodes made) (Some q) ts (close_paren ∷ [])
+              (derived_fine d (omega arith) f (pieces_left s ts (close_paren ∷ []) (pieces_rest s open_paren (ts ++ close_paren ∷ []) c)) (paren ∷ frames)
+              nodes made (omega arith) n) g (rw h.place (refl, refl, refl), tt),
         )
-    operand_fine (compared x) f c h marks n = let fit = all_last IsFit [] _ f in atom_fine s x value fit.atom c h marks n
+    operand_fine (compared x) f c frames nodes made n = let fit = all_last IsFit [] _ f in atom_fine s x value fit.atom c frames nodes made

@@ -28,13 +28,12 @@ use Rattle.stl_syntax.specs.declared.node.Node.TheVariants.{Const, Atom as Leaf,
 use Rattle.stl_grammar.specs.Grammar.{Token, word, number, relation, open_paren, close_paren, open_bracket, close_bracket, comma, star, plus, minus, Lexes}
 use Rattle.stl_grammar.specs.Grammar.{IsConstant, plain, negative, IsTerm, scaled, AreTerms, more_plus, more_minus, IsAtom, first, signed}
 use Rattle.stl_grammar.specs.Grammar.{name as term_name, none as no_terms, IsFormula, first_decimals, time_digits}
-use Rattle.stl_grammar.specs.Machine.{Owner, of_until, of_since, of_future, of_past, looks_back, may_be_open}
-use Rattle.stl_grammar.specs.Refusing.{owner, is_beside}
+use Rattle.stl_grammar.specs.Operators.{is_beside, looks_back, may_be_open}
 use Rattle.stl_grammar.specs.Tokens.{blank}
-use Rattle.stl_grammar.specs.declared.place.Timed.{Timed}
-use Rattle.stl_grammar.specs.declared.place.Timed.TheVariants.{Until as TUntil, Since as TSince, Eventually as TEventually}
-use Rattle.stl_grammar.specs.declared.place.Timed.TheVariants.{Always as TAlways, Once as TOnce, Historically as THistorically}
-use Rattle.stl_grammar.proofs.Derivations.{Connective, by_and, by_or, by_implies, connective_word, connective_node, timed_word, timed_node, upper}
+use Rattle.stl_grammar.specs.declared.operator.Timed.{Timed}
+use Rattle.stl_grammar.specs.declared.operator.Timed.TheVariants.{Until as TUntil, Since as TSince, Eventually as TEventually}
+use Rattle.stl_grammar.specs.declared.operator.Timed.TheVariants.{Always as TAlways, Once as TOnce, Historically as THistorically}
+use Rattle.stl_grammar.proofs.Derivations.{Connective, by_and, by_or, by_implies, connective_word, connective_node, timed_word, timed_node}
 use Rattle.stl_grammar.proofs.Derivations.{Opens, opens_in, opens_out, Closes, closes_in, closes_out, by_brackets, Bounded, left_out, within, endless}
 use Rattle.stl_grammar.proofs.Derivations.{Operand, negated, prefixed, constant, enclosed, compared, Derived, joined, beside, alone, one_binds, as_formula}
 use Rattle.stl_grammar.proofs.TokenEnds.{derived_ends, operand_ends, short_atom, short_signed}
@@ -173,11 +172,11 @@ closing_read true = (close_bracket, bracket_end_lexed, λ z. (refl, refl))
 closing_read false = (open_bracket, bracket_lexed, λ z. (refl, refl))
 
 -- the operator may have such an end
-opening_fits : (o : Owner) (x : Bool) → may_be_open o || x ≡ true → Opens o (opening_read x).0 x
+opening_fits : (o : Timed) (x : Bool) → may_be_open o || x ≡ true → Opens o (opening_read x).0 x
 opening_fits o true e = opens_in
 opening_fits o false e = opens_out (sym (or-false (may_be_open o)) ∙ e)
 
-closing_fits : (o : Owner) (x : Bool) → may_be_open o || x ≡ true → Closes o (closing_read x).0 x
+closing_fits : (o : Timed) (x : Bool) → may_be_open o || x ≡ true → Closes o (closing_read x).0 x
 closing_fits o true e = closes_in
 closing_fits o false e = closes_out (sym (or-false (may_be_open o)) ∙ e)
 
@@ -196,30 +195,30 @@ about_parts : (a_in b_in : Bool) (low high : List ℕ) → Parts (opening a_in +
 about_parts true b_in low high z = (refl, refl)
 about_parts false b_in low high z = (refl, refl)
 
-bound_time : {o : Owner} {t u : Token} {x y : Bool} (v i w j d : ℕ) → i ≤ d → j ≤ d → Opens o t x → Closes o u y
+bound_time : {o : Timed} {t u : Token} {x y : Bool} (v i w j d : ℕ) → i ≤ d → j ≤ d → Opens o t x → Closes o u y
     → time_digits (t ∷ number v i ∷ comma ∷ number w j ∷ u ∷ []) ≤ d
 bound_time v i w j d l m = by_brackets (λ t u. time_digits (t ∷ number v i ∷ comma ∷ number w j ∷ u ∷ []) ≤ d)
     (omega arith) (omega arith) (omega arith) (omega arith)
 
-inf_time : {o : Owner} {t u : Token} {x y : Bool} (v i d : ℕ) → i ≤ d → Opens o t x → Closes o u y
+inf_time : {o : Timed} {t u : Token} {x y : Bool} (v i d : ℕ) → i ≤ d → Opens o t x → Closes o u y
     → time_digits (t ∷ number v i ∷ comma ∷ word (codes "inf") ∷ u ∷ []) ≤ d
 inf_time v i d l = by_brackets (λ t u. time_digits (t ∷ number v i ∷ comma ∷ word (codes "inf") ∷ u ∷ []) ≤ d)
     (omega arith) (omega arith) (omega arith) (omega arith)
 
 -- what a bound's text is read as, after a word
-abbrev BoundRead : Scale → Owner → ℕ → Option ℕ → Bool → Bool → List ℕ → Type 0
+abbrev BoundRead : Scale → Timed → ℕ → Option ℕ → Bool → Bool → List ℕ → Type 0
 BoundRead s o a b x y text = (us : List Token) × ((w : List ℕ) (ts : List Token) → Lexed w ts → Lexed (w ++ text) (ts ++ us))
     × Bounded s.time o us a b x y × (time_digits us ≤ s.time)
 
 -- a bound whose numbers are within the limits, with brackets that the operator may have
-record IsOf (o : Owner) (a : ℕ) (b : Option ℕ) (x y : Bool) : Type 0 where
+record IsOf (o : Timed) (a : ℕ) (b : Option ℕ) (x y : Bool) : Type 0 where
   order : IsInOrder a b
   reach : reach_of_bound a b ≤ 4294967295
   infinite : IsInWhereInfinite b y
   low : may_be_open o || x ≡ true
   high : may_be_open o || y ≡ true
 
-within_read : (s : Scale) (o : Owner) (a b : ℕ) (x y : Bool) (text : List ℕ) → a < 2 ^ 64 → b < 2 ^ 64 → Opens o (opening_read x).0 x
+within_read : (s : Scale) (o : Timed) (a b : ℕ) (x y : Bool) (text : List ℕ) → a < 2 ^ 64 → b < 2 ^ 64 → Opens o (opening_read x).0 x
     → Closes o (closing_read y).0 y → IsBoundText s a (Some b) x y text → BoundRead s o a (Some b) x y text
 within_read s o a b x y text l m c d (low, high, h, k, e) =
     let (v, i, z, f, f1, f2) = number_text s.time a low l h in
@@ -230,7 +229,7 @@ within_read s o a b x y text l m c d (low, high, h, k, e) =
     let n : Bounded s.time o us (ticks s.time v i) (Some (ticks s.time w j)) x y = within c d in
     (us, λ y ts r. any_lexed (y ++ text) (ts ++ us) (parted_any y text ts us r p t), rw (f, g) at n, bound_time v i w j s.time f1 g1 c d)
 
-endless_read : (s : Scale) (o : Owner) (a : ℕ) (x y : Bool) (text : List ℕ) → a < 2 ^ 64 → looks_back o ≡ true → y ≡ true
+endless_read : (s : Scale) (o : Timed) (a : ℕ) (x y : Bool) (text : List ℕ) → a < 2 ^ 64 → looks_back o ≡ true → y ≡ true
     → Opens o (opening_read x).0 x → Closes o (closing_read y).0 y → IsBoundText s a None x y text → BoundRead s o a None x y text
 endless_read s o a x y text l back all c d (low, high, h, k, e) =
     let (v, i, z, f, f1, f2) = number_text s.time a low l h in
@@ -242,7 +241,7 @@ endless_read s o a x y text l back all c d (low, high, h, k, e) =
     let m : Bounded s.time o us a None x y = subst (λ z. Bounded s.time o us a None x z) (sym all) (rw f at n) in
     (us, λ y ts r. any_lexed (y ++ text) (ts ++ us) (parted_any y text ts us r p t), m, inf_time v i s.time f1 c d)
 
-bound_read : (s : Scale) (o : Owner) (a : ℕ) (b : Option ℕ) (x y : Bool) (text : List ℕ) → IsOf o a b x y → looks_back o ≡ true ⊎ Some (upper b) ≡ b
+bound_read : (s : Scale) (o : Timed) (a : ℕ) (b : Option ℕ) (x y : Bool) (text : List ℕ) → IsOf o a b x y → looks_back o ≡ true ⊎ Some (reach_of_bound a b) ≡ b
     → IsBoundText s a b x y text → BoundRead s o a b x y text
 bound_read s o a (Some b) x y text l back h =
     let order = l.order in let reach = l.reach in
@@ -252,7 +251,7 @@ bound_read s o a None x y text l (inl back) h =
     let reach = l.reach in endless_read s o a x y text (omega arith) back l.infinite (opening_fits o x l.low) (closing_fits o y l.high) h
 
 -- the bound of an operator that looks back may be left out
-past_read : (s : Scale) (o : Owner) (a : ℕ) (b : Option ℕ) (x y : Bool) (text : List ℕ) → IsOf o a b x y → looks_back o ≡ true
+past_read : (s : Scale) (o : Timed) (a : ℕ) (b : Option ℕ) (x y : Bool) (text : List ℕ) → IsOf o a b x y → looks_back o ≡ true
     → IsPastBoundText s a b x y text → BoundRead s o a b x y text
 past_read s o a (Some b) x y text l back h = bound_read s o a (Some b) x y text l (inl back) h
 past_read s o a None x y text l back h = split ((a == 0) && x) refl
@@ -359,7 +358,7 @@ module _ (s : Scale) (at : ℕ → Subformula) where
 
   -- an operator with a bound before its operand
   timed_read : (of : Timed) → is_beside of ≡ false → (k : ℕ) (ns : List Node) (a : ℕ) (b : Option ℕ) (x y : Bool) (Bound : List ℕ → Type 0)
-      → ((bd : List ℕ) → Bound bd → BoundRead s (owner of) a b x y bd) → (text : List ℕ) → Reads k ns (top k ns)
+      → ((bd : List ℕ) → Bound bd → BoundRead s of a b x y bd) → (text : List ℕ) → Reads k ns (top k ns)
       → Before (WithBound (timed_word of) Bound) (Printed (top k ns)) text → Parsed s k false text (ns ++ timed_node of a b x y 0 (top k ns) ∷ [])
   timed_read of side k ns a b x y Bound read text f (w, z, (bd, g, gw), h, e) =
       let (ts, c, d, sh) = f z h in
@@ -385,21 +384,21 @@ module _ (s : Scale) (at : ℕ → Subformula) where
             neat_word s (codes "not") ts sh,
           )
   one_read k i ns (Eventually p a b x y) text e f r h =
-      let l : IsOf of_future a (Some b) x y = record { order = f.bounds; reach = f.reach; infinite = tt; low = refl; high = refl } in
+      let l : IsOf TEventually a (Some b) x y = record { order = f.bounds; reach = f.reach; infinite = tt; low = refl; high = refl } in
       let g : p ≡ top k ns = cc in
-      rw g (timed_read TEventually refl k ns a (Some b) x y _ (λ bd h. bound_read s of_future a (Some b) x y bd l (inr refl) h) text r (rw g at h))
+      rw g (timed_read TEventually refl k ns a (Some b) x y _ (λ bd h. bound_read s TEventually a (Some b) x y bd l (inr refl) h) text r (rw g at h))
   one_read k i ns (Always p a b x y) text e f r h =
-      let l : IsOf of_future a (Some b) x y = record { order = f.bounds; reach = f.reach; infinite = tt; low = refl; high = refl } in
+      let l : IsOf TAlways a (Some b) x y = record { order = f.bounds; reach = f.reach; infinite = tt; low = refl; high = refl } in
       let g : p ≡ top k ns = cc in
-      rw g (timed_read TAlways refl k ns a (Some b) x y _ (λ bd h. bound_read s of_future a (Some b) x y bd l (inr refl) h) text r (rw g at h))
+      rw g (timed_read TAlways refl k ns a (Some b) x y _ (λ bd h. bound_read s TAlways a (Some b) x y bd l (inr refl) h) text r (rw g at h))
   one_read k i ns (Once p a b x y) text e f r h =
-      let l : IsOf of_past a b x y = record { order = f.bounds.0; reach = f.reach; infinite = f.bounds.1; low = refl; high = refl } in
+      let l : IsOf TOnce a b x y = record { order = f.bounds.0; reach = f.reach; infinite = f.bounds.1; low = refl; high = refl } in
       let g : p ≡ top k ns = cc in
-      rw g (timed_read TOnce refl k ns a b x y _ (λ bd h. past_read s of_past a b x y bd l refl h) text r (rw g at h))
+      rw g (timed_read TOnce refl k ns a b x y _ (λ bd h. past_read s TOnce a b x y bd l refl h) text r (rw g at h))
   one_read k i ns (Historically p a b x y) text e f r h =
-      let l : IsOf of_past a b x y = record { order = f.bounds.0; reach = f.reach; infinite = f.bounds.1; low = refl; high = refl } in
+      let l : IsOf THistorically a b x y = record { order = f.bounds.0; reach = f.reach; infinite = f.bounds.1; low = refl; high = refl } in
       let g : p ≡ top k ns = cc in
-      rw g (timed_read THistorically refl k ns a b x y _ (λ bd h. past_read s of_past a b x y bd l refl h) text r (rw g at h))
+      rw g (timed_read THistorically refl k ns a b x y _ (λ bd h. past_read s THistorically a b x y bd l refl h) text r (rw g at h))
   one_read k i ns _ text e f r h = absurd (cc)
 
   -- a connective between its operands
@@ -419,7 +418,7 @@ module _ (s : Scale) (at : ℕ → Subformula) where
 
   -- and an operator with a bound
   beside_read : (of : Timed) → is_beside of ≡ true → (k : ℕ) (ns ms : List Node) (a : ℕ) (b : Option ℕ) (Bound : List ℕ → Type 0)
-      → ((bd : List ℕ) → Bound bd → BoundRead s (owner of) a b true true bd) → (text : List ℕ) → Reads k ns (top k ns)
+      → ((bd : List ℕ) → Bound bd → BoundRead s of a b true true bd) → (text : List ℕ) → Reads k ns (top k ns)
       → Reads (k + length ns) ms (top (k + length ns) ms)
       → Between (Printed (top k ns)) (WithBound (timed_word of) Bound) (Printed (top (k + length ns) ms)) text
       → Parsed s k true text (ns ++ ms ++ timed_node of a b true true (top k ns) (top (k + length ns) ms) ∷ [])
@@ -443,13 +442,13 @@ module _ (s : Scale) (at : ℕ → Subformula) where
   two_read k i ns ms (Implies p q) text e f r t h =
       let g : p ≡ top k ns = cc in let j : q ≡ top (k + length ns) ms = cc in rw (g, j) (connective_read by_implies k ns ms text r t (rw (g, j) at h))
   two_read k i ns ms (Until p q a b) text e f r t h =
-      let l : IsOf of_until a (Some b) true true = record { order = f.bounds; reach = f.reach; infinite = tt; low = refl; high = refl } in
+      let l : IsOf TUntil a (Some b) true true = record { order = f.bounds; reach = f.reach; infinite = tt; low = refl; high = refl } in
       let g : p ≡ top k ns = cc in let j : q ≡ top (k + length ns) ms = cc in
-      rw (g, j) (beside_read TUntil refl k ns ms a (Some b) _ (λ bd h. bound_read s of_until a (Some b) true true bd l (inr refl) h) text r t (rw (g, j) at h))
+      rw (g, j) (beside_read TUntil refl k ns ms a (Some b) _ (λ bd h. bound_read s TUntil a (Some b) true true bd l (inr refl) h) text r t (rw (g, j) at h))
   two_read k i ns ms (Since p q a b) text e f r t h =
-      let l : IsOf of_since a b true true = record { order = f.bounds; reach = f.reach; infinite = closed b; low = refl; high = refl } in
+      let l : IsOf TSince a b true true = record { order = f.bounds; reach = f.reach; infinite = closed b; low = refl; high = refl } in
       let g : p ≡ top k ns = cc in let j : q ≡ top (k + length ns) ms = cc in
-      rw (g, j) (beside_read TSince refl k ns ms a b _ (λ bd h. past_read s of_since a b true true bd l refl h) text r t (rw (g, j) at h))
+      rw (g, j) (beside_read TSince refl k ns ms a b _ (λ bd h. past_read s TSince a b true true bd l refl h) text r t (rw (g, j) at h))
     where
       closed : (b : Option ℕ) → IsInWhereInfinite b true
       closed None = refl

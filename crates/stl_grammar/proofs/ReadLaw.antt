@@ -1,28 +1,26 @@
 -- The reading of a text, token by token.
 use Rattle.std.proofs.Common.{◌≡◌, ℕ, suc, ◌+◌, ◌-◌, ◌<◌, ◌≤◌, List, [], ◌∷◌, ◌++◌, length, drop, get_or, reverse}
 use Rattle.std.proofs.Common.{map, refl, sym, ap, ◌∙◌, subst, true, false, arith, inl, inr, append_assoc}
-use Rattle.std.specs.Prelude.{Option, Some, None}
+use Rattle.std.specs.Prelude.{Some, None}
 use Rattle.std.proofs.lemmas.List.{drop_more, drop-drop, drop_at, length-append, length-drop, drop_all, append-nil, reverse-append, map-append}
 use Rattle.stl_syntax.specs.Characters.{is_blank}
 use Rattle.stl_grammar.specs.Tokens.{Token, IsToken, a_word}
 use Rattle.stl_grammar.specs.Tokens.{Lexes, nothing, token, blank as skip}
 use Rattle.stl_grammar.specs.FormulaRefusals.{TokenFault, blank, bad_byte, here, later, at_end, BeginsNoToken, MayEnd, RefusedAt, expected}
-use Rattle.stl_grammar.specs.Machine.{run, ends_at}
-use Rattle.stl_grammar.specs.Parsing.{Parse, parse_step}
-use Rattle.stl_grammar.specs.Refusing.{state_of, refused, expected_in, place_at, marks_of}
-use Rattle.stl_grammar.specs.Taken.{Taken, none, more, plain, empty_parse}
+use Rattle.stl_grammar.specs.Parsing.{Parse}
+use Rattle.stl_grammar.specs.Refusing.{refused, expected_in, is_whole_in}
+use Rattle.stl_syntax.specs.declared.scale.Scale.{Scale}
+use Rattle.stl_grammar.specs.Machine.{run, ends_at, ranks}
+use Rattle.stl_grammar.specs.States.{place_in, frames_in, state_in}
+use Rattle.stl_grammar.specs.Taken.{plain, empty_parse}
+use Rattle.stl_grammar.proofs.ParserStates.{ranks_same}
 use Rattle.stl_grammar.specs.ReadText.{Advances, Refuses, Stops, IsRead}
-use Rattle.stl_grammar.proofs.ParserView.{IsFit}
-use Rattle.stl_grammar.proofs.ParserFit.{Holds, fit_step}
-use Rattle.stl_grammar.proofs.RefusingLaw.{refused_rightly, taken, IsTaken, expected_same}
+use Rattle.stl_grammar.proofs.RefusingLaw.{no_digits, refused_rightly, taken, IsTaken, expected_same}
 use Rattle.stl_grammar.proofs.MachineBegins.{run_ends}
 use Rattle.stl_grammar.proofs.MachineRuns.{run_goes_on}
 use Rattle.stl_grammar.proofs.MachineView.{run_expected}
 use Rattle.stl_grammar.proofs.RefusalLaw.{token-unique, no_token_at_blank, no_token_at_end}
 use Rattle.stl_grammar.specs.declared.token.Token.{Token as Code}
-use Rattle.stl_grammar.specs.declared.place.Place.{Place}
-use Rattle.stl_grammar.specs.declared.place.Place.TheVariants.{Term as AtTerm, Star as AtStar, Name as AtName}
-use Rattle.stl_grammar.specs.declared.place.Place.TheVariants.{Number as AtNumber}
 use Rattle.stl_grammar.specs.declared.fault.FormulaFault.{FormulaFault}
 use Rattle.stl_grammar.specs.declared.fault.FormulaFault.TheVariants.{Expected, BadByte}
 
@@ -30,12 +28,8 @@ use Rattle.stl_grammar.specs.declared.fault.FormulaFault.TheVariants.{Expected, 
 pub record HasRead (text : List ℕ) (at : ℕ) (p : Parse) (codes : List Code) : Type 0 where
   -- the tokens so far, the last one first
   pub before : List Token
-  -- what was taken of the text
-  pub taken : Taken text before p
-  -- the machine has read them
-  pub runs : run before ≡ Some (state_of p)
-  -- the frames are in order
-  pub fit : IsFit p
+  -- the parser is in the machine's state after them, at each scale
+  pub runs : (s : Scale) → run s before ≡ Some (state_in s p)
   -- there are 256 nodes at most
   pub few : p.made ≤ 256
   -- the place is in the text
@@ -53,9 +47,7 @@ pub record HasRead (text : List ℕ) (at : ℕ) (p : Parse) (codes : List Code) 
 pub read_nothing : (text : List ℕ) → HasRead text 0 empty_parse []
 read_nothing text = record {
   before = [];
-  taken = none;
-  runs = refl;
-  fit = record { order = refl; place = refl };
+  runs = λ s. refl;
   few = omega arith;
   within = omega arith;
   spelled = refl;
@@ -103,13 +95,8 @@ add_blank {before} {p} {q} {c} {text} {r} b e f = blank {before = before} {p = p
 moved_fault : {before : List Token} {a b : ℕ} {xs ys : List ℕ} {r : FormulaFault} → a ≡ b → ys ≡ xs → TokenFault before a ys r → TokenFault before b xs r
 moved_fault {before} {a} {b} {xs} {ys} {r} e f g = subst (λ n. TokenFault before n xs r) e (subst (λ zs. TokenFault before a zs r) f g)
 
-ends_same : (place : Place) (p : Parse) → p.place ≡ place
-    → ends_at (state_of p).place (state_of p).marks ≡ ends_at (place_at p.place (length p.terms)) (marks_of p.frames)
-ends_same (AtTerm negative) p e = rw e refl
-ends_same (AtStar negative coef) p e = rw e refl
-ends_same (AtName negative coef) p e = rw e refl
-ends_same (AtNumber rel negative) p e = rw e refl
-ends_same _ p e = rw e refl
+ends_same : (p : Parse) → ends_at (place_in p.place) (ranks (frames_in no_digits p.frames)) ≡ is_whole_in p
+ends_same p = ap (λ z. ends_at (place_in p.place) z) (ranks_same no_digits p.frames)
 
 module _ (text : List ℕ) (at : ℕ) (p : Parse) (codes : List Code) (h : HasRead text at p codes) where
   first : at < length text → drop at text ≡ get_or text at 0 ∷ drop (at + 1) text
@@ -121,9 +108,7 @@ module _ (text : List ℕ) (at : ℕ) (p : Parse) (codes : List Code) (h : HasRe
       let next : suc at ≡ at + 1 = omega arith in
       record {
         before = h.before;
-        taken = h.taken;
         runs = h.runs;
-        fit = h.fit;
         few = h.few;
         within = omega arith;
         spelled = h.spelled;
@@ -145,7 +130,7 @@ module _ (text : List ℕ) (at : ℕ) (p : Parse) (codes : List Code) (h : HasRe
       let x = f.lexeme in
       let rest : drop (at + f.len) text ≡ x.after = rest_after x.bytes x.after f.len x.splits x.size in
       let e : refused text p f.code x.after at ≡ Some r = rw rest at f.refused in
-      h.fault r (here x.token x.bytes x.after x.splits x.reads (refused_rightly text x.after h.before p f.code x.token at h.runs h.fit x.spells r e))
+      h.fault r (here x.token x.bytes x.after x.splits x.reads (refused_rightly text x.after h.before p f.code x.token at h.runs x.spells r e))
 
   -- so where the parser stops
   pub read_stops : (r : FormulaFault) → at < length text → is_blank (get_or text at 0) ≡ false → Stops text at p r → TokenFault [] 0 text r
@@ -158,16 +143,14 @@ module _ (text : List ℕ) (at : ℕ) (p : Parse) (codes : List Code) (h : HasRe
       let x = f.lexeme in
       let rest : drop (at + f.len) text ≡ x.after = rest_after x.bytes x.after f.len x.splits x.size in
       let e : refused text p f.code x.after at ≡ None = rw rest at f.free in
-      let k : IsTaken text x.after h.before p f.code x.token at h.runs h.fit x.spells q =
-      taken text x.after h.before p f.code x.token at h.runs h.fit x.spells q e f.step in
+      let k : IsTaken text x.after h.before p f.code x.token at h.runs x.spells q =
+      taken text x.after h.before p f.code x.token at h.runs x.spells q e f.step in
       let end : at + length x.bytes ≡ to = ap (λ n. at + n) x.size ∙ sym f.place in
       let after : drop to text ≡ x.after = ap (λ n. drop n text) f.place ∙ rest in
       let long : length text - at ≡ length x.bytes + length x.after = sym (length-drop at text) ∙ (ap length x.splits ∙ length-append x.bytes x.after) in
       record {
         before = x.token ∷ h.before;
-        taken = more x.token f.code h.taken x.spells k.good k.order f.step;
         runs = k.next;
-        fit = kept (parse_step text p f.code) q f.step (fit_step text p f.code h.fit);
         few = k.few;
         within = within_text at (length text) (length x.bytes) (length x.after) to h.within long end;
         spelled = spelled_more k.exact;
@@ -176,10 +159,6 @@ module _ (text : List ℕ) (at : ℕ) (p : Parse) (codes : List Code) (h : HasRe
         lexed = λ ts g. lexed_more ts (h.lexed (x.token ∷ ts) (token x.bytes x.after x.splits x.reads (rw after at g)));
       }
     where
-      kept : (o : Option Parse) (q : Parse) → o ≡ Some q → Holds IsFit o → IsFit q
-      kept None q e g = absurd (cc)
-      kept (Some a) q e g = let s : a ≡ q = cc in subst IsFit s g
-
       within_text : (a l b c to : ℕ) → a ≤ l → l - a ≡ b + c → a + b ≡ to → to ≤ l
       within_text a l b c to i j k = omega (arith, i, j, k)
 
@@ -194,13 +173,13 @@ module _ (text : List ℕ) (at : ℕ) (p : Parse) (codes : List Code) (h : HasRe
           (sym (append_assoc (reverse h.before) (f.lexeme.token ∷ []) ts) ∙ ap (λ xs. xs ++ ts) (sym (reverse-append (f.lexeme.token ∷ []) h.before))) g
 
   -- at the end
-  pub read_all : length text ≤ at → ends_at (place_at p.place (length p.terms)) (marks_of p.frames) ≡ true → IsRead text p codes
+  pub read_all : length text ≤ at → is_whole_in p ≡ true → IsRead text p codes
   read_all l e =
       let none_left : drop at text ≡ [] = drop_all at text l in
-      let ended : MayEnd h.before = run_ends h.before (state_of p) h.runs (ends_same p.place p refl ∙ e) in
+      let ended : MayEnd h.before = run_ends no_digits h.before (state_in no_digits p) (h.runs no_digits) (ends_same p ∙ e) in
       record {
         before = h.before;
-        taken = h.taken;
+        reads = h.runs;
         spelled = h.spelled;
         lexed = subst (λ xs. Lexes text xs) (append-nil (reverse h.before)) (h.lexed [] (rw none_left nothing));
         ended = ended;
@@ -208,11 +187,12 @@ module _ (text : List ℕ) (at : ℕ) (p : Parse) (codes : List Code) (h : HasRe
       }
 
   -- a text that ends too early lacks what is expected
-  pub read_part : length text ≤ at → ends_at (place_at p.place (length p.terms)) (marks_of p.frames) ≡ false
+  pub read_part : length text ≤ at → is_whole_in p ≡ false
       → TokenFault [] 0 text (Expected (length text) (expected_in p))
   read_part l e =
       let none_left : drop at text ≡ [] = drop_all at text l in
       let place : at ≡ length text = omega (arith, h.within) in
-      let what : expected h.before ≡ expected_in p = run_expected h.before (state_of p) h.runs ∙ expected_same p.place 0 p refl in
-      let f : TokenFault h.before at [] (Expected at (expected h.before)) = at_end (run_goes_on h.before (state_of p) h.runs (ends_same p.place p refl ∙ e)) in
+      let what : expected h.before ≡ expected_in p = run_expected no_digits h.before (state_in no_digits p) (h.runs no_digits) ∙ expected_same p in
+      let f : TokenFault h.before at [] (Expected at (expected h.before)) =
+      at_end (run_goes_on no_digits h.before (state_in no_digits p) (h.runs no_digits) (ends_same p ∙ e)) in
       h.fault (Expected (length text) (expected_in p)) (rw (none_left, ← what, ← place) f)

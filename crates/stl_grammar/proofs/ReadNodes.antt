@@ -1,8 +1,8 @@
 -- The nodes of a text that is not refused: their bounds are in order, and their atoms have few terms.
 use Rattle.std.proofs.Common.{◌≡◌, ℕ, suc, ◌+◌, ◌-◌, ◌*◌, ◌^◌, ◌<◌, ◌≤◌, List, [], ◌∷◌, ◌++◌, length}
-use Rattle.std.proofs.Common.{refl, ap, sym, ◌∙◌, subst, Bool, true, false, arith, append_assoc, lit<}
+use Rattle.std.proofs.Common.{refl, ap, sym, ◌∙◌, subst, Bool, true, false, arith, append_assoc, lit<, max}
 use Rattle.std.specs.Prelude.{codes, reverse, nat_lt, Option, Some, None, All, ◌==◌}
-use Rattle.std.proofs.lemmas.List.{append-nil, reverse-append, reverse-reverse}
+use Rattle.std.proofs.lemmas.List.{append-nil, length_push, reverse-append, reverse-reverse}
 use Rattle.std.proofs.Math.Nat.{mul-le-mul_right, le_of_mul-le-mul_right, mul-pos, one-le-pow}
 use Rattle.std.proofs.lemmas.Nat.{pow-add}
 use Rattle.std.proofs.lemmas.Bool.Decides.{nat_tests}
@@ -21,18 +21,18 @@ use Rattle.stl_grammar.specs.Grammar.{AreTerms, more_plus, more_minus, IsAtom, f
 use Rattle.stl_grammar.specs.Grammar.{none as no_terms}
 use Rattle.stl_grammar.specs.FormulaRefusals.{TokenFault, nodes_made}
 use Rattle.stl_grammar.specs.Building.{HasFewTerms, AreNodes}
-use Rattle.stl_grammar.specs.Machine.{kind, Owner, of_until, of_future, at_operand, at_bound, at_term, at_sign, at_end, Mark, paren, operator}
-use Rattle.stl_grammar.specs.Machine.{State, start, without_operators, step_from, run, fifth_at}
-use Rattle.stl_grammar.specs.Refusing.{owner, is_beside}
+use Rattle.stl_grammar.specs.Operators.{is_beside, left_binds}
+use Rattle.stl_grammar.specs.Machine.{kind, at_operand, at_bound, at_term, at_sign, at_end, Frame, paren, negation, State, start, top_rank, timed_frame}
+use Rattle.stl_grammar.specs.Machine.{connective_frame, step_from, run, fifth_at}
 use Rattle.stl_grammar.specs.declared.fault.FormulaFault.{FormulaFault}
-use Rattle.stl_grammar.specs.declared.place.Timed.{Timed}
-use Rattle.stl_grammar.specs.declared.place.Timed.TheVariants.{Until as TUntil, Since as TSince, Eventually as TEventually, Always as TAlways}
-use Rattle.stl_grammar.proofs.Derivations.{Connective, by_and, connective_word, connective_node, left_binds, left_two, timed_word, timed_node, Bounded}
+use Rattle.stl_grammar.specs.declared.operator.Timed.{Timed}
+use Rattle.stl_grammar.specs.declared.operator.Timed.TheVariants.{Until as TUntil, Since as TSince, Eventually as TEventually, Always as TAlways}
+use Rattle.stl_grammar.proofs.Derivations.{Connective, by_and, connective_word, connective_node, left_binds, timed_word, timed_node, Bounded}
 use Rattle.stl_grammar.proofs.Derivations.{left_out, within, endless, has_upper, Operand, negated, prefixed, constant, enclosed, compared}
 use Rattle.stl_grammar.proofs.Derivations.{Derived, joined, beside, alone, formula_derived, operand_begins}
-use Rattle.stl_grammar.proofs.MachineRuns.{go, st, run_go, term_runs, first_runs, skips, opens_step, closes_step, inf_step}
-use Rattle.stl_grammar.proofs.MachineRuns.{after_connective, connective_steps, beside_steps, before_steps}
-use Rattle.stl_grammar.proofs.MachineRuns.{derived_runs, left_runs, operand_runs}
+use Rattle.stl_grammar.proofs.MachineRuns.{go, at, st, timed_st, run_go, term_of, term_runs, first_runs, skips, opens_step, closes_step, ends_step, inf_step}
+use Rattle.stl_grammar.proofs.MachineRuns.{connective_steps, beside_steps, before_steps, count_is, operand_state, has_room}
+use Rattle.stl_grammar.proofs.MachineRuns.{derived_runs, operand_runs, formula_runs}
 use Rattle.stl_grammar.proofs.MachineView.{run_fifth, run_nodes}
 use Rattle.stl_grammar.proofs.TokensTaken.{AreFree, tokens_free}
 
@@ -67,24 +67,24 @@ mutual
 -- the token begins no fifth term
 abbrev FineAt : Option State → Token → Type 0
 FineAt None t = Unit {0}
-FineAt (Some s) t = fifth_at s.place t ≡ false
+FineAt (Some q) t = fifth_at q.place (length q.terms) t ≡ false
 
 -- nor do those after it
-abbrev Fine : Option State → List Token → Type 0
-Fine o [] = Unit {0}
-Fine o (t ∷ ts) = FineAt o t × Fine (step_from o t) ts
+abbrev Fine : Scale → Option State → List Token → Type 0
+Fine s o [] = Unit {0}
+Fine s o (t ∷ ts) = FineAt o t × Fine s (step_from s o t) ts
 
-fine_split : (o : Option State) (ts us : List Token) → Fine o (ts ++ us) → Fine o ts × Fine (go o ts) us
-fine_split o [] us h = (tt, h)
-fine_split o (t ∷ ts) us h = let x = fine_split (step_from o t) ts us h.1 in ((h.0, x.0), x.1)
+fine_split : (s : Scale) (o : Option State) (ts us : List Token) → Fine s o (ts ++ us) → Fine s o ts × Fine s (go s o ts) us
+fine_split s o [] us h = (tt, h)
+fine_split s o (t ∷ ts) us h = let x = fine_split s (step_from s o t) ts us h.1 in ((h.0, x.0), x.1)
 
-free_fine : (before ts : List Token) → AreFree before ts → Fine (run before) ts
-free_fine before [] h = tt
-free_fine before (t ∷ ts) h = (split (run before) refl, free_fine (t ∷ before) ts h.1)
+free_fine : (s : Scale) (before ts : List Token) → AreFree before ts → Fine s (run s before) ts
+free_fine s before [] h = tt
+free_fine s before (t ∷ ts) h = (split (run s before) refl, free_fine s (t ∷ before) ts h.1)
   where
-    split : (o : Option State) → run before ≡ o → FineAt (run before) t
+    split : (o : Option State) → run s before ≡ o → FineAt (run s before) t
     split None e = rw e tt
-    split (Some s) e = rw e (sym (run_fifth before s e t) ∙ h.0.terms)
+    split (Some q) e = rw e (sym (run_fifth s before q e t) ∙ h.0.terms)
 
 free_order : (before pre post : List Token) (a j b k : ℕ) → AreFree before (pre ++ number a j ∷ comma ∷ number b k ∷ post)
     → nat_lt (b * 10 ^ j) (a * 10 ^ k) ≡ false
@@ -141,7 +141,7 @@ ticks_order digits a j b k l m e =
     not_less n o e = grind (arith, nat_tests, e)
 
 -- a bound whose numbers are about a comma
-bound_order : {digits a : ℕ} {o : Owner} {b : Option ℕ} {us : List Token} {x y : Bool} → Bounded digits o us a b x y → Covers digits us
+bound_order : {digits a : ℕ} {o : Timed} {b : Option ℕ} {us : List Token} {x y : Bool} → Bounded digits o us a b x y → Covers digits us
     → IsInOrder a b × IsInWhereInfinite b y
 bound_order (left_out e) c = (tt, refl)
 bound_order {digits} (within {a = a} {j} {b} {k} {t} {u} p q) c =
@@ -149,63 +149,67 @@ bound_order {digits} (within {a = a} {j} {b} {k} {t} {u} p q) c =
 bound_order (endless e p q) c = (tt, refl)
 
 -- that of an operator's node
-timed_bounds : (of : Timed) {d a : ℕ} {b : Option ℕ} {us : List Token} {x y : Bool} (p q : ℕ) → Bounded d (owner of) us a b x y
+timed_bounds : (of : Timed) {d a : ℕ} {b : Option ℕ} {us : List Token} {x y : Bool} (p q : ℕ) → Bounded d of us a b x y
     → IsInOrder a b × IsInWhereInfinite b y → HasBounds (timed_node of a b x y p q)
-timed_bounds TUntil {a = a} p q w h = subst (λ z. IsInOrder a z) (sym (has_upper of_until refl w)) h.0
+timed_bounds TUntil {a = a} p q w h = subst (λ z. IsInOrder a z) (sym (has_upper TUntil refl w)) h.0
 timed_bounds TSince p q w h = h.0
-timed_bounds TEventually {a = a} p q w h = subst (λ z. IsInOrder a z) (sym (has_upper of_future refl w)) h.0
-timed_bounds TAlways {a = a} p q w h = subst (λ z. IsInOrder a z) (sym (has_upper of_future refl w)) h.0
+timed_bounds TEventually {a = a} p q w h = subst (λ z. IsInOrder a z) (sym (has_upper TEventually refl w)) h.0
+timed_bounds TAlways {a = a} p q w h = subst (λ z. IsInOrder a z) (sym (has_upper TAlways refl w)) h.0
 timed_bounds _ p q w h = h
 
 -- the operand after a bound
-bound_fine : {digits a : ℕ} {o : Owner} {b : Option ℕ} {us : List Token} {x y : Bool}
-    → Bounded digits o us a b x y → {s : Scale} {k : ℕ} {ts : List Token} {ns : List Node} → Operand s k ts ns
-    → (h : Bool) (marks : List Mark) (n : ℕ) → Fine (st (at_bound o) h marks n) (us ++ ts)
-    → Fine (st at_operand h marks n) ts
+bound_fine : (s : Scale) {of : Timed} {a : ℕ} {b : Option ℕ} {us : List Token} {x y : Bool} → Bounded s.time of us a b x y
+    → {k : ℕ} {ts : List Token} {ns : List Node} → Operand s k ts ns → (frames : List Frame) (nodes : List Node) (made : ℕ)
+    → Fine s (st (at_bound of) frames nodes made) (us ++ ts) → Fine s (timed_st of a b x y frames nodes made) ts
 unfolding kind
-bound_fine {o = o} (left_out e) p h marks n f =
-    let b = operand_begins p in let g = rw b.is at f in rw b.is (refl, rw (skips o e h marks n b.head b.other) at g.1)
-bound_fine (within {a = a} {j} {b} {k} {u = u} p q) {ts = ts} r h marks n f =
-    let g = subst (λ z. Fine z (number a j ∷ comma ∷ number b k ∷ u ∷ ts)) (opens_step p h marks n) f.1 in
-    subst (λ z. Fine z ts) (closes_step q h marks n) g.1.1.1.1
-bound_fine {o = o} (endless {a = a} {j} {u = u} e p q) {ts = ts} r h marks n f =
-    let g = subst (λ z. Fine z (number a j ∷ comma ∷ word (codes "inf") ∷ u ∷ ts)) (opens_step p h marks n) f.1 in
-    let i = subst (λ z. Fine z (u ∷ ts)) (inf_step o e a j h marks n) g.1.1.1 in
-    subst (λ z. Fine z ts) (closes_step q h marks n) i.1
+bound_fine s {of} (left_out e) p frames nodes made f =
+    let b = operand_begins p in let g = rw b.is at f in rw b.is (refl, rw (skips s of e frames nodes made b.head b.other) at g.1)
+bound_fine s {of} (within {a = a} {j} {b} {k} {u = u} {x} p q) {ts = ts} r frames nodes made f =
+    let g = subst (λ z. Fine s z (number a j ∷ comma ∷ number b k ∷ u ∷ ts)) (opens_step s of p frames nodes made) f.1 in
+    subst (λ z. Fine s z ts) (closes_step s of x a j q b k frames nodes made) g.1.1.1.1
+bound_fine s {of} (endless {a = a} {j} {u = u} {x} e p q) {ts = ts} r frames nodes made f =
+    let g = subst (λ z. Fine s z (number a j ∷ comma ∷ word (codes "inf") ∷ u ∷ ts)) (opens_step s of p frames nodes made) f.1 in
+    let i = subst (λ z. Fine s z (u ∷ ts)) (inf_step s of e x a j frames nodes made) g.1.1.1 in
+    subst (λ z. Fine s z ts) (ends_step s of x a j q frames nodes made) i.1
+
+below_four : (terms : List Term) (t : Term) → length terms ≤ 4 → (length terms == 4) ≡ false → length (terms ++ t ∷ []) ≤ 4
+below_four terms t l e = omega (arith, length_push terms t, not_four (length terms) l e)
+  where
+    not_four : (n : ℕ) → n ≤ 4 → (n == 4) ≡ false → suc n ≤ 4
+    not_four n l e = grind (arith, nat_tests, e)
 
 -- further terms are at most four, up to the relation
-terms_few : {us : List Token} {terms : List Term} → AreTerms us terms → (j : ℕ) → j ≤ 4 → (h : Bool) (marks : List Mark) (n : ℕ)
-    → Fine (st (at_sign j) h marks n) us
-    → j + length terms ≤ 4
-terms_few no_terms j l h marks n f = omega (arith, l)
-terms_few (more_plus {ts = ts} {us} t u) j l h marks n f =
-    let x = (fine_split (st (at_term j) h marks n) ts us f.1).1 in
-    let y = terms_few u (suc j) (below_four j l f.0) h marks n (rw (term_runs t j h marks n) at x) in omega (arith, y)
-  where
-    below_four : (i : ℕ) → i ≤ 4 → (i == 4) ≡ false → suc i ≤ 4
-    below_four i l e = grind (arith, nat_tests, e)
-terms_few (more_minus {ts = ts} {us} t u) j l h marks n f =
-    let x = (fine_split (st (at_term j) h marks n) ts us f.1).1 in
-    let y = terms_few u (suc j) (below_four j l f.0) h marks n (rw (term_runs t j h marks n) at x) in omega (arith, y)
-  where
-    below_four : (i : ℕ) → i ≤ 4 → (i == 4) ≡ false → suc i ≤ 4
-    below_four i l e = grind (arith, nat_tests, e)
+terms_few : (s : Scale) {us : List Token} {more : List Term} → AreTerms us more → (terms : List Term) → length terms ≤ 4
+    → (frames : List Frame) (nodes : List Node) (made : ℕ) → Fine s (at at_sign frames nodes terms made) us → length terms + length more ≤ 4
+terms_few s no_terms terms l frames nodes made f = omega (arith, l)
+terms_few s (more_plus {k = k} {w} {ts = ts} {us} t u) terms l frames nodes made f =
+    let x = (fine_split s (at (at_term false) frames nodes terms made) ts us f.1).1 in
+    let y = terms_few s u _ (below_four terms _ l f.0) frames nodes made (rw (term_runs s t false frames nodes terms made) at x) in
+    omega (arith, y, length_push terms (term_of s false k w))
+terms_few s (more_minus {k = k} {w} {ts = ts} {us} t u) terms l frames nodes made f =
+    let x = (fine_split s (at (at_term true) frames nodes terms made) ts us f.1).1 in
+    let y = terms_few s u _ (below_four terms _ l f.0) frames nodes made (rw (term_runs s t true frames nodes terms made) at x) in
+    omega (arith, y, length_push terms (term_of s true k w))
 
-atom_few : {digits : ℕ} {ts : List Token} {a : Atom} → IsAtom digits ts a → (h : Bool) (marks : List Mark) (n : ℕ) → Fine (st at_operand h marks n) ts
-    → (0 < length a.terms) × (length a.terms ≤ 4)
-atom_few (first {ts = ts} {us} {vs} {rel = rel} t u c) h marks n f =
-    let x = (fine_split (st at_operand h marks n) (ts ++ us) (relation rel ∷ vs) f).0 in
-    let y = (fine_split (st at_operand h marks n) ts us x).1 in
-    let z = terms_few u 1 (omega arith) h marks (suc n) (rw (first_runs t h marks n) at y) in (omega arith, omega (arith, z))
-atom_few (signed {us = us} {vs} {terms = terms} {rel = rel} u c) h marks n f = by_sign u (fine_split (st at_operand h marks n) us (relation rel ∷ vs) f).0
+atom_few : (s : Scale) {digits : ℕ} {ts : List Token} {a : Atom} → IsAtom digits ts a → (frames : List Frame) (nodes : List Node) (made : ℕ)
+    → Fine s (st at_operand frames nodes made) ts → (0 < length a.terms) × (length a.terms ≤ 4)
+atom_few s (first {ts = ts} {us} {vs} {rel = rel} t u c) frames nodes made f =
+    let x = (fine_split s (st at_operand frames nodes made) (ts ++ us) (relation rel ∷ vs) f).0 in
+    let y = (fine_split s (st at_operand frames nodes made) ts us x).1 in
+    let z = terms_few s u _ (omega arith) frames nodes (suc made) (rw (first_runs s t frames nodes made) at y) in (omega arith, omega (arith, z))
+atom_few s (signed {us = us} {vs} {terms = more} {rel = rel} u c) frames nodes made f =
+    by_sign u (fine_split s (st at_operand frames nodes made) us (relation rel ∷ vs) f).0
   where
-    by_sign : {us : List Token} {t : Term} → AreTerms us (t ∷ terms) → Fine (st at_operand h marks n) us → (0 < suc (length terms)) × (suc (length terms) ≤ 4)
+    by_sign : {us : List Token} {t : Term} → AreTerms us (t ∷ more) → Fine s (st at_operand frames nodes made) us
+        → (0 < suc (length more)) × (suc (length more) ≤ 4)
     by_sign (more_plus {ts = ts} {us} t u) f =
-        let x = (fine_split (st (at_term 0) h marks (suc n)) ts us f.1).1 in
-        let z = terms_few u 1 (omega arith) h marks (suc n) (rw (term_runs t 0 h marks (suc n)) at x) in (omega arith, omega (arith, z))
+        let x = (fine_split s (at (at_term false) frames nodes [] (suc made)) ts us f.1).1 in
+        let z = terms_few s u _ (omega arith) frames nodes (suc made) (rw (term_runs s t false frames nodes [] (suc made)) at x) in
+        (omega arith, omega (arith, z))
     by_sign (more_minus {ts = ts} {us} t u) f =
-        let x = (fine_split (st (at_term 0) h marks (suc n)) ts us f.1).1 in
-        let z = terms_few u 1 (omega arith) h marks (suc n) (rw (term_runs t 0 h marks (suc n)) at x) in (omega arith, omega (arith, z))
+        let x = (fine_split s (at (at_term true) frames nodes [] (suc made)) ts us f.1).1 in
+        let z = terms_few s u _ (omega arith) frames nodes (suc made) (rw (term_runs s t true frames nodes [] (suc made)) at x) in
+        (omega arith, omega (arith, z))
 
 -- a node with its bounds in order and few terms
 abbrev IsGood : Node → Type 0
@@ -221,7 +225,7 @@ connective_good : (o : Connective) (p q : ℕ) → IsGood (connective_node o p q
 connective_good by_and p q = (tt, tt)
 connective_good _ p q = (tt, tt)
 
-timed_good : (of : Timed) {d a : ℕ} {b : Option ℕ} {us : List Token} {x y : Bool} (p q : ℕ) → Bounded d (owner of) us a b x y → Covers d us
+timed_good : (of : Timed) {d a : ℕ} {b : Option ℕ} {us : List Token} {x y : Bool} (p q : ℕ) → Bounded d of us a b x y → Covers d us
     → IsGood (timed_node of a b x y p q)
 timed_good of {a = a} {b} {x = x} {y} p q w c = (timed_bounds of p q w (bound_order w c), few of)
   where
@@ -232,43 +236,51 @@ timed_good of {a = a} {b} {x = x} {y} p q w c = (timed_bounds of p q w (bound_or
 mutual
   unfolding kind
 
-  derived_good : {s : Scale} {r k : ℕ} {ts : List Token} {ns : List Node} → Derived s r k ts ns → (marks : List Mark) (n : ℕ)
-      → Fine (st at_operand false marks n) ts → Covers s.time ts → All IsGood ns
-  derived_good {s} (joined o {ts = ts} {us} {ns} {ms} l d e) marks n f c =
+  derived_good : {s : Scale} {r k : ℕ} {ts : List Token} {ns : List Node} → Derived s r k ts ns → r ≤ 5
+      → (frames : List Frame) (nodes : List Node) (made : ℕ) → top_rank frames < max 2 r → length nodes ≡ k
+      → Fine s (st at_operand frames nodes made) ts → Covers s.time ts → All IsGood ns
+  derived_good {s} {r} {k} (joined o {ts = ts} {us} {ns} {ms} i d e) five frames nodes made l n f c =
       let w : Token = word (connective_word o) in
-      let m = without_operators marks in
-      let x = fine_split (st at_operand false marks n) ts (w ∷ us) f in
-      let r = left_runs (left_binds o) (left_two o) d marks n in
-      let y : Fine (st at_end r.0 m (n + length ns)) (w ∷ us) = rw r.1 at x.1 in
-      two_good ns ms _ (derived_good d marks n x.0 (covers_left s.time ts (w ∷ us) c))
-      (derived_good e (after_connective o m) (suc (n + length ns)) (rw (connective_steps o r.0 m (n + length ns)) at y.1)
+      let room = has_room o in
+      let m : top_rank frames < left_binds o = omega (arith, l, i, room.left, room.two) in
+      let x = fine_split s (st at_operand frames nodes made) ts (w ∷ us) f in
+      let (q, g, h) = derived_runs s d room.few frames nodes made (omega (arith, m)) n in
+      let y : Fine s (Some q) (w ∷ us) = rw g at x.1 in
+      two_good ns ms _ (derived_good d room.few frames nodes made (omega (arith, m)) n x.0 (covers_left s.time ts (w ∷ us) c))
+      (derived_good e room.last (connective_frame o (length (nodes ++ ns) - 1) ∷ frames) (nodes ++ ns) (suc (made + length ns)) room.right
+      (count_is k nodes ns n) (rw (connective_steps s o q frames (nodes ++ ns) (made + length ns) m h) at y.1)
       (covers_rest s.time w us (covers_right s.time ts (w ∷ us) c))) (connective_good o _ _)
-  derived_good {s} (beside of {ts = ts} {us} {vs} {ns} {ms} e l p b q) marks n f c =
+  derived_good {s} {r} {k} (beside of {a = a} {b} {x} {y} {ts} {us} {vs} {ns} {ms} i four p z q) five frames nodes made l n f c =
       let w : Token = word (timed_word of) in
-      let m = without_operators marks in
-      let x = fine_split (st at_operand false marks n) ts (w ∷ (us ++ vs)) f in
-      let y : Fine (st at_end false m (n + length ns)) (w ∷ (us ++ vs)) = rw (operand_runs p false marks n) at x.1 in
-      let z : Fine (st (at_bound (owner of)) true m (suc (n + length ns))) (us ++ vs) = rw (beside_steps of e m (n + length ns)) at y.1 in
+      let m : top_rank frames < 4 = omega (arith, l, four) in
+      let g = fine_split s (st at_operand frames nodes made) ts (w ∷ (us ++ vs)) f in
+      let at_whole = operand_runs s p frames nodes made n ∙ operand_state s frames (nodes ++ ns) (made + length ns) (omega (arith, m)) in
+      let h : Fine s (st at_end frames (nodes ++ ns) (made + length ns)) (w ∷ (us ++ vs)) = rw at_whole at g.1 in
+      let j : Fine s (st (at_bound of) frames (nodes ++ ns) (suc (made + length ns))) (us ++ vs) =
+      rw (beside_steps s of i frames (nodes ++ ns) (made + length ns) m) at h.1 in
       let d = covers_rest s.time w (us ++ vs) (covers_right s.time ts (w ∷ (us ++ vs)) c) in
-      two_good ns ms _ (operand_good p false marks n x.0 (covers_left s.time ts (w ∷ (us ++ vs)) c))
-      (operand_good q true m (suc (n + length ns)) (bound_fine b q true m (suc (n + length ns)) z) (covers_right s.time us vs d))
-      (timed_good of _ _ b (covers_left s.time us vs d))
-  derived_good (alone p) marks n f c = operand_good p false marks n f c
+      two_good ns ms _ (operand_good p frames nodes made n g.0 (covers_left s.time ts (w ∷ (us ++ vs)) c))
+      (operand_good q (timed_frame of a b x y (length (nodes ++ ns) - 1) ∷ frames) (nodes ++ ns) (suc (made + length ns)) (count_is k nodes ns n)
+      (bound_fine s z q frames (nodes ++ ns) (suc (made + length ns)) j) (covers_right s.time us vs d))
+      (timed_good of _ _ z (covers_left s.time us vs d))
+  derived_good (alone p) five frames nodes made l n f c = operand_good p frames nodes made n f c
 
   operand_good : {s : Scale} {k : ℕ} {ts : List Token} {ns : List Node} → Operand s k ts ns
-      → (h : Bool) (marks : List Mark) (n : ℕ) → Fine (st at_operand h marks n) ts → Covers s.time ts → All IsGood ns
-  operand_good {s} (negated {ts = ts} {ns} p) h marks n f c =
-      one_good ns _ (operand_good p h (operator ∷ marks) (suc n) f.1 (covers_rest s.time (word (codes "not")) ts c)) (tt, tt)
-  operand_good {s} (prefixed of {ts = ts} {us} {ns} e b p) h marks n f c =
-      let z : Fine (st (at_bound (owner of)) h (operator ∷ marks) (suc n)) (us ++ ts) = rw (before_steps of e h marks n) at f.1 in
+      → (frames : List Frame) (nodes : List Node) (made : ℕ) → length nodes ≡ k → Fine s (st at_operand frames nodes made) ts
+      → Covers s.time ts → All IsGood ns
+  operand_good {s} (negated {ts = ts} {ns} p) frames nodes made n f c =
+      one_good ns _ (operand_good p (negation ∷ frames) nodes (suc made) n f.1 (covers_rest s.time (word (codes "not")) ts c)) (tt, tt)
+  operand_good {s} (prefixed of {a = a} {b} {x} {y} {ts} {us} {ns} i z p) frames nodes made n f c =
+      let g : Fine s (st (at_bound of) frames nodes (suc made)) (us ++ ts) = rw (before_steps s of i frames nodes made) at f.1 in
       let d = covers_rest s.time (word (timed_word of)) (us ++ ts) c in
-      one_good ns _ (operand_good p h (operator ∷ marks) (suc n) (bound_fine b p h (operator ∷ marks) (suc n) z) (covers_right s.time us ts d))
-      (timed_good of _ _ b (covers_left s.time us ts d))
-  operand_good (constant b) h marks n f c = All-cons IsGood (Const b) [] (tt, tt) (All-nil IsGood)
-  operand_good {s} (enclosed {ts = ts} d) h marks n f c =
-      let x = fine_split (st at_operand false (paren h ∷ marks) n) ts (close_paren ∷ []) f.1 in
-      derived_good d (paren h ∷ marks) n x.0 (covers_left s.time ts (close_paren ∷ []) (covers_rest s.time open_paren (ts ++ close_paren ∷ []) c))
-  operand_good (compared {a = a} x) h marks n f c = All-cons IsGood (Leaf a) [] (tt, atom_few x h marks n f) (All-nil IsGood)
+      one_good ns _ (operand_good p (timed_frame of a b x y (length nodes - 1) ∷ frames) nodes (suc made) n
+      (bound_fine s z p frames nodes (suc made) g) (covers_right s.time us ts d)) (timed_good of _ _ z (covers_left s.time us ts d))
+  operand_good (constant b) frames nodes made n f c = All-cons IsGood (Const b) [] (tt, tt) (All-nil IsGood)
+  operand_good {s} (enclosed {ts = ts} d) frames nodes made n f c =
+      let x = fine_split s (st at_operand (paren ∷ frames) nodes made) ts (close_paren ∷ []) f.1 in
+      derived_good d (omega arith) (paren ∷ frames) nodes made (omega arith) n x.0
+      (covers_left s.time ts (close_paren ∷ []) (covers_rest s.time open_paren (ts ++ close_paren ∷ []) c))
+  operand_good {s} (compared {a = a} x) frames nodes made n f c = All-cons IsGood (Leaf a) [] (tt, atom_few s x frames nodes made f) (All-nil IsGood)
 
 -- a list taken from its first element, the last one first
 pub reverse_more : (t : Token) (ts before : List Token) → reverse (t ∷ ts) ++ before ≡ reverse ts ++ t ∷ before
@@ -286,12 +298,12 @@ pub nodes_ready : (text : List ℕ) (s : Scale) {ts : List Token} {ns : List Nod
 nodes_ready text s {ts} {ns} l h f d =
     let free = tokens_free l [] 0 h in
     let t = formula_derived 1 (omega arith) f in
-    let good = derived_good t [] 0 (free_fine [] ts free) (covers_all ts s.time d free) in
+    let good = derived_good t (omega arith) [] [] 0 (omega arith) refl (free_fine s [] ts free) (covers_all ts s.time d free) in
     let tree = derived_tree t in
-    let r = derived_runs t [] 0 in
+    let (q, g, i) = formula_runs s f in
     let back : reverse (reverse ts) ≡ ts = reverse-reverse ts in
-    let state : run (reverse ts) ≡ st at_end r.0 r.1 (0 + length ns) = run_go (reverse ts) ∙ (ap (λ z. go (Some start) z) back ∙ r.3) in
-    let made : nodes_made (reverse ts) ≡ 0 + length ns = run_nodes (reverse ts) _ state in
+    let state : run s (reverse ts) ≡ Some q = run_go s (reverse ts) ∙ (ap (λ z. go s (Some start) z) back ∙ g) in
+    let made : nodes_made (reverse ts) ≡ 0 + length ns = run_nodes s (reverse ts) q state ∙ i.count in
     let few : nodes_made (reverse ts) ≤ 256 = rw append-nil at (free_few [] ts free (omega arith)) in
     record {
       few = omega (arith, made, few);

@@ -15,9 +15,7 @@ use Rattle.stl_grammar.specs.Tokens.{an_integer, a_decimal, Lexes, nothing as no
 use Rattle.stl_grammar.specs.Grammar.{Token, word, number, relation, open_paren, close_paren, comma, first_decimals, value_digits, time_digits}
 use Rattle.stl_grammar.specs.Grammar.{IsConstant, plain, positive, negative, IsAtom, first, signed}
 use Rattle.stl_grammar.specs.Laws.{with_upper, bounds_of, constants_of, Any, IsUneven, NeedsDigits, ReadScalesAreLeast}
-use Rattle.stl_grammar.specs.Machine.{Owner}
-use Rattle.stl_grammar.specs.Refusing.{owner}
-use Rattle.stl_grammar.specs.declared.place.Timed.{Timed}
+use Rattle.stl_grammar.specs.declared.operator.Timed.{Timed}
 use Rattle.stl_grammar.proofs.Derivations.{connective_word, timed_word, timed_node, constant_word, by_brackets, Bounded, left_out, within, endless}
 use Rattle.stl_grammar.proofs.Derivations.{Operand, negated, prefixed, constant, enclosed, compared, Derived, joined, beside, alone, formula_derived}
 use Rattle.stl_grammar.proofs.NumberLemmas.{abs_neg}
@@ -145,7 +143,7 @@ one_of_two d a j b k e l g h = by_which (of_max j k d e)
     by_which (inr f) = inr (inl (ticks_full d b k f l h))
 
 -- a bound that has all the digits
-bound_any : {d a : ℕ} {o : Owner} {b : Option ℕ} {us : List Token} {x y : Bool} → Bounded d o us a b x y → AreExact us → 0 < d
+bound_any : {d a : ℕ} {o : Timed} {b : Option ℕ} {us : List Token} {x y : Bool} → Bounded d o us a b x y → AreExact us → 0 < d
     → time_digits us ≡ d → Any IsUneven (with_upper a b)
 bound_any {d} (left_out e) h l f = absurd (omega (arith, f))
 bound_any {d} (within {a = a} {j} {b} {k} p q) h l e =
@@ -182,9 +180,9 @@ record Measures (s : Scale) (m : List Token → ℕ) (d : ℕ) (P : Node → Typ
   parens : (ts : List Token) → m (open_paren ∷ ts) ≡ m ts
   paren_ends : m (close_paren ∷ []) ≡ 0
   joins : (ts us : List Token) → ends_well ts ≡ true → begins_comma us ≡ false → m (ts ++ us) ≡ max (m ts) (m us)
-  bounds : {o : Owner} {a : ℕ} {b : Option ℕ} {us : List Token} {x y : Bool} (ts : List Token) → Bounded s.time o us a b x y
+  bounds : {o : Timed} {a : ℕ} {b : Option ℕ} {us : List Token} {x y : Bool} (ts : List Token) → Bounded s.time o us a b x y
       → m (us ++ ts) ≡ max (m us) (m ts)
-  bound : (of : Timed) {a : ℕ} {b : Option ℕ} {us : List Token} {x y : Bool} (p q : ℕ) → Bounded s.time (owner of) us a b x y → AreExact us
+  bound : (of : Timed) {a : ℕ} {b : Option ℕ} {us : List Token} {x y : Bool} (p q : ℕ) → Bounded s.time of us a b x y → AreExact us
       → m us ≡ d → P (timed_node of a b x y p q)
   atom : {ts : List Token} {a : Atom} → IsAtom s.value ts a → AreExact ts → m ts ≡ d → P (Leaf a)
 
@@ -257,7 +255,7 @@ atom_any {d} (signed {us = us} {vs} {rel = rel} u c) h l e =
     let y = value_low us vs rel in
     inl (constant_any c (exact_right us (relation rel ∷ vs) h) l (omega (arith, x, y, e)))
 
-bound_none : {d a : ℕ} {o : Owner} {b : Option ℕ} {us : List Token} {x y : Bool} → Bounded d o us a b x y → value_digits us ≡ 0
+bound_none : {d a : ℕ} {o : Timed} {b : Option ℕ} {us : List Token} {x y : Bool} → Bounded d o us a b x y → value_digits us ≡ 0
 bound_none {us = us} w = ap value_digits (sym (append-nil us)) ∙ bound_value [] w
 
 -- and those of constants

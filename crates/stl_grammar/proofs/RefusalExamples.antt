@@ -6,7 +6,7 @@ use Rattle.stl_syntax.specs.Characters.{ticks}
 use Rattle.stl_syntax.specs.Choice.{Where}
 use Rattle.stl_grammar.specs.Tokens.{Token, word, number, relation, open_bracket, close_bracket, comma}
 use Rattle.stl_grammar.specs.Tokens.{a_word, an_integer, a_decimal, at_least, bracket, a_comma}
-use Rattle.stl_grammar.specs.Grammar.{plain, IsFormula, disjunct, conjunct, timed, operand, eventually, always_true, atom, first, bound, inside}
+use Rattle.stl_grammar.specs.Grammar.{plain, IsFormula, disjunct, conjunct, timed, operand, eventually, always_true, atom, first, bounded, inside}
 use Rattle.stl_grammar.specs.Grammar.{name as term_name, none as no_terms}
 use Rattle.stl_grammar.specs.FormulaRefusals.{MayBegin, MayEnd, BeginsNoToken, RefusedAt, here, later, at_end}
 use Rattle.stl_grammar.specs.FormulaRefusals.{blank, bad_byte, IsFormulaFault, is_unbounded, pending, nodes_made}
@@ -151,7 +151,7 @@ abbrev bound_first : MayBegin (number 2 0 ∷ comma ∷ number 3 0 ∷ open_brac
 bound_first = (
   close_bracket ∷ word (codes "true") ∷ [],
   Const true ∷ Eventually 0 3 2 true true ∷ [],
-  disjunct (conjunct (timed (operand (eventually {ns = Const true ∷ []} (bound {a = 3} {j = 0} {b = 2} {k = 0} inside inside) always_true)))),
+  disjunct (conjunct (timed (operand (eventually {ns = Const true ∷ []} (bounded {a = 3} {j = 0} {b = 2} {k = 0} inside inside) always_true)))),
 )
 
 out_of_order : IsFormulaFault (codes "eventually[3,2] x >= 1") (BoundOrder 13)

@@ -6,7 +6,7 @@ use Rattle.stl_syntax.specs.declared.node.Node.{Node}
 use Rattle.stl_grammar.specs.Grammar.{Token}
 use Rattle.stl_grammar.specs.Grammar.{IsConstant, plain, positive, negative, IsAtom, first, signed}
 use Rattle.stl_grammar.specs.Grammar.{IsFormula}
-use Rattle.stl_grammar.specs.Machine.{Owner}
+use Rattle.stl_grammar.specs.declared.operator.Timed.{Timed}
 use Rattle.stl_grammar.proofs.Derivations.{right_binds, Bounded, left_out, within, endless, Operand, negated, prefixed, constant, enclosed, compared}
 use Rattle.stl_grammar.proofs.Derivations.{Derived, joined, beside, alone, formula_derived, as_formula}
 
@@ -19,7 +19,7 @@ atom_at : {d : ℕ} {ts : List Token} {a : _} → IsAtom d ts a → (e : ℕ) �
 atom_at (first t u c) e = (_, first t u (constant_at c e).1)
 atom_at (signed u c) e = (_, signed u (constant_at c e).1)
 
-bound_at : {d a : ℕ} {o : Owner} {b : Option ℕ} {us : List Token} {x y : Bool} → Bounded d o us a b x y → (e : ℕ)
+bound_at : {d a : ℕ} {o : Timed} {b : Option ℕ} {us : List Token} {x y : Bool} → Bounded d o us a b x y → (e : ℕ)
     → (g : ℕ) × (h : Option ℕ) × Bounded e o us g h x y
 bound_at (left_out f) e = (_, _, left_out f)
 bound_at (within p q) e = (_, _, within p q)

@@ -7,7 +7,7 @@ use Rattle.stl_grammar.specs.Tokens.{Token, word, number, relation, open_paren, 
 use Rattle.stl_grammar.specs.Grammar.{IsConstant, plain, IsTerm, scaled, AreTerms, more_plus}
 use Rattle.stl_grammar.specs.Grammar.{more_minus, IsAtom, first, signed, first_decimals, value_digits, time_digits}
 use Rattle.stl_grammar.specs.Grammar.{name as term_name, none as no_terms}
-use Rattle.stl_grammar.specs.Machine.{Owner}
+use Rattle.stl_grammar.specs.declared.operator.Timed.{Timed}
 use Rattle.stl_grammar.proofs.Derivations.{constant_word, by_brackets, Bounded, left_out, within, endless, Operand, negated, prefixed, constant}
 use Rattle.stl_grammar.proofs.Derivations.{enclosed, compared, Derived, joined, beside, alone}
 
@@ -191,7 +191,7 @@ short_signed s {us} {vs} rel u c l =
     record { time = omega (arith, f); value = omega (arith, g, i, l) }
 
 -- the decimals of a bound, before other tokens
-pub bound_time : {d a : ℕ} {o : Owner} {b : _} {us : List Token} {x y : Bool} (ts : List Token) → Bounded d o us a b x y
+pub bound_time : {d a : ℕ} {o : Timed} {b : _} {us : List Token} {x y : Bool} (ts : List Token) → Bounded d o us a b x y
     → time_digits (us ++ ts) ≡ max (time_digits us) (time_digits ts)
 bound_time ts (left_out e) = omega arith
 bound_time ts (within {a = a} {j} {b} {k} p q) = by_brackets (λ t u. time_digits (t ∷ number a j ∷ comma ∷ number b k ∷ u ∷ ts)
@@ -200,7 +200,7 @@ bound_time ts (endless {a = a} {j} e p q) = by_brackets (λ t u. time_digits (t 
     ≡ max (time_digits (t ∷ number a j ∷ comma ∷ word (codes "inf") ∷ u ∷ [])) (time_digits ts)) (omega arith) (omega arith) (omega arith) (omega arith) p q
 
 -- it has no constant
-pub bound_value : {d a : ℕ} {o : Owner} {b : _} {us : List Token} {x y : Bool} (ts : List Token) → Bounded d o us a b x y
+pub bound_value : {d a : ℕ} {o : Timed} {b : _} {us : List Token} {x y : Bool} (ts : List Token) → Bounded d o us a b x y
     → value_digits (us ++ ts) ≡ value_digits ts
 bound_value ts (left_out e) = refl
 bound_value ts (within {a = a} {j} {b} {k} p q) =
@@ -209,6 +209,6 @@ bound_value ts (endless {a = a} {j} e p q) =
     by_brackets (λ t u. value_digits (t ∷ number a j ∷ comma ∷ word (codes "inf") ∷ u ∷ ts) ≡ value_digits ts) refl refl refl refl p q
 
 -- a bound before an operand
-pub short_bound : {d a : ℕ} {o : Owner} {b : _} {us : List Token} {x y : Bool} (s : Scale) (ts : List Token) → Bounded d o us a b x y
+pub short_bound : {d a : ℕ} {o : Timed} {b : _} {us : List Token} {x y : Bool} (s : Scale) (ts : List Token) → Bounded d o us a b x y
     → time_digits us ≤ s.time → IsShort s ts → IsShort s (us ++ ts)
 short_bound s ts w l h = record { time = omega (arith, bound_time ts w, h.time); value = rw (bound_value ts w) h.value }

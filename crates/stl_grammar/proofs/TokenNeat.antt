@@ -4,7 +4,7 @@ use Rattle.std.specs.Prelude.{codes}
 use Rattle.stl_syntax.specs.declared.scale.Scale.{Scale}
 use Rattle.stl_grammar.specs.Tokens.{Token, word, number, relation, open_paren, close_paren, comma, star}
 use Rattle.stl_grammar.specs.Grammar.{IsConstant, plain, time_digits}
-use Rattle.stl_grammar.specs.Machine.{Owner}
+use Rattle.stl_grammar.specs.declared.operator.Timed.{Timed}
 use Rattle.stl_grammar.proofs.Derivations.{by_brackets, Bounded, left_out, within, endless}
 use Rattle.stl_grammar.proofs.TokenEnds.{ends_well, begins_comma, IsShort, short_joined, short_word, short_parens, short_bound}
 
@@ -62,7 +62,7 @@ pub constant_plain : {d : ℕ} {vs : List Token} {c : _} (r : _) → IsConstant 
 constant_plain r plain = (tt, tt)
 constant_plain r _ = (tt, tt)
 
-bound_plain : {d a : ℕ} {o : Owner} {b : _} {us : List Token} {x y : Bool} (ts : List Token) → Bounded d o us a b x y → ArePlain ts → ArePlain (us ++ ts)
+bound_plain : {d a : ℕ} {o : Timed} {b : _} {us : List Token} {x y : Bool} (ts : List Token) → Bounded d o us a b x y → ArePlain ts → ArePlain (us ++ ts)
 bound_plain ts (left_out e) h = h
 bound_plain ts (within {a = a} {j} {b} {k} p q) h =
     by_brackets (λ t u. ArePlain (t ∷ number a j ∷ comma ∷ number b k ∷ u ∷ ts)) (tt, (tt, h)) (tt, (tt, h)) (tt, (tt, h)) (tt, (tt, h)) p q
@@ -70,6 +70,6 @@ bound_plain ts (endless {a = a} {j} e p q) h =
     by_brackets (λ t u. ArePlain (t ∷ number a j ∷ comma ∷ word (codes "inf") ∷ u ∷ ts)) (tt, h) (tt, h) (tt, h) (tt, h) p q
 
 -- a bound before an operand
-pub neat_bound : {d a : ℕ} {o : Owner} {b : _} {us : List Token} {x y : Bool} (s : Scale) (ts : List Token) → Bounded d o us a b x y
+pub neat_bound : {d a : ℕ} {o : Timed} {b : _} {us : List Token} {x y : Bool} (s : Scale) (ts : List Token) → Bounded d o us a b x y
     → time_digits us ≤ s.time → IsNeat s ts → IsNeat s (us ++ ts)
 neat_bound s ts w l h = record { short = short_bound s ts w l h.short; plain = bound_plain ts w h.plain }

@@ -38,38 +38,33 @@ pub data IsAtom (digits : ℕ) : List Token → Atom → Type 0 where
   signed : {us vs : List Token} {terms : List Term} {rel : Rel} {c : ℤ} {t : Term} → AreTerms us (t ∷ terms) → IsConstant digits vs c
       → IsAtom digits (us ++ relation rel ∷ vs) (record { terms = t ∷ terms; rel = rel; limit = c })
 
--- the bracket before a bound, and the one after it; reversed where that end is out
-pub data IsOpening : Token → Bool → Type 0 where
-  inside : IsOpening open_bracket true
-  outside : IsOpening close_bracket false
+-- where the window of an operator lies
+pub data Direction : Type 0 where
+  ahead : Direction
+  behind : Direction
+
+-- whether the ends of an operator's bound may be out
+pub data Ends : Type 0 where
+  closed : Ends
+  free : Ends
+
+-- the bracket before a bound; reversed where that end is out
+pub data IsOpening : Ends → Token → Bool → Type 0 where
+  inside : {e : Ends} → IsOpening e open_bracket true
+  outside : IsOpening free close_bracket false
 
 -- the bracket after a bound
-pub data IsClosing : Token → Bool → Type 0 where
-  inside : IsClosing close_bracket true
-  outside : IsClosing open_bracket false
+pub data IsClosing : Ends → Token → Bool → Type 0 where
+  inside : {e : Ends} → IsClosing e close_bracket true
+  outside : IsClosing free open_bracket false
 
--- the bound of a one-operand operator, with each end in or out
-pub data IsFutureWindow (digits : ℕ) : List Token → ℕ → ℕ → Bool → Bool → Type 0 where
-  bound : {a j b k : ℕ} {x y : Token} {a_in b_in : Bool} → IsOpening x a_in → IsClosing y b_in
-      → IsFutureWindow digits (x ∷ number a j ∷ comma ∷ number b k ∷ y ∷ []) (ticks digits a j) (ticks digits b k) a_in b_in
-
--- the bound of a past operator, which may be left out or have no upper end
-pub data IsPastWindow (digits : ℕ) : List Token → ℕ → Option ℕ → Bool → Bool → Type 0 where
-  nothing : IsPastWindow digits [] 0 None true true
-  bounded : {a j b k : ℕ} {x y : Token} {a_in b_in : Bool} → IsOpening x a_in → IsClosing y b_in
-      → IsPastWindow digits (x ∷ number a j ∷ comma ∷ number b k ∷ y ∷ []) (ticks digits a j) (Some (ticks digits b k)) a_in b_in
-  unbounded : {a j : ℕ} {x y : Token} {a_in b_in : Bool} → IsOpening x a_in → IsClosing y b_in
-      → IsPastWindow digits (x ∷ number a j ∷ comma ∷ word (codes "inf") ∷ y ∷ []) (ticks digits a j) None a_in true
-
--- the bound of until, and of since: closed
-abbrev pub IsFuture : ℕ → List Token → ℕ → ℕ → Type 0
-IsFuture digits ts a b = IsFutureWindow digits ts a b true true
-
--- the bound of since: closed
-pub data IsPast (digits : ℕ) : List Token → ℕ → Option ℕ → Type 0 where
-  nothing : IsPast digits [] 0 None
-  bounded : {a j b k : ℕ} → IsPast digits (open_bracket ∷ number a j ∷ comma ∷ number b k ∷ close_bracket ∷ []) (ticks digits a j) (Some (ticks digits b k))
-  unbounded : {a j : ℕ} → IsPast digits (open_bracket ∷ number a j ∷ comma ∷ word (codes "inf") ∷ close_bracket ∷ []) (ticks digits a j) None
+-- the bound of an operator, with each end in or out: a window behind may be left out, or have no upper end
+pub data IsBound (digits : ℕ) : Direction → Ends → List Token → ℕ → Option ℕ → Bool → Bool → Type 0 where
+  nothing : {e : Ends} → IsBound digits behind e [] 0 None true true
+  bounded : {d : Direction} {e : Ends} {a j b k : ℕ} {x y : Token} {a_in b_in : Bool} → IsOpening e x a_in → IsClosing e y b_in
+      → IsBound digits d e (x ∷ number a j ∷ comma ∷ number b k ∷ y ∷ []) (ticks digits a j) (Some (ticks digits b k)) a_in b_in
+  unbounded : {e : Ends} {a j : ℕ} {x y : Token} {a_in b_in : Bool} → IsOpening e x a_in → IsClosing e y b_in
+      → IsBound digits behind e (x ∷ number a j ∷ comma ∷ word (codes "inf") ∷ y ∷ []) (ticks digits a j) None a_in true
 
 -- tokens and the nodes that they make from place k on, in post-order
 mutual
@@ -93,23 +88,24 @@ mutual
   -- at most one until or since
   pub data IsTimed (s : Scale) : ℕ → List Token → List Node → Type 0 where
     operand : {k : ℕ} {ts : List Token} {ns : List Node} → IsOperand s k ts ns → IsTimed s k ts ns
-    until : {k a b : ℕ} {ts us vs : List Token} {ns ms : List Node} → IsOperand s k ts ns → IsFuture s.time us a b → IsOperand s (k + length ns) vs ms
+    until : {k a b : ℕ} {ts us vs : List Token} {ns ms : List Node} → IsOperand s k ts ns → IsBound s.time ahead closed us a (Some b) true true
+        → IsOperand s (k + length ns) vs ms
         → IsTimed s k (ts ++ word (codes "until") ∷ us ++ vs) (ns ++ ms ++ Until (top k ns) (top (k + length ns) ms) a b ∷ [])
-    since : {k a : ℕ} {b : Option ℕ} {ts us vs : List Token} {ns ms : List Node} → IsOperand s k ts ns → IsPast s.time us a b
+    since : {k a : ℕ} {b : Option ℕ} {ts us vs : List Token} {ns ms : List Node} → IsOperand s k ts ns → IsBound s.time behind closed us a b true true
         → IsOperand s (k + length ns) vs ms
         → IsTimed s k (ts ++ word (codes "since") ∷ us ++ vs) (ns ++ ms ++ Since (top k ns) (top (k + length ns) ms) a b ∷ [])
 
   -- a constant, an atom, parentheses, or a one-operand operator with its operand
   pub data IsOperand (s : Scale) : ℕ → List Token → List Node → Type 0 where
     not : {k : ℕ} {ts : List Token} {ns : List Node} → IsOperand s k ts ns → IsOperand s k (word (codes "not") ∷ ts) (ns ++ Not (top k ns) ∷ [])
-    eventually : {k a b : ℕ} {a_in b_in : Bool} {ts us : List Token} {ns : List Node} → IsFutureWindow s.time us a b a_in b_in → IsOperand s k ts ns
+    eventually : {k a b : ℕ} {a_in b_in : Bool} {ts us : List Token} {ns : List Node} → IsBound s.time ahead free us a (Some b) a_in b_in → IsOperand s k ts ns
         → IsOperand s k (word (codes "eventually") ∷ us ++ ts) (ns ++ Eventually (top k ns) a b a_in b_in ∷ [])
-    always : {k a b : ℕ} {a_in b_in : Bool} {ts us : List Token} {ns : List Node} → IsFutureWindow s.time us a b a_in b_in → IsOperand s k ts ns
+    always : {k a b : ℕ} {a_in b_in : Bool} {ts us : List Token} {ns : List Node} → IsBound s.time ahead free us a (Some b) a_in b_in → IsOperand s k ts ns
         → IsOperand s k (word (codes "always") ∷ us ++ ts) (ns ++ Always (top k ns) a b a_in b_in ∷ [])
-    once : {k a : ℕ} {b : Option ℕ} {a_in b_in : Bool} {ts us : List Token} {ns : List Node} → IsPastWindow s.time us a b a_in b_in → IsOperand s k ts ns
+    once : {k a : ℕ} {b : Option ℕ} {a_in b_in : Bool} {ts us : List Token} {ns : List Node} → IsBound s.time behind free us a b a_in b_in → IsOperand s k ts ns
         → IsOperand s k (word (codes "once") ∷ us ++ ts) (ns ++ Once (top k ns) a b a_in b_in ∷ [])
     historically : {k a : ℕ} {b : Option ℕ} {a_in b_in : Bool} {ts us : List Token} {ns : List Node}
-        → IsPastWindow s.time us a b a_in b_in → IsOperand s k ts ns
+        → IsBound s.time behind free us a b a_in b_in → IsOperand s k ts ns
         → IsOperand s k (word (codes "historically") ∷ us ++ ts) (ns ++ Historically (top k ns) a b a_in b_in ∷ [])
     always_true : {k : ℕ} → IsOperand s k (word (codes "true") ∷ []) (Const true ∷ [])
     always_false : {k : ℕ} → IsOperand s k (word (codes "false") ∷ []) (Const false ∷ [])

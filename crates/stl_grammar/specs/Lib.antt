@@ -2,10 +2,12 @@ pub mod Tokens
 pub mod Grammar
 pub mod FormulaRefusals
 pub mod Spelling
-pub mod Machine
+pub mod Operators
 pub mod Laws
 pub mod Sums
 pub mod Parsing
+pub mod Machine
+pub mod States
 pub mod Refusing
 pub mod Taken
 pub mod ReadText

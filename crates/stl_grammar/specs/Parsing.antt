@@ -6,29 +6,22 @@ use Rattle.stl_syntax.specs.declared.rel.Rel.{Rel}
 use Rattle.stl_syntax.specs.Names.{is_name}
 use Rattle.stl_grammar.specs.declared.decimal.Decimal.{Decimal}
 use Rattle.stl_grammar.specs.declared.token.Keyword.{Keyword}
-use Rattle.stl_grammar.specs.declared.token.Keyword.TheVariants.{True, False, Not, And, Or, Implies, Until, Since, Eventually, Always, Once, Historically, Inf}
+use Rattle.stl_grammar.specs.declared.token.Keyword.TheVariants.{Constant as ConstantWord, Not, Connective as ConnectiveWord, Timed as TimedWord, Inf}
 use Rattle.stl_grammar.specs.declared.token.Token.{Token}
 use Rattle.stl_grammar.specs.declared.token.Token.TheVariants.{Keyword as IsKeyword, Name, Number, Relation, OpenParen}
 use Rattle.stl_grammar.specs.declared.token.Token.TheVariants.{CloseParen, OpenBracket, CloseBracket, Comma, Star, Plus, Minus}
-use Rattle.stl_grammar.specs.declared.draft.Window.{Window}
-use Rattle.stl_grammar.specs.declared.draft.PastBound.{PastBound}
-use Rattle.stl_grammar.specs.declared.draft.PastBound.TheVariants.{Whole, From, Within}
-use Rattle.stl_grammar.specs.declared.draft.Prefix.TheVariants.{Not as Negation, Eventually as AtSome, Always as AtEach}
-use Rattle.stl_grammar.specs.declared.draft.Prefix.TheVariants.{Once as BackAtSome, Historically as BackAtEach}
-use Rattle.stl_grammar.specs.declared.draft.Infix.{Infix}
-use Rattle.stl_grammar.specs.declared.draft.Infix.TheVariants.{And as Both, Or as Either, Implies as Then, Until as UpTo, Since as After}
+use Rattle.stl_grammar.specs.Operators.{Connective, binds, left_binds, Timed, is_beside, looks_back, may_be_open}
+use Rattle.stl_grammar.specs.declared.draft.Bound.{Bound}
+use Rattle.stl_grammar.specs.declared.draft.Bound.TheVariants.{Whole, From, Within}
+use Rattle.stl_grammar.specs.declared.draft.Operator.{Operator}
+use Rattle.stl_grammar.specs.declared.draft.Operator.TheVariants.{Not as Negation, Connective as Joins, Timed as Bounded}
 use Rattle.stl_grammar.specs.declared.draft.Frame.{Frame}
-use Rattle.stl_grammar.specs.declared.draft.Frame.TheVariants.{Paren as Opened, Prefix as Before, Infix as Between}
+use Rattle.stl_grammar.specs.declared.draft.Frame.TheVariants.{Paren as Opened, Operator as Waits}
 use Rattle.stl_grammar.specs.declared.draft.Draft.{Draft}
-use Rattle.stl_grammar.specs.declared.draft.Draft.TheVariants.{Const, Sum, One, Two}
-use Rattle.stl_grammar.specs.declared.place.Timed.{Timed}
-use Rattle.stl_grammar.specs.declared.place.Timed.TheVariants.{Until as TUntil, Since as TSince, Eventually as TEventually}
-use Rattle.stl_grammar.specs.declared.place.Timed.TheVariants.{Always as TAlways, Once as TOnce, Historically as THistorically}
-use Rattle.stl_grammar.specs.declared.place.Back.{Back}
-use Rattle.stl_grammar.specs.declared.place.Back.TheVariants.{Since as BSince, Once as BOnce, Historically as BHistorically}
+use Rattle.stl_grammar.specs.declared.draft.Draft.TheVariants.{Const, Sum, Node as Made}
 use Rattle.stl_grammar.specs.declared.place.Place.{Place}
-use Rattle.stl_grammar.specs.declared.place.Place.TheVariants.{Operand, Bound, Low, Comma as AtComma, High, Closing}
-use Rattle.stl_grammar.specs.declared.place.Place.TheVariants.{ClosingInf, Term as AtTerm, Star as AtStar, Name as AtName}
+use Rattle.stl_grammar.specs.declared.place.Place.TheVariants.{Operand, Bound as InBound, Low, Comma as AtComma, High, Closing}
+use Rattle.stl_grammar.specs.declared.place.Place.TheVariants.{Term as AtTerm, Star as AtStar, Name as AtName}
 use Rattle.stl_grammar.specs.declared.place.Place.TheVariants.{Sign, Constant, Number as AtNumber, End}
 
 -- what comes next, what is open, the last first, the nodes, the terms of an atom that is not at its end, and how many nodes were begun
@@ -39,18 +32,16 @@ pub record Parse : Type 0 where
   pub terms : List Term
   pub made : ℕ
 
--- how tightly an operator binds; `implies` groups to the right
-abbrev pub infix_rank : Infix → ℕ
-infix_rank Then = 1
-infix_rank Either = 2
-infix_rank Both = 3
-infix_rank (UpTo w) = 4
-infix_rank (After b) = 4
+-- how tightly an operator binds: one with a bound beside an operand with 4, one before its operand with 5
+abbrev pub operator_rank : Operator → ℕ
+operator_rank Negation = 5
+operator_rank (Joins o) = binds o
+operator_rank (Bounded of b) = if is_beside of then 4 else 5
 
+-- a parenthesis does not
 abbrev pub rank : Frame → ℕ
 rank Opened = 0
-rank (Before o) = 5
-rank (Between o left) = infix_rank o
+rank (Waits o left) = operator_rank o
 
 abbrev pub top_rank : List Frame → ℕ
 top_rank [] = 0
@@ -59,8 +50,7 @@ top_rank (f ∷ frames) = rank f
 -- the node of an operator whose last operand stands at place `last`; a parenthesis makes none
 abbrev pub node_of_frame : Frame → ℕ → Draft
 node_of_frame Opened last = Const true
-node_of_frame (Before o) last = One o last
-node_of_frame (Between o left) last = Two o left last
+node_of_frame (Waits o left) last = Made o left last
 
 -- the nodes after the frames of at least this rank came to their end
 abbrev pub folded_drafts : ℕ → List Frame → List Draft → List Draft
@@ -87,6 +77,10 @@ begun place p = record { place = place; frames = p.frames; drafts = p.drafts; te
 abbrev pub opened : Frame → Parse → Parse
 opened f p = record { place = Operand; frames = f ∷ p.frames; drafts = p.drafts; terms = p.terms; made = p.made }
 
+-- an operator is open, after its left operand, if it has one
+abbrev pub waiting : Operator → Parse → Parse
+waiting o p = opened (Waits o (length p.drafts - 1)) p
+
 -- the operand of one node is at its end, and with it the one-operand operators before it
 abbrev pub completed : Draft → Parse → Parse
 completed d p = folded 5 (record { place = End; frames = p.frames; drafts = p.drafts ++ d ∷ []; terms = []; made = p.made })
@@ -107,56 +101,28 @@ with_term negative n name p =
 abbrev pub between : ℕ → ℕ → List ℕ → List ℕ
 between from to text = take (to - from) (drop from text)
 
--- the operator as one that looks back
-abbrev pub back : Timed → Option Back
-back TUntil = None
-back TSince = Some BSince
-back TEventually = None
-back TAlways = None
-back TOnce = Some BOnce
-back THistorically = Some BHistorically
+-- whether the end is in, where the token is a bracket that opens the bound of the operator; or one that closes it
+abbrev pub opening : Timed → Token → Option Bool
+opening of OpenBracket = Some true
+opening of CloseBracket = if may_be_open of then Some false else None
+opening of _ = None
 
--- the ends of its bound may be out
-abbrev pub may_be_open : Timed → Bool
-may_be_open TUntil = false
-may_be_open TSince = false
-may_be_open _ = true
+abbrev pub closing : Timed → Token → Option Bool
+closing of CloseBracket = Some true
+closing of OpenBracket = if may_be_open of then Some false else None
+closing of _ = None
 
-abbrev pub back_may_be_open : Back → Bool
-back_may_be_open BSince = false
-back_may_be_open _ = true
-
--- whether the end is in, where the token is a bracket that opens a bound; or one that closes it
-abbrev pub opening : Bool → Token → Option Bool
-opening free OpenBracket = Some true
-opening free CloseBracket = if free then Some false else None
-opening free _ = None
-
-abbrev pub closing : Bool → Token → Option Bool
-closing free CloseBracket = Some true
-closing free OpenBracket = if free then Some false else None
-closing free _ = None
-
--- an operator with its bound
-abbrev pub bounded_frame : Timed → Window → ℕ → Frame
-bounded_frame TUntil w left = Between (UpTo w) left
-bounded_frame TSince w left = Between (After (Within w)) left
-bounded_frame TEventually w left = Before (AtSome w)
-bounded_frame TAlways w left = Before (AtEach w)
-bounded_frame TOnce w left = Before (BackAtSome (Within w))
-bounded_frame THistorically w left = Before (BackAtEach (Within w))
-
-abbrev pub back_frame : Back → PastBound → ℕ → Frame
-back_frame BSince b left = Between (After b) left
-back_frame BOnce b left = Before (BackAtSome b)
-back_frame BHistorically b left = Before (BackAtEach b)
+-- a bound that was not left out; an infinite end is neither in nor out
+abbrev pub bound : Bool → Decimal → Option Decimal → Bool → Bound
+bound low_in low None high_in = From low low_in
+bound low_in low (Some high) high_in = Within (record { low = low; high = high; low_in = low_in; high_in = high_in })
 
 -- where a token changes the place alone
 abbrev pub next_place : Place → Token → Option Place
 next_place (Low of low_in) (Number low) = Some (AtComma of low_in low)
 next_place (AtComma of low_in low) Comma = Some (High of low_in low)
-next_place (High of low_in low) (Number high) = Some (Closing of low_in low high)
-next_place (High of low_in low) (IsKeyword Inf) = option_map (λ b. ClosingInf b low_in low) (back of)
+next_place (High of low_in low) (Number high) = Some (Closing of low_in low (Some high))
+next_place (High of low_in low) (IsKeyword Inf) = if looks_back of then Some (Closing of low_in low None) else None
 next_place (AtTerm negative) (Number coef) = Some (AtStar negative coef)
 next_place (AtStar negative coef) Star = Some (AtName negative coef)
 next_place Sign Plus = Some (AtTerm false)
@@ -168,13 +134,9 @@ next_place _ _ = None
 
 -- an operand begins with a word of the grammar
 abbrev pub begin_keyword : Parse → Keyword → Option Parse
-begin_keyword p True = Some (completed (Const true) (begun End p))
-begin_keyword p False = Some (completed (Const false) (begun End p))
-begin_keyword p Not = Some (opened (Before Negation) (begun Operand p))
-begin_keyword p Eventually = Some (begun (Bound TEventually) p)
-begin_keyword p Always = Some (begun (Bound TAlways) p)
-begin_keyword p Once = Some (begun (Bound TOnce) p)
-begin_keyword p Historically = Some (begun (Bound THistorically) p)
+begin_keyword p (ConstantWord b) = Some (completed (Const b) (begun End p))
+begin_keyword p Not = Some (waiting Negation (begun Operand p))
+begin_keyword p (TimedWord of) = if is_beside of then None else Some (begun (InBound of) p)
 begin_keyword p _ = None
 
 -- an operand begins
@@ -189,25 +151,24 @@ begin_operand text p _ = None
 
 -- a bound begins, or where it may be left out, an operand
 abbrev pub begin_bound : List ℕ → Timed → Parse → Token → Option Parse
-begin_bound text of p t = by_opening (opening (may_be_open of) t) (back of)
+begin_bound text of p t = by_opening (opening of t)
   where
-    by_opening : Option Bool → Option Back → Option Parse
-    by_opening (Some low_in) b = Some (moved (Low of low_in) p)
-    by_opening None None = None
-    by_opening None (Some b) = begin_operand text (opened (back_frame b Whole (length p.drafts - 1)) p) t
+    by_opening : Option Bool → Option Parse
+    by_opening (Some low_in) = Some (moved (Low of low_in) p)
+    by_opening None = if looks_back of then begin_operand text (waiting (Bounded of Whole) p) t else None
 
 -- a bound ends
-abbrev pub end_bound : Option Bool → (Bool → Frame) → Parse → Option Parse
-end_bound None frame p = None
-end_bound (Some high_in) frame p = Some (opened (frame high_in) p)
+abbrev pub end_bound : Timed → Bool → Decimal → Option Decimal → Parse → Option Bool → Option Parse
+end_bound of low_in low high p None = None
+end_bound of low_in low high p (Some high_in) = Some (waiting (Bounded of (bound low_in low high high_in)) p)
 
 -- an atom ends with its number
 abbrev pub end_atom : Rel → Bool → Parse → Decimal → Parse
 end_atom rel negative p d = completed (Sum (record { terms = p.terms; rel = rel; negative = negative; limit = d })) p
 
--- an operand that is to follow a two-operand operator without a bound
-abbrev pub joined : ℕ → Infix → Parse → Parse
-joined r o p = opened (Between o (length (folded r p).drafts - 1)) (begun Operand (folded r p))
+-- an operand that is to follow a connective
+abbrev pub joined : Connective → Parse → Parse
+joined o p = waiting (Joins o) (begun Operand (folded (left_binds o) p))
 
 -- a parenthesis ends
 abbrev pub closed : Parse → Option Parse
@@ -219,11 +180,8 @@ closed p = by_frames p.frames
 
 -- after a whole operand
 abbrev pub after_keyword : Parse → Keyword → Option Parse
-after_keyword p And = Some (joined 3 Both p)
-after_keyword p Or = Some (joined 2 Either p)
-after_keyword p Implies = Some (joined 2 Then p)
-after_keyword p Until = if nat_le 4 (top_rank p.frames) then None else Some (begun (Bound TUntil) p)
-after_keyword p Since = if nat_le 4 (top_rank p.frames) then None else Some (begun (Bound TSince) p)
+after_keyword p (ConnectiveWord o) = Some (joined o p)
+after_keyword p (TimedWord of) = if is_beside of then (if nat_le 4 (top_rank p.frames) then None else Some (begun (InBound of) p)) else None
 after_keyword p _ = None
 
 abbrev pub after_operand : Parse → Token → Option Parse
@@ -251,11 +209,8 @@ parse_step text p t = by_place p.place
   where
     by_place : Place → Option Parse
     by_place Operand = begin_operand text p t
-    by_place (Bound of) = begin_bound text of p t
-    by_place (Closing of low_in low high) =
-        end_bound (closing (may_be_open of) t)
-        (λ high_in. bounded_frame of (record { low = low; high = high; low_in = low_in; high_in = high_in }) (length p.drafts - 1)) p
-    by_place (ClosingInf of low_in low) = end_bound (closing (back_may_be_open of) t) (λ high_in. back_frame of (From low low_in) (length p.drafts - 1)) p
+    by_place (InBound of) = begin_bound text of p t
+    by_place (Closing of low_in low high) = end_bound of low_in low high p (closing of t)
     by_place (AtTerm negative) = step_term text p (AtTerm negative) negative 1 t
     by_place (AtName negative coef) = step_term text p (AtName negative coef) negative (coefficient coef) t
     by_place (Constant rel) = step_constant p (Constant rel) rel false t

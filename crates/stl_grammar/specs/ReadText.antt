@@ -9,7 +9,10 @@ use Rattle.stl_grammar.specs.Grammar.{FormulaText}
 use Rattle.stl_grammar.specs.Spelling.{IsLexeme}
 use Rattle.stl_grammar.specs.Parsing.{Parse, parse_step}
 use Rattle.stl_grammar.specs.Refusing.{refused}
-use Rattle.stl_grammar.specs.Taken.{Taken, plain}
+use Rattle.stl_grammar.specs.Machine.{run}
+use Rattle.stl_grammar.specs.States.{state_in}
+use Rattle.stl_grammar.specs.Taken.{plain}
+use Rattle.stl_syntax.specs.declared.scale.Scale.{Scale}
 use Rattle.stl_grammar.specs.declared.token.Token.{Token}
 use Rattle.stl_grammar.specs.declared.fault.FormulaFault.{FormulaFault}
 use Rattle.stl_grammar.specs.declared.fault.FormulaFault.TheVariants.{BadByte, ConstantTooLarge, ReachTooLarge}
@@ -38,7 +41,7 @@ Stops text at old r = (BeginsNoToken (drop at text) × (r ≡ BadByte at)) ⊎ R
 -- the whole text was read, and none of its tokens is refused
 pub record IsRead (text : List ℕ) (p : Parse) (codes : List Token) : Type 0 where
   pub before : List Tokens.Token
-  pub taken : Taken text before p
+  pub reads : (s : Scale) → run s before ≡ Some (state_in s p)
   pub spelled : reverse before ≡ map (plain text) codes
   pub lexed : Lexes text (reverse before)
   pub ended : MayEnd before

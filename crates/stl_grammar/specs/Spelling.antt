@@ -3,7 +3,8 @@ use Rattle.std.specs.Prelude.{◌≡◌, ℕ, ◌+◌, ◌||◌, ◌==◌, ◌<�
 use Rattle.stl_grammar.specs.Tokens.{Token, word, number, relation, open_paren, close_paren, open_bracket, close_bracket, comma, star, plus, minus, IsToken}
 use Rattle.stl_syntax.specs.Names.{is_name}
 use Rattle.stl_grammar.specs.declared.token.Keyword.{Keyword}
-use Rattle.stl_grammar.specs.declared.token.Keyword.TheVariants.{True, False, Not, And, Or, Implies, Until, Since, Eventually, Always, Once, Historically, Inf}
+use Rattle.stl_grammar.specs.declared.token.Keyword.TheVariants.{Constant, Not, Connective, Timed, Inf}
+use Rattle.stl_grammar.specs.Operators.{connective_word, timed_word, constant_word}
 use Rattle.stl_grammar.specs.declared.decimal.Decimal.{Decimal}
 use Rattle.stl_grammar.specs.declared.token.Token.{Token as Code}
 use Rattle.stl_grammar.specs.declared.token.Token.TheVariants.{Keyword as IsKeyword, Name, Number, Relation, OpenParen}
@@ -11,18 +12,10 @@ use Rattle.stl_grammar.specs.declared.token.Token.TheVariants.{CloseParen, OpenB
 
 -- how a word of the grammar is spelled
 abbrev pub spelling : Keyword → List ℕ
-spelling True = codes "true"
-spelling False = codes "false"
+spelling (Constant b) = constant_word b
 spelling Not = codes "not"
-spelling And = codes "and"
-spelling Or = codes "or"
-spelling Implies = codes "implies"
-spelling Until = codes "until"
-spelling Since = codes "since"
-spelling Eventually = codes "eventually"
-spelling Always = codes "always"
-spelling Once = codes "once"
-spelling Historically = codes "historically"
+spelling (Connective o) = connective_word o
+spelling (Timed of) = timed_word of
 spelling Inf = codes "inf"
 
 -- a name that stands in the text from one place up to another

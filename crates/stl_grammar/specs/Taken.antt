@@ -1,10 +1,9 @@
--- The tokens that a parser took, and what it made of them. A helper for the contracts of the code.
-use Rattle.std.specs.Prelude.{◌≡◌, ℕ, false, List, [], ◌∷◌, Some}
+-- What the code's tokens spell, and a parser before the first. A helper for the contracts of the code.
+use Rattle.std.specs.Prelude.{ℕ, List, []}
 use Rattle.stl_grammar.specs.Tokens as Tokens
 use Rattle.stl_grammar.specs.Tokens.{word, number, relation, open_paren, close_paren, open_bracket, close_bracket, comma, star, plus, minus}
-use Rattle.stl_grammar.specs.Spelling.{Spells, spelling}
-use Rattle.stl_grammar.specs.Parsing.{Parse, parse_step, between}
-use Rattle.stl_grammar.specs.Refusing.{bad_in, disorder_in}
+use Rattle.stl_grammar.specs.Spelling.{spelling}
+use Rattle.stl_grammar.specs.Parsing.{Parse, between}
 use Rattle.stl_grammar.specs.declared.token.Token.{Token as Code}
 use Rattle.stl_grammar.specs.declared.token.Token.TheVariants.{Keyword as IsKeyword, Name, Number, Relation, OpenParen}
 use Rattle.stl_grammar.specs.declared.token.Token.TheVariants.{CloseParen, OpenBracket, CloseBracket, Comma, Star, Plus, Minus}
@@ -28,9 +27,3 @@ plain text Minus = minus
 -- before the first token
 abbrev pub empty_parse : Parse
 empty_parse = record { place = Operand; frames = []; drafts = []; terms = []; made = 0 }
-
--- the tokens before a place, the last one first, and the parser after them
-pub data Taken (text : List ℕ) : List Tokens.Token → Parse → Type 0 where
-  none : Taken text [] empty_parse
-  more : {before : List Tokens.Token} {p q : Parse} (t : Tokens.Token) (c : Code) → Taken text before p → Spells text c t → bad_in p.place c ≡ false
-      → disorder_in p.place c ≡ false → parse_step text p c ≡ Some q → Taken text (t ∷ before) q

@@ -9,7 +9,7 @@ ghost use Rattle.stl_grammar.specs.Drafts.{node_in, nodes_in};
 
 use crate::draft::Draft;
 use crate::fault::FormulaFault;
-use crate::ticks::{one, one_reach, two, two_reach};
+use crate::ticks::{node, operator_reach};
 use frac128::Memory;
 use std::alloc::Global;
 use stl_syntax::{Formula, FormulaBuilder, Node, Scale};
@@ -35,8 +35,7 @@ fn own_reach(draft: &Draft, scale: Scale) -> u64
     ensures small { result ≤ 4294967295000000 }
 {
     match draft {
-        Draft::One { operator, .. } => one_reach(*operator, scale.time),
-        Draft::Two { operator, .. } => two_reach(*operator, scale.time),
+        Draft::Node { operator, .. } => operator_reach(*operator, scale.time),
         _ => 0,
     }
 }
@@ -50,12 +49,11 @@ fn node_of(draft: Draft, scale: Scale) -> Node
     match draft {
         Draft::Const(value) => Node::Const(value),
         Draft::Sum(sum) => Node::Atom(sum.into_atom(scale.value)),
-        Draft::One { operator, of } => one(operator, of as u32, scale.time),
-        Draft::Two {
+        Draft::Node {
             operator,
             left,
             right,
-        } => two(operator, left as u32, right as u32, scale.time),
+        } => node(operator, left, right, scale.time),
     }
 }
 

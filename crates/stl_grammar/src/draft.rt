@@ -1,5 +1,6 @@
 //! What is kept of a formula while its text is read: nodes with numbers as they stand, and what is open.
 use crate::decimal::Decimal;
+use crate::operator::{Connective, Timed};
 use crate::ticks::{constant, constant_size};
 use std::marker::Model;
 use stl_syntax::{Atom, Rel, Term, make_atom};
@@ -13,9 +14,9 @@ pub(crate) struct Window {
     pub(crate) high_in: bool,
 }
 
-/// The bound of an operator that looks back.
+/// The bound of an operator.
 #[derive(Clone, Copy)]
-pub(crate) enum PastBound {
+pub(crate) enum Bound {
     /// It was left out.
     Whole,
     /// It has no upper end.
@@ -23,32 +24,20 @@ pub(crate) enum PastBound {
     Within(Window),
 }
 
-/// A one-operand operator.
+/// An operator, with its bound where it has one.
 #[derive(Clone, Copy)]
-pub(crate) enum Prefix {
+pub(crate) enum Operator {
     Not,
-    Eventually(Window),
-    Always(Window),
-    Once(PastBound),
-    Historically(PastBound),
-}
-
-/// A two-operand operator; the ends of a bound are in.
-#[derive(Clone, Copy)]
-pub(crate) enum Infix {
-    And,
-    Or,
-    Implies,
-    Until(Window),
-    Since(PastBound),
+    Connective(Connective),
+    Timed(Timed, Bound),
 }
 
 /// What is open: a parenthesis, or an operator whose last operand is not at its end.
 #[derive(Clone, Copy)]
 pub(crate) enum Frame {
     Paren,
-    Prefix(Prefix),
-    Infix { operator: Infix, left: usize },
+    /// `left` is the place of its left operand, where it has one.
+    Operator { operator: Operator, left: usize },
 }
 
 /// A sum of terms that is compared with a number, its sign told apart.
@@ -114,12 +103,9 @@ impl Sum {
 pub(crate) enum Draft {
     Const(bool),
     Sum(Sum),
-    One {
-        operator: Prefix,
-        of: usize,
-    },
-    Two {
-        operator: Infix,
+    /// `left` is the place of its left operand, where it has one.
+    Node {
+        operator: Operator,
         left: usize,
         right: usize,
     },

@@ -1,10 +1,11 @@
 //! What is open while a formula is read: parentheses, operators that wait for an operand, bounds.
 ghost use Rattle.std.specs.Prelude.{◌≡◌, ◌≤◌, ◌<◌, ◌∷◌, [], length, IfOk, MatchOption};
-ghost use Rattle.stl_grammar.specs.Refusing.{marks_of, marks_in, parens_in};
-ghost use Rattle.stl_grammar.specs.Machine.{in_paren};
-ghost use Rattle.stl_grammar.specs.Parsing.{infix_rank, top_rank, rank as frame_rank};
+ghost use Rattle.stl_grammar.specs.FormulaRefusals.{has_paren as holds_paren};
+ghost use Rattle.stl_grammar.specs.Machine.{pending_of};
+ghost use Rattle.stl_grammar.specs.Refusing.{ranks_of, marks_in, parens_in};
+ghost use Rattle.stl_grammar.specs.Parsing.{operator_rank, top_rank, rank as frame_rank};
 
-use crate::draft::{Frame, Infix};
+use crate::draft::{Frame, Operator};
 use std::alloc::{AllocError, Global};
 use std::marker::Model;
 
@@ -28,15 +29,14 @@ impl Model for Frames {
     ghost invariant = { λ f. AreCounted f.pending f.parens (reverse f.frames.items) };
 }
 
-/// How tightly a two-operand operator binds.
-fn infix_rank(operator: Infix) -> u8
-    ensures { result ≡ infix_rank operator }
+/// How tightly an operator binds: one with a bound beside an operand with 4, one before its operand with 5.
+fn operator_rank(operator: Operator) -> u8
+    ensures { result ≡ operator_rank operator }
 {
     match operator {
-        Infix::Implies => 1,
-        Infix::Or => 2,
-        Infix::And => 3,
-        Infix::Until(_) | Infix::Since(_) => 4,
+        Operator::Not => 5,
+        Operator::Connective(connective) => connective.rank(),
+        Operator::Timed(of, _) => { if of.is_beside() { 4 } else { 5 } }
     }
 }
 
@@ -46,8 +46,7 @@ fn rank(frame: Frame) -> u8
 {
     match frame {
         Frame::Paren => 0,
-        Frame::Prefix(_) => 5,
-        Frame::Infix { operator, .. } => infix_rank(operator),
+        Frame::Operator { operator, .. } => operator_rank(operator),
     }
 }
 
@@ -55,13 +54,8 @@ fn rank(frame: Frame) -> u8
 fn marks(frame: Frame) -> usize
     ensures { result ≡ marks_in frame }
 {
-    match frame {
-        Frame::Paren | Frame::Prefix(_) => 1,
-        Frame::Infix { operator, .. } => match operator {
-            Infix::Implies => 1,
-            _ => 0,
-        },
-    }
+    let rank = rank(frame);
+    if rank >= 2 && rank <= 4 { 0 } else { 1 }
 }
 
 /// How many of what is open are parentheses.
@@ -97,14 +91,14 @@ impl Frames {
 
     /// How many are pending: parentheses, one-operand operators and `implies`.
     pub(crate) fn pending(&self) -> usize
-        ensures { result ≡ length (marks_of self.now) }
+        ensures { result ≡ length (pending_of (ranks_of self.now)) }
     {
         self.pending
     }
 
     /// Whether a parenthesis is open.
     pub(crate) fn has_paren(&self) -> bool
-        ensures { result ≡ in_paren (marks_of self.now) }
+        ensures { result ≡ holds_paren (pending_of (ranks_of self.now)) }
     {
         self.parens > 0
     }

@@ -7,6 +7,7 @@ ghost use Rattle.stl_grammar.specs.Spelling.{spelling, has_equal, IsLexeme};
 
 use crate::chars::{begins_word, digits_len, is_digit, word_len};
 use crate::number::{begins_decimals, kept_decimals, number, value_after};
+use crate::operator::{Connective, Timed};
 use crate::token::{Keyword, Lexeme, Token};
 use stl_syntax::Rel;
 
@@ -15,8 +16,8 @@ fn past_keyword(word: &[u8]) -> Option<Keyword>
     ensures { MatchOption result (is_among word.now (drop 10 reserved) ≡ false) (λ w. word.now ≡ spelling w) }
 {
     match word {
-        b"once" => Some(Keyword::Once),
-        b"historically" => Some(Keyword::Historically),
+        b"once" => Some(Keyword::Timed(Timed::Once)),
+        b"historically" => Some(Keyword::Timed(Timed::Historically)),
         b"inf" => Some(Keyword::Inf),
         _ => None,
     }
@@ -27,8 +28,8 @@ fn bounded_keyword(word: &[u8]) -> Option<Keyword>
     ensures { MatchOption result (is_among word.now (drop 8 reserved) ≡ false) (λ w. word.now ≡ spelling w) }
 {
     match word {
-        b"eventually" => Some(Keyword::Eventually),
-        b"always" => Some(Keyword::Always),
+        b"eventually" => Some(Keyword::Timed(Timed::Eventually)),
+        b"always" => Some(Keyword::Timed(Timed::Always)),
         _ => past_keyword(word),
     }
 }
@@ -38,10 +39,10 @@ fn later_keyword(word: &[u8]) -> Option<Keyword>
     ensures { MatchOption result (is_among word.now (drop 4 reserved) ≡ false) (λ w. word.now ≡ spelling w) }
 {
     match word {
-        b"or" => Some(Keyword::Or),
-        b"implies" => Some(Keyword::Implies),
-        b"until" => Some(Keyword::Until),
-        b"since" => Some(Keyword::Since),
+        b"or" => Some(Keyword::Connective(Connective::Or)),
+        b"implies" => Some(Keyword::Connective(Connective::Implies)),
+        b"until" => Some(Keyword::Timed(Timed::Until)),
+        b"since" => Some(Keyword::Timed(Timed::Since)),
         _ => bounded_keyword(word),
     }
 }
@@ -51,10 +52,10 @@ fn keyword(word: &[u8]) -> Option<Keyword>
     ensures { MatchOption result (is_among word.now reserved ≡ false) (λ w. word.now ≡ spelling w) }
 {
     match word {
-        b"true" => Some(Keyword::True),
-        b"false" => Some(Keyword::False),
+        b"true" => Some(Keyword::Constant(true)),
+        b"false" => Some(Keyword::Constant(false)),
         b"not" => Some(Keyword::Not),
-        b"and" => Some(Keyword::And),
+        b"and" => Some(Keyword::Connective(Connective::And)),
         _ => later_keyword(word),
     }
 }

@@ -11,6 +11,7 @@ mod frames;
 pub mod laws;
 mod lexer;
 mod number;
+mod operator;
 mod parser;
 mod place;
 mod reader;

@@ -1,17 +1,15 @@
 //! The parser: it takes tokens from the left, and drafts each node as its last token comes.
 ghost use Rattle.std.specs.Prelude.{◌≡◌, ◌<◌, ◌≤◌, ◌-◌, ◌∷◌, ◌++◌, [], nat_le, if◌then◌else◌, length, IfOk, IsTrue};
 ghost use Rattle.stl_syntax.specs.Names.{is_name};
-ghost use Rattle.stl_grammar.specs.Parsing.{signed, between, may_be_open as may_be_out, back_may_be_open, top_rank};
+ghost use Rattle.stl_grammar.specs.Parsing.{signed, between};
 
 use crate::decimal::Decimal;
-use crate::draft::{Draft, Frame, Infix, PastBound, Prefix, Sum, Window};
+use crate::draft::{Bound, Draft, Frame, Operator, Sum};
 use crate::fault::What;
 use crate::frames::Frames;
-use crate::place::{Back, Place, Timed};
-use crate::shapes::{
-    back, back_frame, bounded_frame, closing, coefficient, fold, in_bound, may_be_open, next_place,
-    opening, past_may_be_open,
-};
+use crate::operator::{Connective, Timed};
+use crate::place::Place;
+use crate::shapes::{bound, closing, coefficient, fold, in_bound, next_place, opening};
 use crate::token::{Keyword, Token};
 use std::alloc::{AllocError, Global};
 use std::marker::Model;
@@ -67,16 +65,14 @@ fn make_term(
 
 impl Parser {
     ghost use Rattle.std.specs.Prelude.{List, ℕ, suc, Some, None, MatchBool, true, false, take, drop, nat_lt};
-    ghost use Rattle.stl_grammar.specs.Refusing.{depth_of, expected_in, place_at, marks_of};
-    ghost use Rattle.stl_grammar.specs.Machine.{ends_at};
+    ghost use Rattle.stl_grammar.specs.Refusing.{depth_of, expected_in, is_whole_in};
     ghost use Rattle.stl_grammar.specs.Parsing.{Parse, folded, folded_drafts, moved, begun, opened as opened_by, completed};
     ghost use Rattle.stl_grammar.specs.Parsing.{with_term, begin_keyword as keyword_begins, begin_operand as operand_begins};
     ghost use Rattle.stl_grammar.specs.Parsing.{begin_bound as bound_begins, end_bound as bound_ends, end_atom as atom_ends};
     ghost use Rattle.stl_grammar.specs.Parsing.{joined as joined_by, closed, after_keyword as keyword_after};
     ghost use Rattle.stl_grammar.specs.Parsing.{after_operand as operand_after, move_to as moves_to};
     ghost use Rattle.stl_grammar.specs.Parsing.{step_constant as constant_step, step_term as term_step, parse_step, Gives};
-    ghost use Rattle.stl_grammar.specs.Parsing.{IsKnown, back_frame as frame_back, bounded_frame as frame_of};
-    ghost use Rattle.stl_grammar.specs.Parsing.{next_place as place_after, opening as opening_of, closing as closing_of};
+    ghost use Rattle.stl_grammar.specs.Parsing.{IsKnown, waiting, closing as closing_of};
 
     /// Before the first token.
     pub(crate) fn new(alloc: Global) -> Parser
@@ -131,7 +127,7 @@ impl Parser {
             Place::Operand | Place::Bound { .. } => What::Operand,
             Place::Low { .. } | Place::High { .. } => What::Number,
             Place::Comma { .. } => What::Comma,
-            Place::Closing { .. } | Place::ClosingInf { .. } => What::Bracket,
+            Place::Closing { .. } => What::Bracket,
             Place::Term { .. } => What::Term,
             Place::Star { .. } => What::Star,
             Place::Name { .. } => What::Name,
@@ -149,7 +145,7 @@ impl Parser {
 
     /// Whether the tokens so far are a formula.
     pub(crate) fn is_whole(&self) -> bool
-        ensures { result ≡ ends_at (place_at self.now.place (length self.now.terms)) (marks_of self.now.frames) }
+        ensures { result ≡ is_whole_in self.now }
     {
         match self.place {
             Place::End => !self.frames.has_paren(),
@@ -194,6 +190,14 @@ impl Parser {
         self.frames.push(frame)
     }
 
+    /// Opens an operator after its left operand, if it has one.
+    fn wait(&mut self, operator: Operator) -> Result<(), AllocError>
+        ensures { IfOk result (λ _. self.new ≡ waiting operator self.old) }
+    {
+        let left = self.last();
+        self.open(Frame::Operator { operator, left })
+    }
+
     /// Ends the operators that bind at least so tightly.
     fn fold(&mut self, least: u8) -> Result<(), AllocError>
         requires { 0 < least }
@@ -236,20 +240,17 @@ impl Parser {
         ensures { IfOk result (λ taken. Gives (keyword_begins self.old word) taken self.new) }
     {
         match word {
-            Keyword::True => self.constant(true)?,
-            Keyword::False => self.constant(false)?,
+            Keyword::Constant(value) => self.constant(value)?,
             Keyword::Not => {
                 self.begin(Place::Operand);
-                self.open(Frame::Prefix(Prefix::Not))?;
+                self.wait(Operator::Not)?;
             }
-            Keyword::Eventually => self.begin(Place::Bound {
-                of: Timed::Eventually,
-            }),
-            Keyword::Always => self.begin(Place::Bound { of: Timed::Always }),
-            Keyword::Once => self.begin(Place::Bound { of: Timed::Once }),
-            Keyword::Historically => self.begin(Place::Bound {
-                of: Timed::Historically,
-            }),
+            Keyword::Timed(of) => {
+                if of.is_beside() {
+                    return Ok(false);
+                }
+                self.begin(Place::Bound { of });
+            }
             _ => return Ok(false),
         }
         Ok(true)
@@ -304,14 +305,14 @@ impl Parser {
         requires known { IsKnown text.now token }
         ensures { IfOk result (λ taken. Gives (bound_begins text.now of self.old token) taken self.new) }
     {
-        if let Some(low_in) = opening(may_be_open(of), token) {
+        if let Some(low_in) = opening(of, token) {
             self.place = Place::Low { of, low_in };
             return Ok(true);
         }
-        let Some(of) = back(of) else {
+        if !of.looks_back() {
             return Ok(false);
-        };
-        self.open(back_frame(of, PastBound::Whole, self.last()))?;
+        }
+        self.wait(Operator::Timed(of, Bound::Whole))?;
         self.begin_operand(text, token)
     }
 
@@ -321,41 +322,15 @@ impl Parser {
         of: Timed,
         low_in: bool,
         low: Decimal,
-        high: Decimal,
+        high: Option<Decimal>,
         token: Token,
     ) -> Result<bool, AllocError>
-        ensures { IfOk result (λ taken. Gives (bound_ends (closing_of (may_be_out of) token)
-            (λ high_in. frame_of of (record { low = low; high = high; low_in = low_in; high_in = high_in }) (length self.old.drafts - 1)) self.old)
-            taken self.new) }
+        ensures { IfOk result (λ taken. Gives (bound_ends of low_in low high self.old (closing_of of token)) taken self.new) }
     {
-        let Some(high_in) = closing(may_be_open(of), token) else {
+        let Some(high_in) = closing(of, token) else {
             return Ok(false);
         };
-        let window = Window {
-            low,
-            high,
-            low_in,
-            high_in,
-        };
-        self.open(bounded_frame(of, window, self.last()))?;
-        Ok(true)
-    }
-
-    /// Ends a bound without an upper end.
-    fn end_past(
-        &mut self,
-        of: Back,
-        low_in: bool,
-        low: Decimal,
-        token: Token,
-    ) -> Result<bool, AllocError>
-        ensures { IfOk result (λ taken. Gives (bound_ends (closing_of (back_may_be_open of) token)
-            (λ high_in. frame_back of (PastBound.From low low_in) (length self.old.drafts - 1)) self.old) taken self.new) }
-    {
-        if closing(past_may_be_open(of), token).is_none() {
-            return Ok(false);
-        }
-        self.open(back_frame(of, PastBound::From { low, low_in }, self.last()))?;
+        self.wait(Operator::Timed(of, bound(low_in, low, high, high_in)))?;
         Ok(true)
     }
 
@@ -397,18 +372,14 @@ impl Parser {
         Ok(self.move_to(next_place(self.place, token)))
     }
 
-    /// Joins the operand before it to one that is to follow, by an operator without a bound.
-    fn join(&mut self, least: u8, operator: Infix) -> Result<(), AllocError>
-        requires least { 0 < least }
-        requires made { self.old.made ≤ 256 }
-        ensures { IfOk result (λ _. self.new ≡ joined_by least operator self.old) }
+    /// Joins the operand before it to one that is to follow.
+    fn join(&mut self, connective: Connective) -> Result<(), AllocError>
+        requires { self.old.made ≤ 256 }
+        ensures { IfOk result (λ _. self.new ≡ joined_by connective self.old) }
     {
-        self.fold(least)?;
+        self.fold(connective.left_rank())?;
         self.begin(Place::Operand);
-        self.open(Frame::Infix {
-            operator,
-            left: self.last(),
-        })
+        self.wait(Operator::Connective(connective))
     }
 
     /// Ends a parenthesis.
@@ -423,11 +394,14 @@ impl Parser {
         Ok(true)
     }
 
-    /// An operator with a bound after an operand, where no other stands beside it.
+    /// An operator with a bound after an operand, where it may stand there and no other does.
     fn begin_beside(&mut self, of: Timed) -> bool
         requires { self.old.made ≤ 256 }
-        ensures { Gives (if nat_le 4 (top_rank self.old.frames) then None else Some (begun (Place.Bound of) self.old)) result self.new }
+        ensures { Gives (keyword_after self.old (Keyword.Timed of)) result self.new }
     {
+        if !of.is_beside() {
+            return false;
+        }
         if self.frames.top_rank() >= 4 {
             return false;
         }
@@ -441,14 +415,13 @@ impl Parser {
         ensures { IfOk result (λ taken. Gives (keyword_after self.old word) taken self.new) }
     {
         match word {
-            Keyword::And => self.join(3, Infix::And)?,
-            Keyword::Or => self.join(2, Infix::Or)?,
-            Keyword::Implies => self.join(2, Infix::Implies)?,
-            Keyword::Until => return Ok(self.begin_beside(Timed::Until)),
-            Keyword::Since => return Ok(self.begin_beside(Timed::Since)),
-            _ => return Ok(false),
+            Keyword::Connective(connective) => {
+                self.join(connective)?;
+                Ok(true)
+            }
+            Keyword::Timed(of) => Ok(self.begin_beside(of)),
+            _ => Ok(false),
         }
-        Ok(true)
     }
 
     /// A token after a whole operand.
@@ -481,7 +454,6 @@ impl Parser {
                 low,
                 high,
             } => self.end_bound(of, low_in, low, high, token),
-            Place::ClosingInf { of, low_in, low } => self.end_past(of, low_in, low, token),
             Place::Term { negative } => self.step_term(text, negative, 1, token),
             Place::Name { negative, coef } => {
                 self.step_term(text, negative, coefficient(coef), token)

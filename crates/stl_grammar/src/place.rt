@@ -1,25 +1,7 @@
 //! Where a parser stands in a formula: what may come next.
 use crate::decimal::Decimal;
+use crate::operator::Timed;
 use stl_syntax::Rel;
-
-/// An operator that has a bound.
-#[derive(Clone, Copy)]
-pub(crate) enum Timed {
-    Until,
-    Since,
-    Eventually,
-    Always,
-    Once,
-    Historically,
-}
-
-/// An operator that looks back: its bound may be left out, and may have no upper end.
-#[derive(Clone, Copy)]
-pub(crate) enum Back {
-    Since,
-    Once,
-    Historically,
-}
 
 /// What comes next.
 #[derive(Clone, Copy)]
@@ -45,18 +27,12 @@ pub(crate) enum Place {
         low_in: bool,
         low: Decimal,
     },
-    /// The bracket after the upper number.
+    /// The bracket after the upper number, or after `inf`.
     Closing {
         of: Timed,
         low_in: bool,
         low: Decimal,
-        high: Decimal,
-    },
-    /// The bracket after `inf`.
-    ClosingInf {
-        of: Back,
-        low_in: bool,
-        low: Decimal,
+        high: Option<Decimal>,
     },
     /// A term, after its sign.
     Term {

@@ -2,14 +2,15 @@
 ghost use Rattle.std.specs.Prelude.{◌≡◌, ◌⊎◌, ◌≤◌, ◌<◌, ◌*◌, ◌^◌, length, nat_lt, not, true, false, Some, None, MatchResult};
 ghost use Rattle.stl_grammar.specs.FormulaRefusals.{opens_bound as begins_bound, passes_limit};
 ghost use Rattle.stl_grammar.specs.Parsing.{parse_step, IsKnown};
-ghost use Rattle.stl_grammar.specs.Spelling.{spelling};
+ghost use Rattle.stl_grammar.specs.Operators.{timed_word};
 ghost use Rattle.stl_grammar.specs.Refusing.{bad_in, disorder_in, fifth_in, late_in, refused, unbounded_in, future_in};
 
 use crate::chars::is_blank;
 use crate::decimal::Decimal;
 use crate::fault::{FormulaFault, What};
+use crate::operator::Timed;
 use crate::parser::Parser;
-use crate::place::{Place, Timed};
+use crate::place::Place;
 use crate::token::{Keyword, Token};
 
 /// How many nodes a formula may have.
@@ -19,13 +20,13 @@ const MOST_NODES: u32 = 256;
 const MOST_TERMS: usize = 4;
 
 /// Whether a bracket that may open a bound of the operator comes next, blanks aside.
-fn opens_bound(word: Keyword, rest: &[u8]) -> bool
-    ensures { result ≡ begins_bound (spelling word) rest.now }
+fn opens_bound(of: Timed, rest: &[u8]) -> bool
+    ensures { result ≡ begins_bound (timed_word of) rest.now }
 {
     for c in rest {
         if !is_blank(*c) {
-            return match word {
-                Keyword::Until => *c == b'[',
+            return match of {
+                Timed::Until => *c == b'[',
                 _ => *c == b'[' || *c == b']',
             };
         }
@@ -38,10 +39,7 @@ fn is_future_end(place: Place) -> bool
     ensures { result ≡ future_in place }
 {
     match place {
-        Place::High { of, .. } => match of {
-            Timed::Until | Timed::Eventually | Timed::Always => true,
-            _ => false,
-        },
+        Place::High { of, .. } => !of.looks_back(),
         _ => false,
     }
 }
@@ -105,7 +103,7 @@ fn is_unbounded(place: Place, token: Token, rest: &[u8]) -> bool
 {
     match token {
         Token::Keyword(word) => match word {
-            Keyword::Until | Keyword::Eventually | Keyword::Always => !opens_bound(word, rest),
+            Keyword::Timed(of) => !of.looks_back() && !opens_bound(of, rest),
             Keyword::Inf => is_future_end(place),
             _ => false,
         },

@@ -1,103 +1,54 @@
 //! Which bounds an operator takes, and what is open after it.
-ghost use Rattle.std.specs.Prelude.{◌≡◌, ◌<◌, ◌≤◌, IfOk};
-ghost use Rattle.stl_grammar.specs.Refusing.{is_beside as stands_beside, back_is_beside as back_beside, in_bound as bound_at};
-ghost use Rattle.stl_grammar.specs.Parsing.{rank, back as back_of, may_be_open as may_be_out, back_may_be_open};
-ghost use Rattle.stl_grammar.specs.Parsing.{opening as opening_of, closing as closing_of, bounded_frame as frame_of};
-ghost use Rattle.stl_grammar.specs.Parsing.{back_frame as frame_back, next_place as place_after, coefficient as coefficient_of};
+ghost use Rattle.std.specs.Prelude.{◌≡◌, ◌<◌, ◌≤◌, IfOk, option_map};
+ghost use Rattle.stl_grammar.specs.Operators.{is_beside};
+ghost use Rattle.stl_grammar.specs.Machine.{bound_of};
+ghost use Rattle.stl_grammar.specs.States.{place_in};
+ghost use Rattle.stl_grammar.specs.Parsing.{rank, opening as opening_of, closing as closing_of, bound as bound_from};
+ghost use Rattle.stl_grammar.specs.Parsing.{next_place as place_after, coefficient as coefficient_of};
 ghost use Rattle.stl_grammar.specs.Parsing.{node_of_frame, folded_frames, folded_drafts};
 
 use crate::decimal::Decimal;
-use crate::draft::{Draft, Frame, Infix, PastBound, Prefix, Window};
+use crate::draft::{Bound, Draft, Frame, Window};
 use crate::frames::Frames;
-use crate::place::{Back, Place, Timed};
+use crate::operator::Timed;
+use crate::place::Place;
 use crate::token::{Keyword, Token};
 use std::alloc::AllocError;
 
-/// The operator as one that looks back.
-pub(crate) fn back(of: Timed) -> Option<Back>
-    ensures { result ≡ back_of of }
-{
-    match of {
-        Timed::Since => Some(Back::Since),
-        Timed::Once => Some(Back::Once),
-        Timed::Historically => Some(Back::Historically),
-        Timed::Until | Timed::Eventually | Timed::Always => None,
-    }
-}
-
-/// Whether the ends of the operator's bound may be out.
-pub(crate) fn may_be_open(of: Timed) -> bool
-    ensures { result ≡ may_be_out of }
-{
-    match of {
-        Timed::Until | Timed::Since => false,
-        _ => true,
-    }
-}
-
-/// Whether the ends of the bound of an operator that looks back may be out.
-pub(crate) fn past_may_be_open(of: Back) -> bool
-    ensures { result ≡ back_may_be_open of }
-{
-    match of {
-        Back::Since => false,
-        _ => true,
-    }
-}
-
-/// Whether the lower end is in, where the token is a bracket that opens a bound.
-pub(crate) fn opening(may_be_open: bool, token: Token) -> Option<bool>
-    ensures { result ≡ opening_of may_be_open token }
+/// Whether the lower end is in, where the token is a bracket that opens the bound of the operator.
+pub(crate) fn opening(of: Timed, token: Token) -> Option<bool>
+    ensures { result ≡ opening_of of token }
 {
     match token {
         Token::OpenBracket => Some(true),
-        Token::CloseBracket => { if may_be_open { Some(false) } else { None } }
+        Token::CloseBracket => { if of.may_be_open() { Some(false) } else { None } }
         _ => None,
     }
 }
 
-/// Whether the upper end is in, where the token is a bracket that closes a bound.
-pub(crate) fn closing(may_be_open: bool, token: Token) -> Option<bool>
-    ensures { result ≡ closing_of may_be_open token }
+/// Whether the upper end is in, where the token is a bracket that closes the bound of the operator.
+pub(crate) fn closing(of: Timed, token: Token) -> Option<bool>
+    ensures { result ≡ closing_of of token }
 {
     match token {
         Token::CloseBracket => Some(true),
-        Token::OpenBracket => { if may_be_open { Some(false) } else { None } }
+        Token::OpenBracket => { if of.may_be_open() { Some(false) } else { None } }
         _ => None,
     }
 }
 
-/// An operator with its bound, and the left operand where it has one.
-pub(crate) fn bounded_frame(of: Timed, window: Window, left: usize) -> Frame
-    ensures { result ≡ frame_of of window left }
+/// A bound that was not left out; an infinite end is neither in nor out.
+pub(crate) fn bound(low_in: bool, low: Decimal, high: Option<Decimal>, high_in: bool) -> Bound
+    ensures { result ≡ bound_from low_in low high high_in }
 {
-    match of {
-        Timed::Until => Frame::Infix {
-            operator: Infix::Until(window),
-            left,
-        },
-        Timed::Since => Frame::Infix {
-            operator: Infix::Since(PastBound::Within(window)),
-            left,
-        },
-        Timed::Eventually => Frame::Prefix(Prefix::Eventually(window)),
-        Timed::Always => Frame::Prefix(Prefix::Always(window)),
-        Timed::Once => Frame::Prefix(Prefix::Once(PastBound::Within(window))),
-        Timed::Historically => Frame::Prefix(Prefix::Historically(PastBound::Within(window))),
-    }
-}
-
-/// An operator that looks back with its bound, and the left operand where it has one.
-pub(crate) fn back_frame(of: Back, past: PastBound, left: usize) -> Frame
-    ensures { result ≡ frame_back of past left }
-{
-    match of {
-        Back::Since => Frame::Infix {
-            operator: Infix::Since(past),
-            left,
-        },
-        Back::Once => Frame::Prefix(Prefix::Once(past)),
-        Back::Historically => Frame::Prefix(Prefix::Historically(past)),
+    match high {
+        Some(high) => Bound::Within(Window {
+            low,
+            high,
+            low_in,
+            high_in,
+        }),
+        None => Bound::From { low, low_in },
     }
 }
 
@@ -112,11 +63,18 @@ pub(crate) fn next_place(place: Place, token: Token) -> Option<Place>
             of,
             low_in,
             low,
-            high,
+            high: Some(high),
         }),
         (Place::High { of, low_in, low }, Token::Keyword(Keyword::Inf)) => {
-            let of = back(of)?;
-            Some(Place::ClosingInf { of, low_in, low })
+            if !of.looks_back() {
+                return None;
+            }
+            Some(Place::Closing {
+                of,
+                low_in,
+                low,
+                high: None,
+            })
         }
         (Place::Term { negative }, Token::Number(coef)) => Some(Place::Star { negative, coef }),
         (Place::Star { negative, coef }, Token::Star) => Some(Place::Name { negative, coef }),
@@ -154,8 +112,7 @@ pub(crate) fn node_of(frame: Frame, last: usize) -> Draft
 {
     match frame {
         Frame::Paren => unreachable!(),
-        Frame::Prefix(operator) => Draft::One { operator, of: last },
-        Frame::Infix { operator, left } => Draft::Two {
+        Frame::Operator { operator, left } => Draft::Node {
             operator,
             left,
             right: last,
@@ -180,37 +137,16 @@ pub(crate) fn fold(
     Ok(())
 }
 
-/// Whether the operator stands beside an operand.
-fn is_beside(of: Timed) -> bool
-    ensures { result ≡ stands_beside of }
-{
-    match of {
-        Timed::Until | Timed::Since => true,
-        _ => false,
-    }
-}
-
-/// Whether the operator that looks back stands beside an operand.
-fn back_is_beside(of: Back) -> bool
-    ensures { result ≡ back_beside of }
-{
-    match of {
-        Back::Since => true,
-        _ => false,
-    }
-}
-
 /// In a bound, whether it is that of an operator beside an operand.
 pub(crate) fn in_bound(place: Place) -> Option<bool>
-    ensures { result ≡ bound_at place }
+    ensures { result ≡ option_map is_beside (bound_of (place_in place)) }
 {
     match place {
         Place::Bound { of }
         | Place::Low { of, .. }
         | Place::Comma { of, .. }
         | Place::High { of, .. }
-        | Place::Closing { of, .. } => Some(is_beside(of)),
-        Place::ClosingInf { of, .. } => Some(back_is_beside(of)),
+        | Place::Closing { of, .. } => Some(of.is_beside()),
         _ => None,
     }
 }

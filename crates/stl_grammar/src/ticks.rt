@@ -1,12 +1,15 @@
 //! Numbers of a formula in ticks of its scale.
-ghost use Rattle.std.specs.Prelude.{◌≡◌, ◌≤◌, ℕ, ◌-◌, ◌*◌, ◌^◌};
+ghost use Rattle.std.specs.Prelude.{◌≡◌, ◌≤◌, ◌<◌, ℕ, ◌-◌, ◌*◌, ◌^◌, All};
+ghost use Rattle.stl_syntax.specs.PostOrder.{children};
 ghost use Rattle.stl_syntax.specs.Limits.{own_reach as reach_of, reach_of_bound};
 ghost use Rattle.stl_syntax.specs.WellFormed.{IsInOrder, HasBounds};
 ghost use Rattle.stl_grammar.specs.Building.{signed_size};
-ghost use Rattle.stl_grammar.specs.Drafts.{ticks_of, past_low, past_high, past_low_in, past_high_in, one_in, two_in};
+ghost use Rattle.stl_grammar.specs.Drafts.{ticks_of, bound_low, bound_high, bound_low_in, bound_high_in, operator_node};
+ghost use Rattle.stl_grammar.specs.Operators.{connective_node, timed_node};
 
 use crate::decimal::Decimal;
-use crate::draft::{Infix, PastBound, Prefix};
+use crate::draft::{Bound, Operator};
+use crate::operator::{Connective, Timed};
 use stl_syntax::Node;
 
 /// How many ticks of so many digits the last decimal is worth.
@@ -36,8 +39,8 @@ fn ticks(number: Decimal, digits: u8) -> u64
     product(number.value, power(digits, number.decimals))
 }
 
-/// A bound in ticks.
-fn bound(number: Decimal, digits: u8) -> u32
+/// An end of a bound in ticks.
+fn end(number: Decimal, digits: u8) -> u32
     requires digits { digits ≤ 6 }
     requires small { ticks_of digits number ≤ 4294967295 }
     ensures { result ≡ ticks_of digits number }
@@ -45,30 +48,30 @@ fn bound(number: Decimal, digits: u8) -> u32
     ticks(number, digits) as u32
 }
 
-/// The ends of a bound that looks back.
-fn ends(past: PastBound, digits: u8) -> (u32, Option<u32>)
+/// The ends of a bound, of which the upper one may be wanting.
+fn ends(of: Bound, digits: u8) -> (u32, Option<u32>)
     requires digits { digits ≤ 6 }
-    requires order { IsInOrder (past_low digits past) (past_high digits past) }
-    requires reach { reach_of_bound (past_low digits past) (past_high digits past) ≤ 4294967295 }
-    ensures low { result.0 ≡ past_low digits past }
-    ensures high { result.1 ≡ past_high digits past }
+    requires order { IsInOrder (bound_low digits of) (bound_high digits of) }
+    requires reach { reach_of_bound (bound_low digits of) (bound_high digits of) ≤ 4294967295 }
+    ensures low { result.0 ≡ bound_low digits of }
+    ensures high { result.1 ≡ bound_high digits of }
 {
-    match past {
-        PastBound::Whole => (0, None),
-        PastBound::From { low, .. } => (bound(low, digits), None),
-        PastBound::Within(window) => (bound(window.low, digits), Some(bound(window.high, digits))),
+    match of {
+        Bound::Whole => (0, None),
+        Bound::From { low, .. } => (end(low, digits), None),
+        Bound::Within(window) => (end(window.low, digits), Some(end(window.high, digits))),
     }
 }
 
-/// Whether the ends of a bound that looks back are in.
-fn ends_in(past: PastBound) -> (bool, bool)
-    ensures low { result.0 ≡ past_low_in past }
-    ensures high { result.1 ≡ past_high_in past }
+/// Whether the ends of a bound are in.
+fn ends_in(of: Bound) -> (bool, bool)
+    ensures low { result.0 ≡ bound_low_in of }
+    ensures high { result.1 ≡ bound_high_in of }
 {
-    match past {
-        PastBound::Whole => (true, true),
-        PastBound::From { low_in, .. } => (low_in, true),
-        PastBound::Within(window) => (window.low_in, window.high_in),
+    match of {
+        Bound::Whole => (true, true),
+        Bound::From { low_in, .. } => (low_in, true),
+        Bound::Within(window) => (window.low_in, window.high_in),
     }
 }
 
@@ -80,118 +83,126 @@ pub(crate) fn constant_size(number: Decimal, digits: u8) -> u64
     ticks(number, digits)
 }
 
-/// What a bound that looks back adds to the reach.
-fn past_reach(past: PastBound, digits: u8) -> u64
+/// What a bound adds to the reach: its upper end, or its lower one where it has no upper.
+fn bound_reach(of: Bound, digits: u8) -> u64
     requires { digits ≤ 6 }
-    ensures value { result ≡ reach_of_bound (past_low digits past) (past_high digits past) }
+    ensures value { result ≡ reach_of_bound (bound_low digits of) (bound_high digits of) }
     ensures small { result ≤ 4294967295000000 }
 {
-    match past {
-        PastBound::Whole => 0,
-        PastBound::From { low, .. } => ticks(low, digits),
-        PastBound::Within(window) => ticks(window.high, digits),
+    match of {
+        Bound::Whole => 0,
+        Bound::From { low, .. } => ticks(low, digits),
+        Bound::Within(window) => ticks(window.high, digits),
     }
 }
 
-/// What a one-operand operator adds to the reach.
-pub(crate) fn one_reach(operator: Prefix, digits: u8) -> u64
+/// What an operator adds to the reach.
+pub(crate) fn operator_reach(operator: Operator, digits: u8) -> u64
     requires { digits ≤ 6 }
-    ensures value { (of : ℕ) → result ≡ reach_of (one_in digits operator of) }
-    ensures small { result ≤ 4294967295000000 }
-{
-    match operator {
-        Prefix::Not => 0,
-        Prefix::Eventually(window) | Prefix::Always(window) => ticks(window.high, digits),
-        Prefix::Once(past) | Prefix::Historically(past) => past_reach(past, digits),
-    }
-}
-
-/// What a two-operand operator adds to the reach.
-pub(crate) fn two_reach(operator: Infix, digits: u8) -> u64
-    requires { digits ≤ 6 }
-    ensures value { (left right : ℕ) → result ≡ reach_of (two_in digits operator left right) }
+    ensures value { (left right : ℕ) → result ≡ reach_of (operator_node digits operator left right) }
     ensures small { result ≤ 4294967295000000 }
 {
     match operator {
-        Infix::And | Infix::Or | Infix::Implies => 0,
-        Infix::Until(window) => ticks(window.high, digits),
-        Infix::Since(past) => past_reach(past, digits),
+        Operator::Not | Operator::Connective(_) => 0,
+        Operator::Timed(_, of) => bound_reach(of, digits),
     }
 }
 
-/// The node of a one-operand operator.
-pub(crate) fn one(operator: Prefix, of: u32, digits: u8) -> Node
+/// The node of a connective.
+fn connective(connective: Connective, left: usize, right: usize) -> Node
+    requires { All (λ p. p < 4294967296) (children (connective_node connective left right)) }
+    ensures { result ≡ connective_node connective left right }
+{
+    match connective {
+        Connective::And => Node::And(left as u32, right as u32),
+        Connective::Or => Node::Or(left as u32, right as u32),
+        Connective::Implies => Node::Implies(left as u32, right as u32),
+    }
+}
+
+/// The last end of a bound that is no infinite one.
+fn last_end(low: u32, high: Option<u32>) -> u32
+    ensures { result ≡ reach_of_bound low high }
+{
+    match high {
+        Some(high) => high,
+        None => low,
+    }
+}
+
+/// The node of an operator with a bound from `low` to `high`; one that looks ahead always has an upper end.
+fn timed(
+    of: Timed,
+    low: u32,
+    high: Option<u32>,
+    low_in: bool,
+    high_in: bool,
+    left: usize,
+    right: usize,
+) -> Node
+    requires { All (λ p. p < 4294967296) (children (timed_node of low high low_in high_in left right)) }
+    ensures { result ≡ timed_node of low high low_in high_in left right }
+{
+    let last = last_end(low, high);
+    match of {
+        Timed::Until => Node::Until {
+            left: left as u32,
+            right: right as u32,
+            low,
+            high: last,
+        },
+        Timed::Since => Node::Since {
+            left: left as u32,
+            right: right as u32,
+            low,
+            high,
+        },
+        Timed::Eventually => Node::Eventually {
+            of: right as u32,
+            low,
+            high: last,
+            low_in,
+            high_in,
+        },
+        Timed::Always => Node::Always {
+            of: right as u32,
+            low,
+            high: last,
+            low_in,
+            high_in,
+        },
+        Timed::Once => Node::Once {
+            of: right as u32,
+            low,
+            high,
+            low_in,
+            high_in,
+        },
+        Timed::Historically => Node::Historically {
+            of: right as u32,
+            low,
+            high,
+            low_in,
+            high_in,
+        },
+    }
+}
+
+/// The node of an operator with its left operand, where it has one, and its last one.
+pub(crate) fn node(operator: Operator, left: usize, right: usize, digits: u8) -> Node
     requires digits { digits ≤ 6 }
-    requires bounds { HasBounds (one_in digits operator of) }
-    requires reach { reach_of (one_in digits operator of) ≤ 4294967295 }
-    ensures { result ≡ one_in digits operator of }
+    requires children { All (λ p. p < 4294967296) (children (operator_node digits operator left right)) }
+    requires bounds { HasBounds (operator_node digits operator left right) }
+    requires reach { reach_of (operator_node digits operator left right) ≤ 4294967295 }
+    ensures { result ≡ operator_node digits operator left right }
 {
     match operator {
-        Prefix::Not => Node::Not(of),
-        Prefix::Eventually(window) => Node::Eventually {
-            of,
-            low: bound(window.low, digits),
-            high: bound(window.high, digits),
-            low_in: window.low_in,
-            high_in: window.high_in,
-        },
-        Prefix::Always(window) => Node::Always {
-            of,
-            low: bound(window.low, digits),
-            high: bound(window.high, digits),
-            low_in: window.low_in,
-            high_in: window.high_in,
-        },
-        Prefix::Once(past) => {
-            let (low, high) = ends(past, digits);
-            let (low_in, high_in) = ends_in(past);
-            Node::Once {
-                of,
-                low,
-                high,
-                low_in,
-                high_in,
-            }
-        }
-        Prefix::Historically(past) => {
-            let (low, high) = ends(past, digits);
-            let (low_in, high_in) = ends_in(past);
-            Node::Historically {
-                of,
-                low,
-                high,
-                low_in,
-                high_in,
-            }
-        }
-    }
-}
-
-/// The node of a two-operand operator.
-pub(crate) fn two(operator: Infix, left: u32, right: u32, digits: u8) -> Node
-    requires digits { digits ≤ 6 }
-    requires bounds { HasBounds (two_in digits operator left right) }
-    requires reach { reach_of (two_in digits operator left right) ≤ 4294967295 }
-    ensures { result ≡ two_in digits operator left right }
-{
-    match operator {
-        Infix::And => Node::And(left, right),
-        Infix::Or => Node::Or(left, right),
-        Infix::Implies => Node::Implies(left, right),
-        Infix::Until(window) => Node::Until {
-            left,
-            right,
-            low: bound(window.low, digits),
-            high: bound(window.high, digits),
-        },
-        Infix::Since(past) => {
-            let (low, high) = ends(past, digits);
-            Node::Since {
-                left,
-                right,
-                low,
-                high,
-            }
+        Operator::Not => Node::Not(right as u32),
+        Operator::Connective(joins) => connective(joins, left, right),
+        Operator::Timed(of, window) => {
+            let (low, high) = ends(window, digits);
+            let (low_in, high_in) = ends_in(window);
+            timed(of, low, high, low_in, high_in, left, right)
         }
     }
 }

@@ -1,22 +1,16 @@
 //! Tokens of a formula.
 use crate::decimal::Decimal;
+use crate::operator::{Connective, Timed};
 use stl_syntax::Rel;
 
 /// A word of the grammar, which names no column.
 #[derive(Clone, Copy)]
 pub(crate) enum Keyword {
-    True,
-    False,
+    Constant(bool),
     Not,
-    And,
-    Or,
-    Implies,
-    Until,
-    Since,
-    Eventually,
-    Always,
-    Once,
-    Historically,
+    Connective(Connective),
+    Timed(Timed),
+    /// The upper end of a bound that has none.
     Inf,
 }
 

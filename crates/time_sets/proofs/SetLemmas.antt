@@ -1,5 +1,5 @@
 -- What turns tell at a time.
-use Rattle.std.proofs.Common.{◌≡◌, inl, inr, Bool, true, false, not, List, [], ◌∷◌, ◌++◌, refl, sym, ap, ◌∙◌}
+use Rattle.std.proofs.Common.{◌≡◌, inl, inr, ◌<◌, Bool, true, false, not, List, [], ◌∷◌, ◌++◌, length, refl, sym, ap, ◌∙◌, arith}
 use Rattle.std.specs.Prelude.{cond, MatchBool}
 use Rattle.rational.specs.Time.{Rational, ◌≤ʳ◌, ◌<ʳ◌, less}
 use Rattle.rational.specs.Places.{Place, Before, After, Upto}
@@ -93,3 +93,8 @@ behind_not_before c d t n a = elim (place_order c d) [
 -- nor is it behind an earlier or the same place
 pub upto_not_before : (c d : Place) (t : Rational) → ¬ (Before c d) → Upto d t → behind c t ≡ false
 upto_not_before c d t n u = behind_upto c t (at_most_of_not_before d c n t u)
+
+-- where there are turns, what comes after them all comes after what comes before them all
+pub before_turns : (c d : Place) (ps : List Turn) → 0 < length ps → BeginAfter c ps → EndBefore d ps → Before c d
+before_turns c d [] some b e = absurd (omega (arith, some))
+before_turns c d (p ∷ rest) some b e = before_trans c (place p) d b e.0

@@ -5,9 +5,14 @@ use Rattle.rational.specs.Places.{Place, Before, After, Upto}
 use Rattle.time_sets.specs.Turns.{place}
 use Rattle.time_sets.specs.Sets.{turned}
 use Rattle.time_sets.specs.Windows.{Lies, IsNear, Sees}
+use Rattle.time_sets.specs.declared.seeing.Stretch.{Stretch}
 use Rattle.time_sets.specs.declared.turn.Turn.{Turn}
 use Rattle.time_sets.specs.declared.window.Window.{Window}
 use Rattle.time_sets.specs.declared.domain.Domain.{Domain}
+
+-- the times of a stretch
+abbrev pub over : Stretch → Domain
+over s = record { from = s.from.now; to = s.to.now }
 
 -- the turns tell, at the time, what is left of a set from the stretch on that ends at the turn n: that one is true
 abbrev pub left_from : ℕ → List Turn → Rational → Bool

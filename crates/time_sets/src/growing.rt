@@ -17,7 +17,7 @@ fn is_odd(n: usize) -> bool
 }
 
 impl Times {
-    ghost use Rattle.std.specs.Prelude.{◌≡◌, ◌+◌, ◌<◌, ◌≤◌, length, slice_index_or, IfNone, IfSome, OnOk, OnErr};
+    ghost use Rattle.std.specs.Prelude.{◌≡◌, ◌+◌, ◌<◌, ◌≤◌, ◌++◌, [], ◌∷◌, not, length, slice_index_or, IfNone, IfSome, OnOk, OnErr};
     ghost use Rattle.rational.specs.Time.{Rational};
     ghost use Rattle.rational.specs.Places.{After, Before, Place, Upto};
     ghost use Rattle.time_sets.specs.Turns.{place};
@@ -37,45 +37,50 @@ impl Times {
         }
     }
 
-    /// The border `next` of the stretches of one truth: from 0 the begin of the domain, each turn, and the end of the domain.
+    /// Where the stretch of one truth with `next` others before it begins: with the domain, or at the turn before it.
     #[inline(always)]
     pub(crate) fn border<'a>(&'a self, on: &'a Domain, next: usize) -> &'a Turn
+        requires { next ≤ length self.now.turns.items }
         ensures { result.now ≡ border on.now self.now next }
     {
         if next == 0 {
             return &on.from;
         }
-        self.turn_or_end(on, next - 1)
+        &self.turns[next - 1]
     }
 
-    /// Whether the times behind all turns are in the set.
+    /// Adds a turn behind all others.
     #[inline(always)]
-    pub fn holds_last(&self) -> bool
-        ensures { (c : Place) (t : Rational) → EndBefore c self.now.turns.items → After c t → has self.now t ≡ result }
+    pub(crate) fn push(&mut self, at: Turn) -> Result<(), Memory>
+        ensures items { OnOk result (self.new.turns.items ≡ self.old.turns.items ++ at ∷ []) }
+        ensures starts { self.new.starts ≡ self.old.starts }
+        ensures err { OnErr result (self.new.turns.items ≡ self.old.turns.items) }
     {
-        self.starts != is_odd(self.turns.len())
+        if self.turns.reserve(1).is_err() {
+            return Err(Memory);
+        }
+        self.turns.push_reserved(at);
+        Ok(())
     }
 
-    /// Makes the times behind a place that comes after all turns be in the set, or out of it; up to the place the set stays what it was.
+    /// Turns the truth behind a place that comes after all turns: behind it the set has the times that it did not have. Up to the place it
+    /// stays what it was.
     ///
     /// # Errors
     ///
     /// `Memory` where memory is wanting; the set is unchanged then.
     #[inline(always)]
-    pub fn set_from(&mut self, at: Turn, holds: bool) -> Result<(), Memory>
+    pub fn turn(&mut self, at: Turn) -> Result<(), Memory>
         requires rise { Rise self.old.turns.items }
         requires last { EndBefore (place at) self.old.turns.items }
         ensures before { OnOk result ((t : Rational) → Upto (place at) t → has self.new t ≡ has self.old t) }
-        ensures behind { OnOk result ((t : Rational) → After (place at) t → has self.new t ≡ holds) }
+        ensures behind { OnOk result ((t : Rational) → After (place at) t → has self.new t ≡ not (has self.old t)) }
         ensures rise { OnOk result (Rise self.new.turns.items) }
         ensures last { OnOk result ((c : Place) → Before (place at) c → EndBefore c self.new.turns.items) }
         ensures of { OnOk result ((on : Domain) → IsOf on self.old → Before (place on.from) (place at) → Before (place at) (place on.to) → IsOf on self.new) }
         ensures err { OnErr result ((self.new.starts ≡ self.old.starts) × (self.new.turns.items ≡ self.old.turns.items)) }
     {
-        if self.holds_last() != holds {
-            self.turns.push(at)?;
-        }
-        Ok(())
+        self.push(at)
     }
 
     /// The longest stretch of one truth in the domain that has `next` others before it. Each begins where the one before ends, the first

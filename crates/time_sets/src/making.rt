@@ -1,6 +1,6 @@
 //! Sets made turn by turn, within a domain.
-ghost use Rattle.std.specs.Prelude.{◌⊎◌, ◌≡◌, IfOk, OnOk};
-ghost use Rattle.rational.specs.Places.{After, AtMost, Upto};
+ghost use Rattle.std.specs.Prelude.{◌⊎◌, ◌≡◌, ◌↔◌, IfOk, IsTrue, OnOk};
+ghost use Rattle.rational.specs.Places.{After, AtMost, Before, Upto};
 ghost use Rattle.time_sets.specs.Turns.{place};
 ghost use Rattle.time_sets.specs.Making.{Adds, CanAdd, CanTurn, Ends, Grown, Turns};
 
@@ -9,18 +9,30 @@ use crate::times::Times;
 use crate::turn::Turn;
 use frac128::Memory;
 
+/// Whether a place that comes after the turns so far lies behind the begin of the domain, in which they lie. Where there is a turn it does.
+#[inline(always)]
+fn is_behind_begin(made: &Times, on: &Domain, at: &Turn) -> bool
+    requires { CanTurn on.now at.now made.now }
+    ensures { IsTrue result ↔ Before (place on.now.from) (place at.now) }
+{
+    if made.turns.len() > 0 {
+        return true;
+    }
+    on.from.precedes(at)
+}
+
 /// Adds a turn that comes after the others, as far as it lies in the domain.
 #[inline(always)]
 fn put(made: &mut Times, on: &Domain, at: Turn) -> Result<(), Memory>
     requires { CanTurn on.now at made.old }
     ensures { OnOk result (Turns on.now at made.old made.new) }
 {
-    if !on.from.precedes(&at) {
+    if !is_behind_begin(made, on, &at) {
         made.starts = !made.starts;
         return Ok(());
     }
     if at.precedes(&on.to) {
-        made.turns.push(at)?;
+        made.push(at)?;
     }
     Ok(())
 }
@@ -48,7 +60,7 @@ pub(crate) fn add(
         }
         Some(was) => {
             if !was.precedes(&begin) {
-                return Ok(Some(later(was, end)));
+                return Ok(Some(*later(&was, &end)));
             }
             put(made, on, was)?;
             put(made, on, begin)?;
@@ -73,20 +85,20 @@ pub(crate) fn finish(made: Times, on: &Domain, last: Option<Turn>) -> Result<Tim
 
 /// The later of two places.
 #[inline(always)]
-pub(crate) fn later(a: Turn, b: Turn) -> Turn
-    ensures one { (result ≡ a) ⊎ (result ≡ b) }
-    ensures first { AtMost (place a) (place result) }
-    ensures second { AtMost (place b) (place result) }
+pub(crate) fn later<'a>(a: &'a Turn, b: &'a Turn) -> &'a Turn
+    ensures one { (result.now ≡ a.now) ⊎ (result.now ≡ b.now) }
+    ensures first { AtMost (place a.now) (place result.now) }
+    ensures second { AtMost (place b.now) (place result.now) }
 {
-    if a.precedes(&b) { b } else { a }
+    if a.precedes(b) { b } else { a }
 }
 
 /// The earlier of two places.
 #[inline(always)]
-pub(crate) fn earlier(a: Turn, b: Turn) -> Turn
-    ensures one { (result ≡ a) ⊎ (result ≡ b) }
-    ensures first { AtMost (place result) (place a) }
-    ensures second { AtMost (place result) (place b) }
+pub(crate) fn earlier<'a>(a: &'a Turn, b: &'a Turn) -> &'a Turn
+    ensures one { (result.now ≡ a.now) ⊎ (result.now ≡ b.now) }
+    ensures first { AtMost (place result.now) (place a.now) }
+    ensures second { AtMost (place result.now) (place b.now) }
 {
-    if b.precedes(&a) { b } else { a }
+    if b.precedes(a) { b } else { a }
 }

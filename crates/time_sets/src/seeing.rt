@@ -1,7 +1,9 @@
 //! What is seen of sets through a window.
-ghost use Rattle.std.specs.Prelude.{IfOk};
+ghost use Rattle.std.specs.Prelude.{◌≡◌, ◌⊎◌, ◌↔◌, IfOk, IsTrue};
+ghost use Rattle.rational.specs.Places.{AtMost, Before};
+ghost use Rattle.time_sets.specs.Turns.{place};
 ghost use Rattle.time_sets.specs.Making.{Adds, CanAdd};
-ghost use Rattle.time_sets.specs.Parts.{HasRoom, IsInside, IsPast, Meets};
+ghost use Rattle.time_sets.specs.Parts.{HasRoom, IsInside, IsPast, Meets, over};
 
 use crate::domain::Domain;
 use crate::making::{add, earlier, finish, later};
@@ -11,6 +13,31 @@ use crate::window::Window;
 use frac128::Memory;
 use std::alloc::Global;
 
+/// A stretch of a set, by the borders at which it begins and ends.
+#[derive(Clone, Copy)]
+pub(crate) struct Stretch<'a> {
+    from: &'a Turn,
+    to: &'a Turn,
+}
+
+/// What a run and a part came to: where the last stretch that was made ends, and whether the run ends before the part.
+#[derive(Clone, Copy)]
+struct Met {
+    end: Option<Turn>,
+    run_done: bool,
+}
+
+/// The end of the run where it comes first, else that of the part.
+#[inline(always)]
+fn ending<'a>(run_first: bool, run: &'a Turn, part: &'a Turn) -> &'a Turn
+    requires { IsTrue run_first ↔ Before (place run.now) (place part.now) }
+    ensures one { (result.now ≡ run.now) ⊎ (result.now ≡ part.now) }
+    ensures first { AtMost (place result.now) (place run.now) }
+    ensures second { AtMost (place result.now) (place part.now) }
+{
+    if run_first { run } else { part }
+}
+
 /// Adds the times of the run from which a time of the run and of the part lies in the window.
 #[inline(always)]
 fn meet(
@@ -18,107 +45,62 @@ fn meet(
     on: &Domain,
     w: &Window,
     last: Option<Turn>,
-    run: &Domain,
-    part: &Domain,
-) -> Result<Option<Turn>, Memory>
+    run: &Stretch,
+    part: &Stretch,
+) -> Result<Met, Memory>
     requires room { HasRoom w.now }
-    requires run { IsInside on.now run.now }
-    requires part { IsInside on.now part.now }
-    requires made { CanAdd on.now last (IsPast w.now run.now part.now) made.old }
-    ensures { IfOk result (λ e. Adds on.now last e (IsPast w.now run.now part.now) (Meets w.now run.now part.now) made.old made.new) }
+    requires run { IsInside on.now (over run.now) }
+    requires part { IsInside on.now (over part.now) }
+    requires made { CanAdd on.now last (IsPast w.now (over run.now) (over part.now)) made.old }
+    ensures adds { IfOk result (λ m. Adds on.now last m.end (IsPast w.now (over run.now) (over part.now)) (Meets w.now (over run.now) (over part.now))
+        made.old made.new) }
+    ensures done { IfOk result (λ m. IsTrue m.run_done ↔ Before (place run.now.to.now) (place part.now.to.now)) }
 {
-    if !run.from.precedes(&part.to) {
-        return Ok(last);
+    if !run.from.precedes(part.to) {
+        return Ok(Met {
+            end: last,
+            run_done: false,
+        });
     }
-    if !part.from.precedes(&run.to) {
-        return Ok(last);
+    if !part.from.precedes(run.to) {
+        return Ok(Met {
+            end: last,
+            run_done: true,
+        });
     }
+    let run_done = run.to.precedes(part.to);
     let from = later(run.from, part.from);
-    let to = earlier(run.to, part.to);
-    let first = w.first(&from);
-    let until = w.last(on, &to);
-    let begin = later(run.from, first);
-    let end = earlier(run.to, until);
-    add(made, on, last, begin, end)
-}
-
-/// A stretch of each of two sets.
-#[derive(Clone, Copy)]
-struct Pair {
-    run: Domain,
-    part: Domain,
+    let to = ending(run_done, run.to, part.to);
+    let first = w.first(from);
+    let until = w.last(on, to);
+    let begin = later(run.from, &first);
+    let end = earlier(run.to, &until);
+    let made_to = add(made, on, last, *begin, *end)?;
+    Ok(Met {
+        end: made_to,
+        run_done,
+    })
 }
 
 impl Times {
-    ghost use Rattle.std.specs.Prelude.{◌↔◌, ◌⊎◌, ◌+◌, ◌≤◌, ◌≡◌, false, length, slice_index_or, IfNone, IfOk, IfSome, IsTrue, MatchOption};
+    ghost use Rattle.std.specs.Prelude.{◌↔◌, ◌+◌, ◌≤◌, ◌≡◌, length, IfOk, IsTrue};
     ghost use Rattle.rational.specs.Time.{Rational};
     ghost use Rattle.time_sets.specs.Sets.{has};
     ghost use Rattle.time_sets.specs.Windows.{IsDomain, IsOf, Lies, Reaches, SeesOne, SeesOnly};
-    ghost use Rattle.time_sets.specs.Parts.{IsPart, left_from};
+    ghost use Rattle.time_sets.specs.Parts.{IsPart, left_from, over};
 
-    /// The stretch of the set in the domain that ends at the turn `next`, or at the end of the domain where there is no such turn:
-    /// from where to where it goes. None where it would begin there.
+    /// The stretch of the set in the domain that ends at the turn `next`, or at the end of the domain where there is no such turn.
     #[inline(always)]
-    fn stretch(&self, on: &Domain, next: usize) -> Option<Domain>
+    fn stretch<'a>(&'a self, on: &'a Domain, next: usize) -> Stretch<'a>
         requires domain { IsDomain on.now }
         requires own { IsOf on.now self.now }
-        ensures part { MatchOption result
-            ((t : Rational) → left_from next self.now.turns.items t ≡ false)
-            (λ d. IsPart on.now d (left_from next self.now.turns.items) (left_from (next + 2) self.now.turns.items)) }
-        ensures more { IfSome result (λ d. next ≤ length self.now.turns.items) }
+        requires within { next ≤ length self.now.turns.items }
+        ensures { IsPart on.now (over result) (left_from next self.now.turns.items) (left_from (next + 2) self.now.turns.items) }
     {
-        if next > self.turns.len() {
-            return None;
+        Stretch {
+            from: self.border(on, next),
+            to: self.turn_or_end(on, next),
         }
-        Some(Domain {
-            from: *self.border(on, next),
-            to: *self.turn_or_end(on, next),
-        })
-    }
-
-    /// The stretch of this set that ends at its turn `i`, and that of the other that ends at its turn `k`.
-    #[inline(always)]
-    fn pair(&self, i: usize, q: &Times, k: usize, on: &Domain) -> Option<Pair>
-        requires domain { IsDomain on.now }
-        requires own { IsOf on.now self.now }
-        requires other { IsOf on.now q.now }
-        ensures none { IfNone result
-            (((t : Rational) → left_from i self.now.turns.items t ≡ false) ⊎ ((t : Rational) → left_from k q.now.turns.items t ≡ false)) }
-        ensures run { IfSome result (λ d. IsPart on.now d.run (left_from i self.now.turns.items) (left_from (i + 2) self.now.turns.items)) }
-        ensures part { IfSome result (λ d. IsPart on.now d.part (left_from k q.now.turns.items) (left_from (k + 2) q.now.turns.items)) }
-        ensures more { IfSome result (λ d. (i ≤ length self.now.turns.items) × (k ≤ length q.now.turns.items)) }
-    {
-        let run = self.stretch(on, i)?;
-        let part = q.stretch(on, k)?;
-        Some(Pair { run, part })
-    }
-
-    /// The stretch of this set that ends at its turn `i`, beside that part of another.
-    #[inline(always)]
-    fn run_beside(&self, i: usize, part: Domain, on: &Domain) -> Option<Pair>
-        requires domain { IsDomain on.now }
-        requires own { IsOf on.now self.now }
-        ensures none { IfNone result ((t : Rational) → left_from i self.now.turns.items t ≡ false) }
-        ensures run { IfSome result (λ d. IsPart on.now d.run (left_from i self.now.turns.items) (left_from (i + 2) self.now.turns.items)) }
-        ensures part { IfSome result (λ d. d.part ≡ part) }
-        ensures more { IfSome result (λ d. i ≤ length self.now.turns.items) }
-    {
-        let run = self.stretch(on, i)?;
-        Some(Pair { run, part })
-    }
-
-    /// That run of another set, beside the stretch of this one that ends at its turn `k`.
-    #[inline(always)]
-    fn part_beside(&self, run: Domain, k: usize, on: &Domain) -> Option<Pair>
-        requires domain { IsDomain on.now }
-        requires own { IsOf on.now self.now }
-        ensures none { IfNone result ((t : Rational) → left_from k self.now.turns.items t ≡ false) }
-        ensures run { IfSome result (λ d. d.run ≡ run) }
-        ensures part { IfSome result (λ d. IsPart on.now d.part (left_from k self.now.turns.items) (left_from (k + 2) self.now.turns.items)) }
-        ensures more { IfSome result (λ d. k ≤ length self.now.turns.items) }
-    {
-        let part = self.stretch(on, k)?;
-        Some(Pair { run, part })
     }
 
     /// The times of the domain from which some time of it that is one of the set lies in the window.
@@ -138,9 +120,10 @@ impl Times {
         }
         let mut end = None;
         let mut next = usize::from(!self.starts);
-        while let Some(part) = self.stretch(on, next) {
-            let begin = w.first(&part.from);
-            let until = w.last(on, &part.to);
+        while next <= self.turns.len() {
+            let part = self.stretch(on, next);
+            let begin = w.first(part.from);
+            let until = w.last(on, part.to);
             end = add(&mut made, on, end, begin, until)?;
             next += 2;
         }
@@ -183,15 +166,15 @@ impl Times {
         let mut end = None;
         let mut i = usize::from(!self.starts);
         let mut k = usize::from(!q.starts);
-        let mut next = self.pair(i, q, k, on);
-        while let Some(both) = next {
-            end = meet(&mut made, on, w, end, &both.run, &both.part)?;
-            if both.run.to.precedes(&both.part.to) {
+        while i <= self.turns.len() && k <= q.turns.len() {
+            let run = self.stretch(on, i);
+            let part = q.stretch(on, k);
+            let met = meet(&mut made, on, w, end, &run, &part)?;
+            end = met.end;
+            if met.run_done {
                 i += 2;
-                next = self.run_beside(i, both.part, on);
             } else {
                 k += 2;
-                next = q.part_beside(both.run, k, on);
             }
         }
         finish(made, on, end)

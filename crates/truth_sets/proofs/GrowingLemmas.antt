@@ -16,13 +16,14 @@ use Rattle.stl_syntax.specs.declared.atom.Atom.{Atom}
 use Rattle.atom_lines.specs.Binding.{Binding, IsAtomNode, IsFor}
 use Rattle.atom_lines.proofs.Adding.{reach_small, read_back}
 use Rattle.atom_lines.specs.Growing.{IsReachAt}
-use Rattle.atom_lines.specs.Passages.{HasBlock, IsWay, TellsPassage}
+use Rattle.atom_lines.specs.Legs.{BendsSo, IsLeg, bent, jumped}
+use Rattle.atom_lines.specs.Passages.{HasBlock}
 use Rattle.atom_lines.specs.Rows.{row_of, values_at}
-use Rattle.atom_lines.specs.declared.passage.Way.{Way}
+use Rattle.atom_lines.specs.declared.passage.Leg.{Leg}
 use Rattle.truth_sets.specs.Growing.{IsTail, IsTidy, GoesAlong}
 use Rattle.truth_sets.specs.Rows.{alone, HasGrown}
 use Rattle.truth_sets.specs.declared.atom.NodeSet.{NodeSet}
-use Rattle.truth_sets.proofs.MovingLemmas.{rows_le, tidy_later, constant_tidy}
+use Rattle.truth_sets.proofs.MovingLemmas.{rows_le, tidy_later, along_tidy, along_before, along_tells, constant_tidy}
 
 -- a block of the last rows stands in each trace that goes on from them
 pub block_in : (block : Trace) (header : Header) (rows : List Row) (tr : Trace) → IsTail block header rows → Continues tr header rows false → HasBlock tr block
@@ -45,7 +46,7 @@ pub sum_within : (b : Binding) (i : ℕ) (header : Header) (block : Trace) (k : 
 sum_within b i header block k n h atom at = let s = h atom at in (record { sum = s.0.sum; small = s.0.small }, s.1)
 
 module _ (b : Binding) (i : ℕ) (header : Header) (rows : List Row) (block : Trace) (tail : IsTail block header rows) (at : ℕ)
-    (s new : NodeSet) (w : Way) (way : IsWay b i block at w) where
+    (s new : NodeSet) (w : Leg) (leg : IsLeg b i block at w) where
   abbrev here : ℕ
   here = (row_of block at).time
 
@@ -55,34 +56,46 @@ module _ (b : Binding) (i : ℕ) (header : Header) (rows : List Row) (block : Tr
   abbrev next : ℕ
   next = (row_of block w.row).time
 
-  -- it tells the atom up to the end of the way
-  pub grown_on : HasGrown b i header rows (row_of block at) s → new.sum ≡ w.sum
-      → ((from : ℕ) → IsTidy from before s.times → IsTidy from next new.times)
-      → ((test : Rational → Bool) → TellsPassage (whole (pos before)) (whole (pos next)) test w.passage
-      → ((t : Rational) → t ≈ whole (pos next) → test t ≡ w.last) → GoesAlong before next test s.times new.times)
+  -- it tells the atom up to the end of the leg
+  pub grown_on : HasGrown b i header rows (row_of block at) s → new.sum ≡ w.sum → GoesAlong next w s.times new.times
       → HasGrown b i header rows (row_of block w.row) new
-  grown_on g sum tidy tells = record {
-    sum = subst (λ n. IsReachAt b i (alone header (row_of block w.row)) 0 n) (sym sum) (sum_alone b i header block w.row w.sum way.sum);
-    tidy = tidy (first_time rows) (tidy_later (first_time rows) here before s.times way.order g.tidy);
+  grown_on g sum goes_along = record {
+    sum = subst (λ n. IsReachAt b i (alone header (row_of block w.row)) 0 n) (sym sum) (sum_alone b i header block w.row w.sum leg.sum);
+    tidy = along_tidy (first_time rows) before next leg.rises s.times tidy w.turn leg.inside w.jumps goes_along.mid new.times goes_along.bends goes_along.jumps;
     tells = λ a tr for goes t low high. by_place a tr for goes t low high (le_or_lt t (whole (pos before)));
   }
     where
+      tidy : IsTidy (first_time rows) before s.times
+      tidy = tidy_later (first_time rows) here before s.times leg.order g.tidy
+
       steady : (a : Atom) (tr : Trace) → IsFor b i a tr → Continues tr header rows false → (t : Rational) → whole (pos (first_time rows)) ≤ʳ t
           → t ≤ʳ whole (pos before) → (t ≤ʳ whole (pos here)) ⊎ (whole (pos here) <ʳ t) → has s.times t ≡ holds_at a tr t
       steady a tr for goes t low high (inl l) = g.tells a tr for goes t low l
       steady a tr for goes t low high (inr l) =
           g.tidy.steady t (le_of_lt l)
           ∙ g.tells a tr for goes (whole (pos here)) (rows_le g.tidy.order) (le_refl (whole (pos here)))
-          ∙ sym ((way.tells a tr for (block_in block header rows tr tail goes)).stays t (le_of_lt l) high)
+          ∙ sym ((leg.tells a tr for (block_in block header rows tr tail goes)).stays t (le_of_lt l) high)
+
+      -- the set has at the begin of the gap what the atom has at the begin of the leg
+      begins : (a : Atom) (tr : Trace) → IsFor b i a tr → Continues tr header rows false → has s.times (whole (pos before)) ≡ holds_at a tr (whole (pos here))
+      begins a tr for goes =
+          g.tidy.steady (whole (pos before)) (rows_le leg.order)
+          ∙ g.tells a tr for goes (whole (pos here)) (rows_le g.tidy.order) (le_refl (whole (pos here)))
 
       by_place : (a : Atom) (tr : Trace) → IsFor b i a tr → Continues tr header rows false → (t : Rational) → whole (pos (first_time rows)) ≤ʳ t
           → t ≤ʳ whole (pos next) → (t ≤ʳ whole (pos before)) ⊎ (whole (pos before) <ʳ t) → has new.times t ≡ holds_at a tr t
       by_place a tr for goes t low high (inl l) =
-          let v = way.tells a tr for (block_in block header rows tr tail goes) in
-          (tells (holds_at a tr) v.passes v.there).before t l ∙ steady a tr for goes t low l (le_or_lt t (whole (pos here)))
+          along_before (first_time rows) before next leg.rises s.times tidy w.turn leg.inside w.jumps goes_along.mid new.times
+          goes_along.bends goes_along.jumps t l
+          ∙ steady a tr for goes t low l (le_or_lt t (whole (pos here)))
       by_place a tr for goes t low high (inr l) =
-          let v = way.tells a tr for (block_in block header rows tr tail goes) in
-          (tells (holds_at a tr) v.passes v.there).behind t l high
+          let v = leg.tells a tr for (block_in block header rows tr tail goes) in
+          let e = sym (begins a tr for goes) in
+          along_tells (first_time rows) before next leg.rises s.times tidy w.turn leg.inside (holds_at a tr) w.jumps goes_along.mid new.times
+          goes_along.bends goes_along.jumps
+          (subst (λ h. BendsSo (whole (pos before)) (whole (pos next)) (holds_at a tr) h w.turn) e v.bends)
+          (λ u x. v.there u x ∙ ap (λ h. jumped w.jumps (bent w.turn h)) e)
+          t l high
 
 -- a sum is read as it is
 pub sum_read : (b : Binding) (i : ℕ) (tr : Trace) (k : ℕ) (n : ℤ) → IsAtomNode b i → IsReachAt b i tr k n → to_z w64 (of_z w64 n) ≡ n

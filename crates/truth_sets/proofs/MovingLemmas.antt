@@ -1,22 +1,23 @@
 -- Sets that go on over a gap: where they turn, and what they tell.
-use Rattle.std.proofs.Common.{◌≡◌, ℕ, ◌<◌, ◌≤◌, ◌⊎◌, inl, inr, pos, ◌<ℤ◌, ◌≤ℤ◌, Bool, true, false, List, [], ◌∷◌, refl, sym, subst, ◌∙◌, arith}
+use Rattle.std.proofs.Common.{◌≡◌, ℕ, ◌<◌, ◌≤◌, ◌⊎◌, inl, inr, pos, ◌<ℤ◌, ◌≤ℤ◌, Bool, true, false, not, List, [], ◌∷◌, Option, None, Some}
+use Rattle.std.proofs.Common.{refl, sym, ap, subst, ◌∙◌, arith}
 use Rattle.std.proofs.lemmas.Int.{ints}
-use Rattle.std.specs.Prelude.{MatchBool, Result, Ok, Err, OnOk}
+use Rattle.std.specs.Prelude.{Result, Ok, Err, OnOk, MatchOption}
 use Rattle.rational.specs.Time.{Rational, ◌≤ʳ◌, ◌<ʳ◌, ◌≈◌, whole}
-use Rattle.rational.specs.Places.{Place, Before, Same, After, Upto}
+use Rattle.rational.specs.Places.{Place, Before, Same, After, Upto, AtMost}
 use Rattle.rational.proofs.Order.{lt_or_same_or_gt, le_of_lt, ge_of_same, le_refl, le_trans, lt_of_lt_of_le, lt_of_le_of_lt, not_lt_of_le}
 use Rattle.rational.proofs.Shift.{lt_whole, le_whole}
-use Rattle.rational.proofs.PlaceLemmas.{sides, before_trans, upto_same, after_same, same_places, same_before, before_same}
+use Rattle.rational.proofs.PlaceLemmas.{sides, before_trans, upto_same, after_same, same_places, same_before, before_same, before_at_most}
+use Rattle.rational.proofs.PlaceLemmas.{upto_of_before, after_of_before}
 use Rattle.time_sets.specs.Turns.{place}
 use Rattle.time_sets.specs.Sets.{has, EndBefore, Rise}
 use Rattle.time_sets.specs.Windows.{IsOf}
 use Rattle.time_sets.specs.declared.turn.Turn.{Turn}
 use Rattle.time_sets.specs.declared.domain.Domain.{Domain}
 use Rattle.time_sets.specs.declared.times.Times.{Times}
-use Rattle.atom_lines.specs.Passages.{TellsPassage, TurnsInside, crossing_time}
-use Rattle.atom_lines.specs.declared.passage.Passage.{Passage}
-use Rattle.atom_lines.specs.declared.passage.Passage.TheVariants.{Steady, Turns}
-use Rattle.truth_sets.specs.Growing.{before_row, after_row, IsTidy, Moves, GoesOver, GoesAlong}
+use Rattle.atom_lines.specs.Legs.{BendsSo, LiesOver, TurnsOver, bent, jumped, turning_place}
+use Rattle.atom_lines.specs.declared.passage.Turning.{Turning}
+use Rattle.truth_sets.specs.Growing.{before_row, after_row, IsTidy, TurnsAt, BendsAt, JumpsAt}
 
 -- what comes before a place comes before the same place
 pub end_same : (c d : Place) (ps : List Turn) → Same c d → EndBefore c ps → EndBefore d ps
@@ -58,8 +59,8 @@ tidy_later first m n s h t = record {
     by_order (inr (inr l)) = absurd (not_lt_of_le (rows_le h) l)
 
 -- what a set does at a place it does at the same place
-pub moves_same : (c d : Place) (holds : Bool) (old new : Times) → Same c d → Moves c holds old new → Moves d holds old new
-moves_same c d holds old new s m = record {
+turns_same : (c d : Place) (old new : Times) → Same c d → TurnsAt c old new → TurnsAt d old new
+turns_same c d old new s m = record {
   before = λ t u. m.before t (upto_same d c t (same_places s) u);
   behind = λ t a. m.behind t (after_same d c t (same_places s) a);
   rise = m.rise;
@@ -67,90 +68,140 @@ moves_same c d holds old new s m = record {
   of = λ on o b e. m.of on o (before_same (place on.from) d c b (same_places s)) (same_before c d (place on.to) s e);
 }
 
-module _ (m n : ℕ) (rises : m < n) where
-  -- a set that went over the gap rises, and turns before the row behind it
-  pub over_rise : (p : Passage) (old new : Times) → GoesOver m p old new → Rise new.turns.items
-  over_rise (Steady holds) old new g = g.rise
-  over_rise (Turns before x after) old new g = g.2.rise
-
-  -- and no later than that
-  pub over_ends : (p : Passage) (old new : Times) → TurnsInside (whole (pos m)) (whole (pos n)) p → GoesOver m p old new
-      → EndBefore (before_row n) new.turns.items
-  over_ends (Steady holds) old new t g = g.last (before_row n) (inl (rows_lt rises))
-  over_ends (Turns before x after) old new t g = g.2.last (before_row n) (inl t.1)
-
-  over_of : (first : ℕ) (p : Passage) (old new : Times) → IsTidy first m old → TurnsInside (whole (pos m)) (whole (pos n)) p → GoesOver m p old new
-      → (on : Domain) (end : ℕ) → n ≤ end → Same (place on.from) (before_row first) → Same (place on.to) (after_row end) → IsOf on new
-  over_of first (Steady holds) old new tidy t g on end l a b =
-      g.of on (tidy.of on end (omega (arith, l, rises)) a b)
-      (same_before (place on.from) (before_row first) (after_row m) a (before_after first m tidy.order))
-      (before_same (after_row m) (after_row end) (place on.to) (inl (rows_lt (omega (arith, l, rises)))) (same_places b))
-  over_of first (Turns before x after) old new tidy t g on end l a b =
-      g.2.of on
-      (g.1.of on (tidy.of on end (omega (arith, l, rises)) a b)
-      (same_before (place on.from) (before_row first) (after_row m) a (before_after first m tidy.order))
-      (before_same (after_row m) (after_row end) (place on.to) (inl (rows_lt (omega (arith, l, rises)))) (same_places b)))
-      (same_before (place on.from) (before_row first) (record { at = crossing_time x; after = after }) a
-      (inl (lt_of_le_of_lt (rows_le tidy.order) t.0)))
-      (before_same (record { at = crossing_time x; after = after }) (after_row end) (place on.to)
-      (inl (lt_of_lt_of_le t.1 (rows_le l))) (same_places b))
-
-  -- so it is tidy at that row
-  pub along_tidy : (first : ℕ) (p : Passage) (holds : Bool) (old mid new : Times) → IsTidy first m old → TurnsInside (whole (pos m)) (whole (pos n)) p
-      → GoesOver m p old mid → Moves (before_row n) holds mid new → IsTidy first n new
-  along_tidy first p holds old mid new tidy t g v = record {
-    order = let o = tidy.order in omega (arith, o, rises);
-    rise = v.rise;
-    ends = v.last (after_row n) (before_after n n (let e : n ≤ n = omega arith in e));
-    steady = λ u l. v.behind u l ∙ sym (v.behind (whole (pos n)) (le_refl (whole (pos n))));
-    of = λ on end l a b.
-        v.of on (over_of first p old mid tidy t g on end l a b)
-        (same_before (place on.from) (before_row first) (before_row n) a (inl (lt_of_le_of_lt (rows_le tidy.order) (rows_lt rises))))
-        (before_same (before_row n) (after_row end) (place on.to) (before_after n end l) (same_places b));
-  }
-
-module _ (m n : ℕ) (rises : m < n) (test : Rational → Bool) where
-  upto_crossing : (b : Bool) (c t : Rational) → t <ʳ c → MatchBool b (t ≤ʳ c) (t <ʳ c)
-  upto_crossing true c t h = le_of_lt h
-  upto_crossing false c t h = h
-
-  over_before : (p : Passage) (old new : Times) → TellsPassage (whole (pos m)) (whole (pos n)) test p → GoesOver m p old new
-      → (t : Rational) → t ≤ʳ whole (pos m) → has new t ≡ has old t
-  over_before (Steady holds) old new t g u l = g.before u l
-  over_before (Turns before x after) old new t g u l =
-      g.2.before u (upto_crossing after (crossing_time x) u (lt_of_le_of_lt l t.after_first)) ∙ g.1.before u l
-
-  over_behind : (p : Passage) (old new : Times) → TellsPassage (whole (pos m)) (whole (pos n)) test p → GoesOver m p old new
-      → (t : Rational) → whole (pos m) <ʳ t → t <ʳ whole (pos n) → has new t ≡ test t
-  over_behind (Steady holds) old new t g u a b = g.behind u a ∙ sym (t u a b)
-  over_behind (Turns before x after) old new t g u a b = elim (sides (record { at = crossing_time x; after = after }) u) [
-    | inl l ↦ g.2.before u l ∙ g.1.behind u a ∙ sym (t.until_then u a l)
-    | inr l ↦ g.2.behind u l ∙ sym (t.from_then u l b)
-  ]
-
-  -- and it tells the test on the gap, and at that row
-  pub along_tells : (p : Passage) (last : Bool) (old mid new : Times) → TellsPassage (whole (pos m)) (whole (pos n)) test p
-      → ((t : Rational) → t ≈ whole (pos n) → test t ≡ last) → GoesOver m p old mid → Moves (before_row n) last mid new → GoesAlong m n test old new
-  along_tells p last old mid new t there g v = record {
-    before = λ u l. v.before u (lt_of_le_of_lt l (rows_lt rises)) ∙ over_before p old mid t g u l;
-    behind = λ u a b. elim (lt_or_same_or_gt u (whole (pos n))) [
-      | inl l ↦ v.before u l ∙ over_behind p old mid t g u a l
-      | inr o ↦ elim o [
-        | inl s ↦ v.behind u (ge_of_same s) ∙ sym (there u s)
-        | inr l ↦ absurd (not_lt_of_le b l)
-      ]
-    ];
-  }
-
--- what a call of `set_from` says of a good answer
-pub moves_ok : {T E : Type 0} (r : Result T E) (at : Turn) (c : Place) (holds : Bool) (old new : Times) → Same (place at) c
-    → OnOk r ((t : Rational) → Upto (place at) t → has new t ≡ has old t) → OnOk r ((t : Rational) → After (place at) t → has new t ≡ holds)
+-- what a call of `turn` says of a good answer
+pub turns_ok : {T E : Type 0} (r : Result T E) (at : Turn) (c : Place) (old new : Times) → Same (place at) c
+    → OnOk r ((t : Rational) → Upto (place at) t → has new t ≡ has old t) → OnOk r ((t : Rational) → After (place at) t → has new t ≡ not (has old t))
     → OnOk r (Rise new.turns.items) → OnOk r ((d : Place) → Before (place at) d → EndBefore d new.turns.items)
     → OnOk r ((on : Domain) → IsOf on old → Before (place on.from) (place at) → Before (place at) (place on.to) → IsOf on new)
-    → OnOk r (Moves c holds old new)
-moves_ok (Ok x) at c holds old new s b h r l o =
-    moves_same (place at) c holds old new s (record { before = b; behind = h; rise = r; last = l; of = o })
-moves_ok (Err e) at c holds old new s b h r l o = tt
+    → OnOk r (TurnsAt c old new)
+turns_ok (Ok x) at c old new s b h r l o = turns_same (place at) c old new s (record { before = b; behind = h; rise = r; last = l; of = o })
+turns_ok (Err e) at c old new s b h r l o = tt
+
+-- turns that come before a place come before a later one
+ends_at_most : (c d : Place) (ps : List Turn) → AtMost c d → EndBefore c ps → EndBefore d ps
+ends_at_most c d [] n h = tt
+ends_at_most c d (p ∷ rest) n h = (before_at_most (place p) c d h.0 n, ends_at_most c d rest n h.1)
+
+ends_before : (c d : Place) (ps : List Turn) → Before c d → EndBefore c ps → EndBefore d ps
+ends_before c d ps b h = ends_at_most c d ps (λ t u. upto_of_before c d t b u) h
+
+-- behind a row a set can turn on the gap
+pub can_bend : (m : ℕ) (to : Rational) (turn : Option Turning) (ps : List Turn) → TurnsOver (whole (pos m)) to turn → EndBefore (after_row m) ps
+    → MatchOption turn (Unit {0}) (λ x. EndBefore (turning_place x) ps)
+can_bend m to None ps inside h = tt
+can_bend m to (Some x) ps inside h = ends_at_most (after_row m) (turning_place x) ps inside.begins h
+
+-- a set that is tidy up to row m goes on over the gap to row n
+module _ (first m n : ℕ) (rises : m < n) (old : Times) (tidy : IsTidy first m old) (turn : Option Turning)
+    (inside : TurnsOver (whole (pos m)) (whole (pos n)) turn) where
+  -- what it is up to the second row: behind the gap it has all times, or none
+  record IsBent (mid : Times) : Type 0 where
+    rise : Rise mid.turns.items
+    ends : EndBefore (before_row n) mid.turns.items
+    of : (on : Domain) (end : ℕ) → n ≤ end → Same (place on.from) (before_row first) → Same (place on.to) (after_row end) → IsOf on mid
+    behind : (t : Rational) → whole (pos n) ≤ʳ t → has mid t ≡ bent turn (has old (whole (pos m)))
+    before : (t : Rational) → t ≤ʳ whole (pos m) → has mid t ≡ has old t
+    on : (test : Rational → Bool) → BendsSo (whole (pos m)) (whole (pos n)) test (has old (whole (pos m))) turn
+        → (t : Rational) → whole (pos m) <ʳ t → t <ʳ whole (pos n) → has mid t ≡ test t
+
+  from_row : (t : Rational) → whole (pos n) ≤ʳ t → whole (pos m) ≤ʳ t
+  from_row t l = le_trans (le_of_lt (rows_lt rises)) l
+
+  of_domain : (on : Domain) (end : ℕ) → n ≤ end → Same (place on.from) (before_row first) → Same (place on.to) (after_row end) → IsOf on old
+  of_domain on end l a b = tidy.of on end (omega (arith, l, rises)) a b
+
+  is_bent : (t : Option Turning) → t ≡ turn → (mid : Times) → BendsAt t old mid → IsBent mid
+  is_bent None e mid same = subst IsBent (sym same) (record {
+    rise = tidy.rise;
+    ends = ends_before (after_row m) (before_row n) old.turns.items (inl (rows_lt rises)) tidy.ends;
+    of = of_domain;
+    behind = λ t l. tidy.steady t (from_row t l) ∙ ap (λ o. bent o (has old (whole (pos m)))) e;
+    before = λ t l. refl;
+    on = λ test h t a b. tidy.steady t (le_of_lt a)
+        ∙ sym (subst (BendsSo (whole (pos m)) (whole (pos n)) test (has old (whole (pos m)))) (sym e) h t a b);
+  })
+  is_bent (Some x) e mid v = record {
+    rise = v.rise;
+    ends = v.last (before_row n) (inl over.ends);
+    of = λ on end l a b. v.of on (of_domain on end l a b)
+        (before_at_most (place on.from) (after_row m) (turning_place x)
+        (same_before (place on.from) (before_row first) (after_row m) a (before_after first m tidy.order)) over.begins)
+        (before_same (turning_place x) (after_row end) (place on.to) (inl (lt_of_lt_of_le over.ends (rows_le l))) (same_places b));
+    behind = λ t l. v.behind t (after_of_before (turning_place x) (before_row n) t (inl over.ends) l) ∙ ap not (tidy.steady t (from_row t l))
+        ∙ ap (λ o. bent o (has old (whole (pos m)))) e;
+    before = λ t l. v.before t (over.begins t l);
+    on = λ test h t a b.
+        let bends = subst (BendsSo (whole (pos m)) (whole (pos n)) test (has old (whole (pos m)))) (sym e) h in
+        elim (sides (turning_place x) t) [
+          | inl u ↦ v.before t u ∙ tidy.steady t (le_of_lt a) ∙ sym (bends.until_then t a u)
+          | inr k ↦ v.behind t k ∙ ap not (tidy.steady t (le_of_lt a)) ∙ sym (bends.from_then t k b)
+        ];
+  }
+    where
+      over : LiesOver (whole (pos m)) (whole (pos n)) (turning_place x)
+      over = subst (TurnsOver (whole (pos m)) (whole (pos n))) (sym e) inside
+
+  -- the first of its turns is a bend, if it bends
+  pub bent_ends : (mid : Times) → BendsAt turn old mid → EndBefore (before_row n) mid.turns.items
+  bent_ends mid v = (is_bent turn refl mid v).ends
+
+  -- and it rises
+  pub bent_rise : (mid : Times) → BendsAt turn old mid → Rise mid.turns.items
+  bent_rise mid v = (is_bent turn refl mid v).rise
+
+  begins_before : (on : Domain) → Same (place on.from) (before_row first) → Before (place on.from) (before_row n)
+  begins_before on a = same_before (place on.from) (before_row first) (before_row n) a (inl (lt_of_le_of_lt (rows_le tidy.order) (rows_lt rises)))
+
+  -- behind the second row it is tidy again
+  pub along_tidy : (jumps : Bool) (mid new : Times) → BendsAt turn old mid → JumpsAt n jumps mid new → IsTidy first n new
+  along_tidy false mid new v same = subst (IsTidy first n) (sym same) (record {
+    order = let o = tidy.order in omega (arith, o, rises);
+    rise = b.rise;
+    ends = ends_before (before_row n) (after_row n) mid.turns.items (before_after n n (let e : n ≤ n = omega arith in e)) b.ends;
+    steady = λ t l. b.behind t l ∙ sym (b.behind (whole (pos n)) (le_refl (whole (pos n))));
+    of = b.of;
+  })
+    where
+      b : IsBent mid
+      b = is_bent turn refl mid v
+  along_tidy true mid new v w = record {
+    order = let o = tidy.order in omega (arith, o, rises);
+    rise = w.rise;
+    ends = w.last (after_row n) (before_after n n (let e : n ≤ n = omega arith in e));
+    steady = λ t l. w.behind t l ∙ ap not (b.behind t l ∙ sym (b.behind (whole (pos n)) (le_refl (whole (pos n)))))
+        ∙ sym (w.behind (whole (pos n)) (le_refl (whole (pos n))));
+    of = λ on end l x y. w.of on (b.of on end l x y) (begins_before on x)
+        (before_same (before_row n) (after_row end) (place on.to) (before_after n end l) (same_places y));
+  }
+    where
+      b : IsBent mid
+      b = is_bent turn refl mid v
+
+  -- up to the first row it stays what it was
+  pub along_before : (jumps : Bool) (mid new : Times) → BendsAt turn old mid → JumpsAt n jumps mid new
+      → (t : Rational) → t ≤ʳ whole (pos m) → has new t ≡ has old t
+  along_before false mid new v same t l = ap (λ s. has s t) same ∙ (is_bent turn refl mid v).before t l
+  along_before true mid new v w t l = w.before t (lt_of_le_of_lt l (rows_lt rises)) ∙ (is_bent turn refl mid v).before t l
+
+  -- and behind it, up to the second, it tells the test that goes so
+  pub along_tells : (test : Rational → Bool) (jumps : Bool) (mid new : Times) → BendsAt turn old mid → JumpsAt n jumps mid new
+      → BendsSo (whole (pos m)) (whole (pos n)) test (has old (whole (pos m))) turn
+      → ((t : Rational) → t ≈ whole (pos n) → test t ≡ jumped jumps (bent turn (has old (whole (pos m)))))
+      → (t : Rational) → whole (pos m) <ʳ t → t ≤ʳ whole (pos n) → has new t ≡ test t
+  along_tells test false mid new v same bends there t a l = subst (λ s. has s t ≡ test t) (sym same) (elim (lt_or_same_or_gt t (whole (pos n))) [
+    | inl k ↦ b.on test bends t a k
+    | inr o ↦ elim o [ inl e ↦ b.behind t (ge_of_same e) ∙ sym (there t e) | inr k ↦ absurd (not_lt_of_le l k) ]
+  ])
+    where
+      b : IsBent mid
+      b = is_bent turn refl mid v
+  along_tells test true mid new v w bends there t a l = elim (lt_or_same_or_gt t (whole (pos n))) [
+    | inl k ↦ w.before t k ∙ b.on test bends t a k
+    | inr o ↦ elim o [ inl e ↦ w.behind t (ge_of_same e) ∙ ap not (b.behind t (ge_of_same e)) ∙ sym (there t e) | inr k ↦ absurd (not_lt_of_le l k) ]
+  ]
+    where
+      b : IsBent mid
+      b = is_bent turn refl mid v
 
 -- a set without turns is tidy at its first row
 pub constant_tidy : (n : ℕ) (s : Times) (holds : Bool) → s.turns.items ≡ [] → ((t : Rational) → has s t ≡ holds) → ((on : Domain) → IsOf on s) → IsTidy n n s

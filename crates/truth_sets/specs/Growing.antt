@@ -1,6 +1,6 @@
 -- The set of an atom, as it grows by rows.
-use Rattle.std.specs.Prelude.{◌≡◌, ◌≤◌, ◌++◌, ℕ, pos, Bool, true, false, not, List}
-use Rattle.rational.specs.Time.{Rational, ◌≤ʳ◌, ◌<ʳ◌, whole}
+use Rattle.std.specs.Prelude.{◌≡◌, ◌≤◌, ◌++◌, ℕ, pos, Bool, true, false, not, List, Option, None, Some}
+use Rattle.rational.specs.Time.{Rational, ◌≤ʳ◌, whole}
 use Rattle.rational.specs.Places.{Place, Same, Before, After, Upto}
 use Rattle.time_sets.specs.Turns.{place}
 use Rattle.time_sets.specs.Sets.{has, EndBefore, Rise}
@@ -11,9 +11,9 @@ use Rattle.stl_syntax.specs.Trace.{Header, Row, Trace, Continues}
 use Rattle.stl_syntax.specs.Truth.{holds_at}
 use Rattle.stl_syntax.specs.declared.atom.Atom.{Atom}
 use Rattle.atom_lines.specs.Binding.{Binding, IsFor}
-use Rattle.atom_lines.specs.Passages.{crossing_time}
-use Rattle.atom_lines.specs.declared.passage.Passage.{Passage}
-use Rattle.atom_lines.specs.declared.passage.Passage.TheVariants.{Steady, Turns}
+use Rattle.atom_lines.specs.Legs.{turning_place}
+use Rattle.atom_lines.specs.declared.passage.Leg.{Leg}
+use Rattle.atom_lines.specs.declared.passage.Turning.{Turning}
 
 -- just before a row, and just after it
 abbrev pub before_row : ℕ → Place
@@ -42,21 +42,26 @@ pub record IsTail (block : Trace) (header : Header) (rows : List Row) : Type 0 w
   pub earlier : List Row
   pub parts : rows ≡ earlier ++ block.rows
 
--- the set stays as it was up to the place, and behind it has all times or none
-pub record Moves (c : Place) (holds : Bool) (old new : Times) : Type 0 where
+-- the set stays as it was up to the place, and behind it has the times that it did not have
+pub record TurnsAt (c : Place) (old new : Times) : Type 0 where
   pub before : (t : Rational) → Upto c t → has new t ≡ has old t
-  pub behind : (t : Rational) → After c t → has new t ≡ holds
+  pub behind : (t : Rational) → After c t → has new t ≡ not (has old t)
   pub rise : Rise new.turns.items
   pub last : (d : Place) → Before c d → EndBefore d new.turns.items
   pub of : (on : Domain) → IsOf on old → Before (place on.from) c → Before c (place on.to) → IsOf on new
 
--- the set goes on from the row over the gap behind it
-abbrev pub GoesOver : ℕ → Passage → Times → Times → Type 0
-GoesOver first (Steady holds) old new = Moves (after_row first) holds old new
-GoesOver first (Turns before x after) old new =
-    (mid : Times) × Moves (after_row first) before old mid × Moves (record { at = crossing_time x; after = after }) (not before) mid new
+-- it does so at a turning, if there is one
+abbrev pub BendsAt : Option Turning → Times → Times → Type 0
+BendsAt None old new = new ≡ old
+BendsAt (Some x) old new = TurnsAt (turning_place x) old new
 
--- the set stays as it was up to the first time, and tells the test from there to the second
-pub record GoesAlong (first second : ℕ) (test : Rational → Bool) (old new : Times) : Type 0 where
-  pub before : (t : Rational) → t ≤ʳ whole (pos first) → has new t ≡ has old t
-  pub behind : (t : Rational) → whole (pos first) <ʳ t → t ≤ʳ whole (pos second) → has new t ≡ test t
+-- and at a row, if the truth jumps there
+abbrev pub JumpsAt : ℕ → Bool → Times → Times → Type 0
+JumpsAt second false old new = new ≡ old
+JumpsAt second true old new = TurnsAt (before_row second) old new
+
+-- the set goes on over the leg, to the row at which it ends
+pub record GoesAlong (second : ℕ) (leg : Leg) (old new : Times) : Type 0 where
+  pub mid : Times
+  pub bends : BendsAt leg.turn old mid
+  pub jumps : JumpsAt second leg.jumps mid new

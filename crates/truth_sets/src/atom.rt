@@ -1,17 +1,18 @@
 //! The set of an atom, row by row.
-ghost use Rattle.std.specs.Prelude.{◌≡◌, ◌<◌, ◌-◌, ℕ, Bool, List, pos, length, OnOk};
-ghost use Rattle.rational.specs.Time.{Rational, ◌≈◌, whole};
+ghost use Rattle.std.specs.Prelude.{◌≡◌, ◌<◌, ◌-◌, ℕ, List, pos, length, MatchOption, OnOk};
+ghost use Rattle.rational.specs.Time.{whole};
 ghost use Rattle.rational.specs.Places.{Same};
+ghost use Rattle.time_sets.specs.Sets.{EndBefore, Rise};
 ghost use Rattle.time_sets.specs.Turns.{place};
 ghost use Rattle.time_sets.specs.Windows.{IsNear};
 ghost use Rattle.stl_syntax.specs.Trace.{Header, Row};
 ghost use Rattle.atom_lines.specs.Binding.{IsAtomNode};
-ghost use Rattle.atom_lines.specs.Passages.{TellsPassage, TurnsInside, crossing_time};
+ghost use Rattle.atom_lines.specs.Legs.{TurnsOver, turning_place};
 ghost use Rattle.atom_lines.specs.Rows.{row_of};
-ghost use Rattle.truth_sets.specs.Growing.{GoesAlong, GoesOver, IsTail, IsTidy};
+ghost use Rattle.truth_sets.specs.Growing.{BendsAt, GoesAlong, IsTail, IsTidy, JumpsAt, before_row};
 ghost use Rattle.truth_sets.specs.Rows.{HasGrown};
 
-use atom_lines::{Bound, Crossing, Passage, standing, way_from};
+use atom_lines::{Bound, Leg, Turning, leg_from, standing};
 use frac128::Memory;
 use std::alloc::Global;
 use time_sets::{Times, Turn};
@@ -33,48 +34,48 @@ pub(crate) fn row_turn(time: u32, after: bool) -> Turn
     Turn::at_tick(i64::from(time), after)
 }
 
-/// Just before a crossing, or just after it.
+/// The place of a turning.
 #[inline(always)]
-fn crossing_turn(at: &Crossing, after: bool) -> Turn
-    ensures { Same (place result) (record { at = crossing_time at.now; after = after }) }
+fn turn_of(x: &Turning) -> Turn
+    ensures { Same (place result) (turning_place x.now) }
 {
-    Turn::mixed(i64::from(at.floor), at.rest, at.den, after)
+    Turn::mixed(i64::from(x.at.floor), x.at.rest, x.at.den, x.after)
 }
 
-/// Goes on from the row at `first` over the gap behind it.
+/// Goes on over the gap behind a row, on which the truth may turn once.
 #[inline(always)]
-fn go_over(times: &mut Times, first: u32, passage: &Passage) -> Result<(), Memory>
-    requires tidy { (from : ℕ) × IsTidy from first times.old }
-    requires inside { (to : ℕ) × TurnsInside (whole (pos first)) (whole (pos to)) passage.now }
-    ensures { OnOk result (GoesOver first passage.now times.old times.new) }
+fn bend(times: &mut Times, turn: &Option<Turning>) -> Result<(), Memory>
+    requires rise { Rise times.old.turns.items }
+    requires last { MatchOption turn.now (Unit {0}) (λ x. EndBefore (turning_place x) times.old.turns.items) }
+    ensures { OnOk result (BendsAt turn.now times.old times.new) }
 {
-    match passage {
-        Passage::Steady(holds) => times.set_from(row_turn(first, true), *holds),
-        Passage::Turns { before, at, after } => {
-            times.set_from(row_turn(first, true), *before)?;
-            times.set_from(crossing_turn(at, *after), !*before)
-        }
+    match turn {
+        None => Ok(()),
+        Some(x) => times.turn(turn_of(x)),
     }
 }
 
-/// Goes on from the row at `first` over the gap behind it, to the row at `second`.
+/// Goes on to the row at `second`, at which the truth may jump.
 #[inline(always)]
-fn go_along(
-    times: &mut Times,
-    first: u32,
-    second: u32,
-    passage: &Passage,
-    last: bool,
-) -> Result<(), Memory>
-    requires order { first < second }
-    requires tidy { (from : ℕ) × IsTidy from first times.old }
-    requires inside { TurnsInside (whole (pos first)) (whole (pos second)) passage.now }
-    ensures tidy { OnOk result ((from : ℕ) → IsTidy from first times.old → IsTidy from second times.new) }
-    ensures tells { OnOk result ((test : Rational → Bool) → TellsPassage (whole (pos first)) (whole (pos second)) test passage.now
-        → ((t : Rational) → t ≈ whole (pos second) → test t ≡ last) → GoesAlong first second test times.old times.new) }
+fn jump(times: &mut Times, second: u32, jumps: bool) -> Result<(), Memory>
+    requires rise { Rise times.old.turns.items }
+    requires last { EndBefore (before_row second) times.old.turns.items }
+    ensures { OnOk result (JumpsAt second jumps times.old times.new) }
 {
-    go_over(times, first, passage)?;
-    times.set_from(row_turn(second, false), last)
+    if !jumps {
+        return Ok(());
+    }
+    times.turn(row_turn(second, false))
+}
+
+/// Goes on over a leg, which ends with the row at `second`.
+#[inline(always)]
+fn go_along(times: &mut Times, second: u32, leg: &Leg) -> Result<(), Memory>
+    requires { (from first : ℕ) × IsTidy from first times.old × (first < second) × TurnsOver (whole (pos first)) (whole (pos second)) leg.now.turn }
+    ensures { OnOk result (GoesAlong second leg.now times.old times.new) }
+{
+    bend(times, &leg.turn)?;
+    jump(times, second, leg.jumps)
 }
 
 /// Begins the set of the atom at a node with the first row of a trace.
@@ -102,16 +103,10 @@ pub(crate) fn grow(set: &mut NodeSet, bound: &Bound, node: u32, trace: &Trace) -
     let last = trace.rows() - 1;
     let mut at = 0;
     while at < last {
-        let way = way_from(bound, node, trace, at, last, set.sum);
-        go_along(
-            &mut set.times,
-            trace.time(way.row - 1),
-            trace.time(way.row),
-            &way.passage,
-            way.last,
-        )?;
-        set.sum = way.sum;
-        at = way.row;
+        let leg = leg_from(bound, node, trace, at, last, set.sum);
+        go_along(&mut set.times, trace.time(leg.row), &leg)?;
+        set.sum = leg.sum;
+        at = leg.row;
     }
     Ok(())
 }

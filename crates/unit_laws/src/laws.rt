@@ -12,7 +12,7 @@ pub fn truth_is_of_units()
     ensures { TruthIsOfUnits }
 {}
 
-/// Nor does its robustness: in smaller ticks it is as many times larger as a value is.
+/// The robustness of a formula at a time is, in smaller ticks, as many times larger as a value is.
 pub fn robustness_is_of_units()
     ensures { RobustnessIsOfUnits }
 {}
@@ -37,7 +37,7 @@ pub fn streams_are_kept()
     ensures { StreamsAreKept }
 {}
 
-/// And where such a stream owes something in both ticks it is one text.
+/// Where `watch`, `early` or `rwatch` owes something in both ticks it is one text.
 pub fn streams_owe_one_text()
     ensures { StreamsOweOneText }
 {}
@@ -47,17 +47,17 @@ pub fn early_is_of_units()
     ensures { EarlyIsOfUnits }
 {}
 
-/// Nor one that `rwatch` owes.
+/// Smaller ticks change no text that `rwatch` owes.
 pub fn margins_are_of_units()
     ensures { MarginsAreOfUnits }
 {}
 
-/// Nor one that `watch` owes, for a formula and rows within the limits.
+/// Smaller ticks change no text that `watch` owes, for a formula and rows within the limits.
 pub fn watch_is_of_units()
     ensures { WatchIsOfUnits }
 {}
 
-/// And for every formula and each trace that is read for it what `watch`, `early` and `rwatch` owe is the same in all ticks.
+/// For every formula and each trace that is read for it what `watch`, `early` and `rwatch` owe is the same in all ticks.
 pub fn read_streams_are_of_units(formula: &Formula)
     ensures { ReadStreamsAreOfUnits formula.now }
 {
@@ -75,18 +75,18 @@ pub fn texts_are_of_units()
     ensures { LawOfUnits }
 {}
 
-/// Nor do they of `explain`.
+/// Smaller ticks change no text of `explain`, for a formula and rows within the limits.
 pub fn explain_is_of_units()
     ensures { ExplainIsOfUnits }
 {}
 
-/// Nor of `json`.
+/// Smaller ticks change no text of `json`, for a formula and rows within the limits.
 pub fn json_is_of_units()
     ensures { JsonIsOfUnits }
 {}
 
-/// So for every formula and each trace that is read for it, whatever its bytes, each command that holds the whole trace writes the same in
-/// all ticks.
+/// For every formula and each trace that is read for it, whatever its bytes, each command that holds the whole trace writes the same in all
+/// ticks.
 pub fn read_texts_are_of_units(formula: &Formula)
     ensures { ReadTextsAreOfUnits formula.now }
 {
@@ -103,7 +103,7 @@ pub fn truth_moves()
     ensures { TruthMoves }
 {}
 
-/// And its robustness is the same as many ticks later.
+/// Where all times of a trace are so many ticks later, a formula has the same robustness as many ticks later.
 pub fn robustness_moves()
     ensures { RobustnessMoves }
 {}
@@ -113,12 +113,12 @@ pub fn verdicts_move()
     ensures { VerdictsMove }
 {}
 
-/// And its knots are those of the trace, as many ticks later with the same values.
+/// The knots of the later trace are those of the trace, as many ticks later with the same values.
 pub fn knots_move()
     ensures { KnotsMove }
 {}
 
-/// And what explains the formula on the later trace is what explains it on the trace, as many ticks later.
+/// What explains the formula on the later trace is what explains it on the trace, as many ticks later.
 pub fn explanations_move()
     ensures { ExplanationsMove }
 {}
@@ -129,7 +129,7 @@ pub fn texts_move()
     ensures { TextsMove }
 {}
 
-/// And what `watch`, `early` and `rwatch` owe for the rows of the later trace is what they owe for those of the trace, with each time as
+/// What `watch`, `early` and `rwatch` owe for the rows of the later trace is what they owe for those of the trace, with each time as
 /// many ticks later.
 pub fn streams_move()
     ensures { StreamsMove }

@@ -26,7 +26,7 @@ use Rattle.truth_sets.specs.Standing.{TellsRoot}
 use Rattle.truth_sets.specs.declared.growing.Judged.{Judged}
 use Rattle.trace_stream.specs.Cases.{IsCase}
 use Rattle.trace_stream.specs.declared.case.Case.{Case}
-use Rattle.verdict_sets.specs.Telling.{IsStretch, IsVerdictAt, AreFirstVerdicts, IsJudgedText, IsCheckAnswer}
+use Rattle.verdict_sets.specs.Telling.{IsStretch, IsVerdictAt, AreVerdictsFrom, AreLinesFrom, IsFirstTruth, IsCheckAnswer}
 
 -- a truth by its test
 by_test : (b : Bool) {P : Type 0} → IsTrue b ↔ P → MatchBool b P (¬ P)
@@ -121,7 +121,7 @@ module _ (nodes : List Node) (j : Judged) (tr : Trace) (told : TellsRoot nodes t
       behind k = omega arith
 
   -- the verdicts of all stretches describe the formula
-  described : (vs : List Verdict) → length vs ≡ length j.times.turns.items + 1 → AreFirstVerdicts j vs → Describes vs p tr whole
+  described : (vs : List Verdict) → length vs ≡ length j.times.turns.items + 1 → AreVerdictsFrom j 0 vs → Describes vs p tr whole
   described [] count are = absurd (omega (arith, count))
   described (v ∷ vs) count are =
       let a = are 0 v refl in (
@@ -130,7 +130,7 @@ module _ (nodes : List Node) (j : Judged) (tr : Trace) (told : TellsRoot nodes t
         goes_on 0 v vs a (λ k w at. subst (λ m. IsVerdictAt j m w) (second k) (are (suc k) w at)) (omega (arith, count)),
       )
     where
-      second : (k : ℕ) → suc k ≡ 0 + 1 + k
+      second : (k : ℕ) → 0 + suc k ≡ 0 + 1 + k
       second k = omega arith
 
   -- the truth of the first stretch is that at the start
@@ -152,7 +152,7 @@ module _ (nodes : List Node) (j : Judged) (tr : Trace) (told : TellsRoot nodes t
       upto_first e (inr (s, f, g)) = subst (λ b. MatchBool b (start tr ≤ʳ e.at) (start tr <ʳ e.at)) (sym g) (le_of_same s)
 
 module _ (c : Case) (f : Formula) (case : IsCase f c) (j : Judged) (told : TellsRoot c.formula.nodes c.trace j)
-    (holds : Bool) (text : List ℕ) (is : IsJudgedText j c.formula.scale holds text) where
+    (holds : Bool) (text : List ℕ) (is : AreLinesFrom j c.formula.scale holds 0 text) (first : IsFirstTruth j holds) where
   -- the truth and the text over given nodes, with times in units of a scale
   Over : Formula → Type 0
   Over g =
@@ -162,19 +162,19 @@ module _ (c : Case) (f : Formula) (case : IsCase f c) (j : Judged) (told : Tells
 
   now : MatchBool holds (Truth (root c.formula.nodes) c.trace (start c.trace)) (¬ Truth (root c.formula.nodes) c.trace (start c.trace))
   now =
-      subst (λ b. MatchBool b (Truth (root c.formula.nodes) c.trace (start c.trace)) (¬ Truth (root c.formula.nodes) c.trace (start c.trace))) is.first.same
-      (at_start c.formula.nodes j c.trace told is.first.stretch is.first.at)
+      subst (λ b. MatchBool b (Truth (root c.formula.nodes) c.trace (start c.trace)) (¬ Truth (root c.formula.nodes) c.trace (start c.trace))) first.same
+      (at_start c.formula.nodes j c.trace told first.stretch first.at)
 
   own : Over c.formula
   unfolding Over
   own = (
     now,
     (
-      is.lines.verdicts,
+      is.verdicts,
       is.body,
       start_line holds,
-      described c.formula.nodes j c.trace told is.lines.verdicts is.lines.count is.lines.are,
-      is.lines.lines,
+      described c.formula.nodes j c.trace told is.verdicts (omega (arith, is.count)) is.are,
+      is.lines,
       (holds, now, refl),
       is.parts,
     ),

@@ -1,27 +1,29 @@
 //! The lines of the stretches of one truth.
-ghost use Rattle.std.specs.Prelude.{◌≤◌, IfOk, OnOk};
+ghost use Rattle.std.specs.Prelude.{◌≡◌};
 ghost use Rattle.rational.specs.Time.{◌≈◌};
 ghost use Rattle.rational.specs.Places.{Before};
 ghost use Rattle.frac128.specs.Value.{value};
 ghost use Rattle.time_sets.specs.Turns.{place};
 ghost use Rattle.time_sets.specs.Windows.{IsDomain, IsOf};
-ghost use Rattle.report.specs.Appended.{Grew};
-ghost use Rattle.verdict_sets.specs.Telling.{IsVerdictOf, AreJudgedLines, IsJudgedText, IsFirstTruth};
+ghost use Rattle.verdict_sets.specs.Telling.{IsVerdictOf, IsFirstTruth};
 
-use frac128::{Frac, Memory, Span};
-use report::{VerdictLines, put_start};
-use std::alloc::Global;
-use stl_syntax::{Scale, Text, Verdict};
+use frac128::{Frac, Span};
+use report::{LineRoom, LinesLeft};
+use stl_syntax::{Scale, Verdict};
 use time_sets::Span as Stretch;
 use truth_sets::Judged;
 
-/// The truth of a formula at the start of a recording, and the whole text of `check`.
+/// The answer of `check`: the truth at the start, and the lines that are left to write.
 #[derive(Drop)]
 pub struct Told {
-    /// Whether it holds at the start.
+    /// Whether the formula holds at the start.
     pub holds: bool,
-    /// The verdict lines, and the line of the truth at the start.
-    pub text: Text,
+    judged: Judged,
+    scale: Scale,
+    /// How many stretches have their lines.
+    next: usize,
+    /// The time at which the next stretch begins.
+    from: Frac,
 }
 
 /// The verdict of a stretch of one truth, which begins at the time `from`.
@@ -42,23 +44,33 @@ fn verdict_of(from: Frac, stretch: &Stretch) -> Verdict
     }
 }
 
-/// Appends the lines of the longest stretches of one truth.
-fn put_stretches(text: &mut Text, judged: &Judged, scale: Scale) -> Result<(), Memory>
-    requires digits { scale.time ≤ 6 }
-    requires domain { IsDomain judged.now.on }
-    requires own { IsOf judged.now.on judged.now.times }
-    ensures { OnOk result (Grew (AreJudgedLines judged.now scale) text.old text.new) }
-{
-    let mut lines = VerdictLines::new();
-    let mut from = judged.on.from.time();
-    let mut next = 0;
-    while let Some(stretch) = judged.times.span(&judged.on, next) {
-        let verdict = verdict_of(from, &stretch);
-        lines.put(text, &verdict, scale)?;
-        from = verdict.on.to;
-        next += 1;
+impl LinesLeft for Told {
+    ghost use Rattle.std.specs.Prelude.{◌+◌, ◌-◌, length};
+    ghost use Rattle.verdict_sets.specs.Telling.{AreLeft, IsToldTo};
+
+    ghost can_go_on = { IsToldTo };
+
+    ghost is_left = { AreLeft };
+
+    ghost count = { λ t. length t.judged.times.turns.items + 1 - t.next };
+
+    fn put_some(&mut self, room: &mut LineRoom) -> bool {
+        let mut from = self.from;
+        let mut next = self.next;
+        while room.has_room() {
+            let Some(stretch) = self.judged.times.span(&self.judged.on, next) else {
+                room.put_start(self.holds);
+                return false;
+            };
+            let verdict = verdict_of(from, &stretch);
+            room.put_verdict(&verdict, self.scale);
+            from = verdict.on.to;
+            next += 1;
+        }
+        self.from = from;
+        self.next = next;
+        true
     }
-    lines.hand_over(text)
 }
 
 /// The truth of the first stretch.
@@ -73,16 +85,23 @@ fn first_truth(judged: &Judged) -> bool
     }
 }
 
-/// What the root's set tells, with times in units of the scale.
-pub(crate) fn told_by(alloc: Global, scale: Scale, judged: &Judged) -> Result<Told, Memory>
-    requires digits { scale.time ≤ 6 }
-    requires domain { IsDomain judged.now.on }
-    requires own { IsOf judged.now.on judged.now.times }
-    ensures { IfOk result (λ a. IsJudgedText judged.now scale a.holds a.text) }
+/// The answer that the root's set tells, with times in units of the scale. No line of it is written yet.
+pub(crate) fn told_by(scale: Scale, judged: Judged) -> Told
+    requires domain { IsDomain judged.on }
+    requires own { IsOf judged.on judged.times }
+    ensures judged { result.judged ≡ judged }
+    ensures scale { result.scale ≡ scale }
+    ensures none { result.next ≡ 0 }
+    ensures from { value result.from ≈ (place judged.on.from).at }
+    ensures first { IsFirstTruth judged result.holds }
 {
-    let mut text = Text::new(alloc);
-    put_stretches(&mut text, judged, scale)?;
-    let holds = first_truth(judged);
-    put_start(&mut text, holds)?;
-    Ok(Told { holds, text })
+    let holds = first_truth(&judged);
+    let from = judged.on.from.time();
+    Told {
+        holds,
+        judged,
+        scale,
+        next: 0,
+        from,
+    }
 }

@@ -1,10 +1,10 @@
 //! Sets of times that stand for a case as its rows come.
-ghost use Rattle.std.specs.Prelude.{◌<◌, false, length, IfOk, OnOk};
+ghost use Rattle.std.specs.Prelude.{◌<◌, ℕ, List, false, length, IfOk, OnOk};
 ghost use Rattle.stl_syntax.specs.Formula.{Formula as Parsed};
 ghost use Rattle.stl_syntax.specs.Trace.{IsTrace};
 ghost use Rattle.trace_stream.specs.Cases.{IsCase};
 ghost use Rattle.verdict_sets.specs.Keeping.{HasSets, CanTakeIn};
-ghost use Rattle.verdict_sets.specs.Telling.{IsCheckAnswer};
+ghost use Rattle.verdict_sets.specs.Telling.{AreLeft, IsCheckAnswer, IsToldTo};
 ghost use Rattle.trace_stream.specs.declared.case.Case.{Case as Of};
 
 use crate::lines::{Told, told_by};
@@ -65,13 +65,15 @@ impl VerdictSets {
 }
 
 impl VerdictSets {
-    /// What the sets tell, once all rows of the trace have come.
+    /// What the sets tell, once all rows of the trace have come: whatever the lines that are left come to, that is the answer of `check`.
     ///
     /// # Errors
     /// Want of memory.
     pub fn finish(self, alloc: Global) -> Result<Told, Memory>
         requires { (c : Of) × HasSets self c × IsTrace c.trace }
-        ensures { IfOk result (λ a. (f : Parsed) (c : Of) → IsCase f c → HasSets self c → IsTrace c.trace → IsCheckAnswer f c.trace a.holds a.text) }
+        ensures begun { IfOk result IsToldTo }
+        ensures told { IfOk result (λ a. (f : Parsed) (c : Of) (text : List ℕ) → IsCase f c → HasSets self c → IsTrace c.trace → AreLeft a text
+            → IsCheckAnswer f c.trace a.holds text) }
     {
         let VerdictSets {
             alloc: _alloc,
@@ -81,7 +83,7 @@ impl VerdictSets {
         let scale = case.formula.scale();
         let last = case.trace.time(case.trace.rows() - 1);
         let judged = sets.finish(alloc, &case.formula, last)?;
-        told_by(alloc, scale, &judged)
+        Ok(told_by(scale, judged))
     }
 }
 

@@ -250,6 +250,8 @@ pub record OwesNoMore (v : Watcher) (given : Network) (after : Watcher) : Type 0
   pub times : after.times.items ≡ []
   -- and no verdict
   pub pending : after.pending ≡ []
+  -- and no line
+  pub lines : after.lines ≡ []
 
 -- beside the network's parts, what rows whose text is owed change: their times are kept
 pub record KeepsTimes (v after : Watcher) (rows : List Row) : Type 0 where
@@ -263,6 +265,8 @@ pub record KeepsTimes (v after : Watcher) (rows : List Row) : Type 0 where
   pub times : after.times.items ≡ v.times.items ++ map (λ (r : Row). r.time) rows
   -- the verdicts that waited
   pub pending : after.pending ≡ v.pending
+  -- the lines that waited
+  pub lines : after.lines ≡ v.lines
 
 module _ (v after : Watcher) (c : Case) (made : List ℕ) (rows : List Row) (some : 0 < length rows) (by : KeepsTimes v after rows) where
   parts : HasLast rows
@@ -296,6 +300,7 @@ module _ (v after : Watcher) (c : Case) (made : List ℕ) (rows : List Row) (som
         start = by.start ∙ w.start;
         times = by.times ∙ ap (λ l. l ++ map (λ (r : Row). r.time) rows) w.no_times ∙ ap (map (λ (r : Row). r.time)) parts.is;
         none_pending = by.pending ∙ w.none_pending;
+        none_waiting = by.lines ∙ w.none_waiting;
         told = k.told;
       }
 
@@ -339,6 +344,7 @@ module _ (v after : Watcher) (c : Case) (made : List ℕ) (rows : List Row) (som
         times = by.times ∙ ap (λ l. l ++ map (λ (r : Row). r.time) rows) o.times ∙ sym (map-append (λ (r : Row). r.time) waiting rows)
             ∙ ap (map (λ (r : Row). r.time)) all;
         none_pending = by.pending ∙ o.none_pending;
+        none_waiting = by.lines ∙ o.none_waiting;
         told = o.told;
       }
 
@@ -449,6 +455,7 @@ module _ (v : Watcher) (c : Case) (made : List ℕ) (o : IsOwing v c made) where
             start = ap (λ (n : Network). n.start) left_off.network ∙ p.start;
             no_times = left_off.times;
             none_pending = left_off.pending;
+            none_waiting = left_off.lines;
           };
           fits = o.fits;
           told = subst (λ l. StreamText verdicts (root c.formula.nodes) c.trace.header l false (made ++ grown)) (sym rows)

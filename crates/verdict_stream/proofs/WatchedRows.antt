@@ -3,7 +3,6 @@ use Rattle.std.proofs.Common.{◌≡◌, ◌⊎◌, inl, inr, ℕ, ◌<◌, Bool
 use Rattle.std.proofs.Common.{length, ◌-◌, ◌≤◌, refl, sym, ap, ◌∙◌, subst, arith, append_assoc, length-append, Some, None}
 use Rattle.std.specs.Prelude.{◌≢◌, IfSome, MatchBool}
 use Rattle.std.proofs.Math.Seq.{take-append_seam}
-use Rattle.frac128.specs.declared.frac.Frac.{Frac}
 use Rattle.stl_syntax.specs.Formula.{Formula, root}
 use Rattle.stl_syntax.specs.Scaling.{scaled}
 use Rattle.stl_syntax.specs.declared.items.Verdict.{Verdict}
@@ -128,11 +127,11 @@ module _ (v : Watcher) (c : Case) (w : IsWatched false v c) where
   pub rows_followed : {made : List ℕ} (rows : List Row) → Follows (λ case text. IsWatched false v case) verdicts c made
       → node_is_atom c.formula.nodes (length c.formula.nodes - 1) ≡ true → 0 < length rows → length rows ≤ most_rows
       → IsRun c.formula.nodes c.trace.header (w.events ++ rows_of rows)
-      → (x : Passing c.formula.nodes c.trace.header w.events (rows_of rows) w.emitted) (after : Network) (written : Frac) (old new : List ℕ)
-      → after.formula ≡ v.network.formula
+      → (x : Passing c.formula.nodes c.trace.header w.events (rows_of rows) w.emitted) (after : Network) (waiting old new : List ℕ)
+      → after.formula ≡ v.network.formula → waiting ≡ []
       → HasTakenAll (pass_before c.formula.nodes c.trace.header w.events (rows_of rows) x.first x.beyond) after old new
-      → IsFollowedOn (λ case text. IsWatched false (record v { network = after; last = written }) case) verdicts (with_rows rows c) old new made
-  rows_followed {made} rows k atom some few run x after written old new same h =
+      → IsFollowedOn (λ case text. IsWatched false (record v { network = after; lines = waiting }) case) verdicts (with_rows rows c) old new made
+  rows_followed {made} rows k atom some few run x after waiting old new same none h =
       let (f, is) = k.fits in
       let l = last_of rows some in
       let p = passed_of c.formula.nodes c.trace.header w.events (rows_of rows) w.emitted x (w.events ++ rows_of l.front) (came l.last)
@@ -158,6 +157,7 @@ module _ (v : Watcher) (c : Case) (w : IsWatched false v c) where
             start = p.start;
             no_times = w.no_times;
             none_pending = w.none_pending;
+            none_waiting = none;
           };
           fits = (f, record { formula = is.formula; bound = is.bound });
           told = rows_told (root c.formula.nodes) c.trace.header c.trace.rows rows made grown k.told
@@ -199,10 +199,10 @@ module _ (v : Watcher) (c : Case) (w : IsWatched false v c) where
 
   -- after the end, once the line of the start was put
   pub end_followed : {made old mid : List ℕ} {x : Passing c.formula.nodes c.trace.header w.events (close ∷ []) w.emitted} {after : Network}
-      → Follows (λ case text. IsWatched false v case) verdicts c made → IsOut x after old mid → (written : Frac) (new : List ℕ) (holds : Bool)
-      → IsTrace c.trace → after.formula ≡ v.network.formula → after.start ≡ Some holds → new ≡ mid ++ start_line holds
-      → IsFollowedOut (λ case text. IsWatched true (record v { network = after; last = written }) case) verdicts c old new made holds
-  end_followed {made} {old} {mid} {x} {after} k o written new holds t same kept line =
+      → Follows (λ case text. IsWatched false v case) verdicts c made → IsOut x after old mid → (waiting new : List ℕ) (holds : Bool)
+      → waiting ≡ [] → IsTrace c.trace → after.formula ≡ v.network.formula → after.start ≡ Some holds → new ≡ mid ++ start_line holds
+      → IsFollowedOut (λ case text. IsWatched true (record v { network = after; lines = waiting }) case) verdicts c old new made holds
+  end_followed {made} {old} {mid} {x} {after} k o waiting new holds none t same kept line =
       let p = o.passed in
       let (f, is) = k.fits in
       let any : c.trace.rows ≢ [] = some_row (length c.trace.header.columns) c.trace.rows t.rows in
@@ -223,6 +223,7 @@ module _ (v : Watcher) (c : Case) (w : IsWatched false v c) where
             start = p.start;
             no_times = w.no_times;
             none_pending = w.none_pending;
+            none_waiting = none;
           };
           told = (
             t.rows,

@@ -37,6 +37,7 @@ pub record IsWatched (ended : Bool) (v : Watcher) (c : Case) : Type 0 where
   pub start : v.network.start ≡ first_truth emitted
   pub no_times : v.times.items ≡ []
   pub none_pending : v.pending ≡ []
+  pub none_waiting : v.lines ≡ []
 
 -- the run that a stream of the first rows drives, and some rows more, the last of which is `last`
 pub record IsFed (nodes : List Node) (header : Header) (before more : List Row) (last : Row) (events : List Event) : Type 0 where
@@ -64,6 +65,7 @@ pub record IsOwing (v : Watcher) (c : Case) (made : List ℕ) : Type 0 where
   pub start : v.network.start ≡ first_truth emitted
   pub times : v.times.items ≡ map (λ (r : Row). r.time) (more ++ last ∷ [])
   pub none_pending : v.pending ≡ []
+  pub none_waiting : v.lines ≡ []
   pub told : StreamText verdicts (root c.formula.nodes) c.trace.header before false made
 
 -- whatever text was made

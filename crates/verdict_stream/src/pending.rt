@@ -6,7 +6,7 @@ ghost use Rattle.report.specs.Appended.{Grew};
 ghost use Rattle.verdict_stream.specs.Pendings.{just_after, GoesBeyond, IsNextUpTo, IsCut, IsPartBefore, IsPartAfter, IsTextUpTo};
 
 use frac128::{Cut, Frac, Memory, Span};
-use report::{LastTime, put_verdict_after};
+use report::VerdictLines;
 use std::alloc::Global;
 use std::collections::VecDeque;
 use std::marker::Model;
@@ -143,17 +143,18 @@ impl Pending {
         &mut self,
         front: u32,
         scale: Scale,
-        last: &mut LastTime,
+        lines: &mut VerdictLines,
         text: &mut Text,
     ) -> Result<(), Memory>
         requires { scale.time ≤ 6 }
-        ensures { IfOk result (λ _. Grew (λ grown. IsTextUpTo scale front self.old grown self.new) text.old text.new) }
+        ensures { IfOk result (λ _. Grew (λ grown. IsTextUpTo scale front self.old grown self.new)
+            (text.old ++ lines.old) (text.new ++ lines.new)) }
     {
         while let Some(verdict) = self.next(front) {
-            put_verdict_after(text, last, &verdict, scale)?;
+            lines.put(text, &verdict, scale)?;
         }
         match self.cut(front) {
-            Some(part) => put_verdict_after(text, last, &part, scale),
+            Some(part) => lines.put(text, &part, scale),
             None => Ok(()),
         }
     }

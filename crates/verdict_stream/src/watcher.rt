@@ -20,7 +20,7 @@ use crate::pending::Pending;
 use atom_lines::Bound;
 use frac128::Memory;
 use online_net::Net;
-use report::{LastTime, put_start, put_verdict_after};
+use report::{VerdictLines, put_start};
 use std::alloc::Global;
 use stl_syntax::{Formula, Node, Text, Verdict};
 use trace_reader::{Row, Trace};
@@ -47,8 +47,8 @@ pub struct Watcher {
     horizon: u64,
     times: Vec<u32>,
     pending: Pending,
-    /// The time that was written last.
-    last: LastTime,
+    /// Lines that are not appended to the text yet; none between calls.
+    lines: VerdictLines,
 }
 
 /// Whether the root of a formula is an atom.
@@ -133,14 +133,20 @@ impl Network {
     ///
     /// # Errors
     /// Want of memory.
-    fn put(&mut self, verdict: &Verdict, last: &mut LastTime, text: &mut Text) -> Result<(), Memory>
-        ensures line { IfOk result (λ _. Grew (IsVerdictLine self.old.formula.scale verdict.now) text.old text.new) }
+    #[inline(always)]
+    fn put(
+        &mut self,
+        verdict: &Verdict,
+        lines: &mut VerdictLines,
+        text: &mut Text,
+    ) -> Result<(), Memory>
+        ensures line { IfOk result (λ _. Grew (IsVerdictLine self.old.formula.scale verdict.now) (text.old ++ lines.old) (text.new ++ lines.new)) }
         ensures start { self.new.start ≡ kept_truth self.old.start verdict.now.holds }
         ensures net { self.new.net ≡ self.old.net }
         ensures formula { self.new.formula ≡ self.old.formula }
     {
         self.keep(verdict.holds);
-        put_verdict_after(text, last, verdict, self.formula.scale())
+        lines.put(text, verdict, self.formula.scale())
     }
 
     /// Takes what the root gave out until nothing is left, and keeps it for its lines.
@@ -164,14 +170,17 @@ impl Network {
     /// # Errors
     /// Want of memory.
     #[inline(always)]
-    fn take_all(&mut self, last: &mut LastTime, text: &mut Text) -> Result<(), Memory>
-        requires { (p : Pass) × CanTake p self.old }
+    fn take_all(&mut self, lines: &mut VerdictLines, text: &mut Text) -> Result<(), Memory>
+        requires can { (p : Pass) × CanTake p self.old }
+        requires none { lines.old ≡ [] }
         ensures taken { (p : Pass) → CanTake p self.old → IfOk result (λ _. HasTakenAll p self.new text.old text.new) }
+        ensures none { OnOk result (lines.new ≡ []) }
         ensures formula { self.new.formula ≡ self.old.formula }
     {
         while let Some(verdict) = self.net.take() {
-            self.put(&verdict, last, text)?;
+            self.put(&verdict, lines, text)?;
         }
+        lines.hand_over(text)?;
         Ok(())
     }
 }
@@ -197,7 +206,7 @@ impl Watcher {
             horizon,
             times: Vec::new(alloc),
             pending: Pending::new(alloc),
-            last: LastTime::new(),
+            lines: VerdictLines::new(),
         })
     }
 
@@ -253,7 +262,8 @@ impl Watcher {
         };
         if is_atom(&self.network.formula) {
             self.network.step_all()?;
-            return self.network.take_all(&mut self.last, text);
+            self.network.take_all(&mut self.lines, text)?;
+            return Ok(());
         }
         match self.times.push(row.time()) {
             Ok(()) => Ok(()),
@@ -295,7 +305,7 @@ impl Watcher {
         };
         if is_atom(&self.network.formula) {
             self.network.step_all()?;
-            self.network.take_all(&mut self.last, text)?;
+            self.network.take_all(&mut self.lines, text)?;
             return Ok(to);
         }
         keep_times(&mut self.times, block, at, to)?;
@@ -336,7 +346,7 @@ impl Watcher {
             return Err(Memory);
         };
         self.network.step_all()?;
-        self.network.take_all(&mut self.last, text)?;
+        self.network.take_all(&mut self.lines, text)?;
         let Some(holds) = self.network.start else {
             unreachable!()
         };
@@ -350,7 +360,8 @@ impl Watcher {
     /// Want of memory.
     fn put_row(&mut self, time: u32, text: &mut Text) -> Result<(), Memory>
         ensures lines { IfOk result (λ _. Grew (λ grown.
-            IsTextOfRow self.old.network.formula.scale self.old.horizon time self.old.pending grown self.new.pending) text.old text.new) }
+            IsTextOfRow self.old.network.formula.scale self.old.horizon time self.old.pending grown self.new.pending)
+            (text.old ++ self.old.lines) (text.new ++ self.new.lines)) }
         ensures network { self.new.network ≡ self.old.network }
         ensures horizon { self.new.horizon ≡ self.old.horizon }
         ensures times { self.new.times.items ≡ self.old.times.items }
@@ -361,7 +372,7 @@ impl Watcher {
         }
         let front = (time - self.horizon) as u32;
         let scale = self.network.formula.scale();
-        self.pending.put_up_to(front, scale, &mut self.last, text)
+        self.pending.put_up_to(front, scale, &mut self.lines, text)
     }
 
     /// Adds the lines of what was given out, cut where the answer of each row ends.
@@ -369,15 +380,18 @@ impl Watcher {
     /// # Errors
     /// Want of memory.
     fn put_rows(&mut self, text: &mut Text) -> Result<(), Memory>
+        requires { self.old.lines ≡ [] }
         ensures lines { IfOk result (λ _. Grew (λ grown.
             IsTextOfRows self.old.network.formula.scale self.old.horizon self.old.times.items self.old.pending grown self.new.pending) text.old text.new) }
         ensures network { self.new.network ≡ self.old.network }
         ensures horizon { self.new.horizon ≡ self.old.horizon }
+        ensures none { OnOk result (self.new.lines ≡ []) }
     {
         for i in 0..self.times.len() {
             let time = self.times[i];
             self.put_row(time, text)?;
         }
+        self.lines.hand_over(text)?;
         Ok(())
     }
 }

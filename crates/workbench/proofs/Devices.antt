@@ -74,3 +74,20 @@ part_on a b c x y w h = record {
   missing = h.missing;
   wrote = Appends-trans a b c x h.front w h.wrote;
 }
+
+-- what came of a text that was written whole, or in part
+pub all_of : {T E : Type 0} (before held : Option (List ℕ)) (text : List ℕ) (r : Result T E) (v : T) → r ≡ Ok v → IsWritten before held r text
+    → Appends before held text
+all_of before held text (Ok w) v e h = h
+all_of before held text (Err w) v e h = absurd (let k = e in cc)
+
+pub part_of : {T E : Type 0} (before held : Option (List ℕ)) (text : List ℕ) (r : Result T E) (v : E) → r ≡ Err v → IsWritten before held r text
+    → IsPartWritten before held text
+part_of before held text (Ok w) v e h = absurd (let k = e in cc)
+part_of before held text (Err w) v e h = h
+
+-- the cause of what came later is that of all, where nothing failed before
+pub cause_on : {T E U F : Type 0} (before mid now : ℕ) (r : Result T E) (v : T) (s : Result U F) → r ≡ Ok v → HasCause before mid r → HasCause mid now s
+    → HasCause before now s
+cause_on before mid now (Ok w) v s e h k = subst (λ n. HasCause n now s) h.still k
+cause_on before mid now (Err w) v s e h k = absurd (let f = e in cc)

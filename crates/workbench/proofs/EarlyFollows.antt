@@ -11,13 +11,14 @@ use Rattle.stl_syntax.specs.Early.{NoneDecides, FirstDecides}
 use Rattle.stl_syntax.specs.EarlyText.{IsEarlyText, at_row, at_end, not_yet}
 use Rattle.stl_syntax.specs.Texts.{IsNumberText, newline, start_line}
 use Rattle.stl_syntax.specs.declared.scale.Scale.{Scale}
-use Rattle.early_verdict.specs.Deciding.{IsAnswer, IsTruthAtStart, SetsAre, Stands, WasDecided, last_of, trace_of}
+use Rattle.early_verdict.specs.Deciding.{IsAnswer, IsBlockAnswer, IsTruthAtStart, SetsAre, Stands, WasDecided, last_of, trace_of}
 use Rattle.early_verdict.specs.declared.early.Decided.{Decided}
 use Rattle.early_verdict.proofs.DecideLemmas.{none_more, none_first}
 use Rattle.early_verdict.proofs.RowLemmas.{last_is}
 use Rattle.report.specs.Appended.{Grew}
 use Rattle.report.specs.EarlyLines.{IsDecidedLine}
 use Rattle.trace_stream.specs.Cases.{IsCase, with_row}
+use Rattle.trace_stream.specs.Kept.{with_rows}
 use Rattle.trace_stream.specs.Streams.{early, status_of_truth}
 use Rattle.trace_stream.specs.Following.{Follows, IsComplete, IsFollowedOn, IsFollowedOut}
 use Rattle.trace_stream.specs.declared.case.Case.{Case}
@@ -29,14 +30,14 @@ use Rattle.workbench.specs.EarlyLines.{AreDecidedLines}
 pub nothing_said : (p : Subformula) (header : Header) → IsEarlyText p header [] false []
 nothing_said p header = not_yet refl (none_first p header) refl
 
--- a row that is not the first to decide leaves the text
-pub still_said : (p : Subformula) (header : Header) (rows : List Row) (r : Row) (made : List ℕ) → IsEarlyText p header rows false made
-    → ((b : Bool) → FirstDecides p header rows r b → ⊥) → IsEarlyText p header (rows ++ r ∷ []) false made
-still_said p header rows r made told none = elim told [
+-- rows of which none is the first to decide leave the text
+pub still_said : (p : Subformula) (header : Header) (rows more : List Row) (made : List ℕ) → IsEarlyText p header rows false made
+    → (NoneDecides p header rows → NoneDecides p header (rows ++ more)) → IsEarlyText p header (rows ++ more) false made
+still_said p header rows more made told none = elim told [
   | at_row before after q holds time e first num is ↦
-      at_row before (after ++ r ∷ []) q holds time (ap (λ l. l ++ r ∷ []) e ∙ append_assoc before (q ∷ after) (r ∷ [])) first num is
+      at_row before (after ++ more) q holds time (ap (λ l. l ++ more) e ∙ append_assoc before (q ∷ after) more) first num is
   | at_end line t ok n l is ↦ absurd (let f : false ≡ true = t in cc)
-  | not_yet f n is ↦ not_yet refl (none_more p header rows r n (λ b d. none b (record { decides = d; not_before = n }))) is
+  | not_yet f n is ↦ not_yet refl (none n) is
 ]
 
 -- before the first row that decides the text is empty
@@ -48,15 +49,22 @@ empty_before p header rows made told none = elim told [
   | not_yet f n is ↦ is
 ]
 
--- the row that decides
-pub now_said : {p : Subformula} {header : Header} {rows : List Row} {made : List ℕ} (r : Row) (grown : List ℕ) (d : Decided) (scale : Scale)
-    → IsEarlyText p header rows false made
-    → d.at ≡ r.time → FirstDecides p header rows r d.holds → scale.time ≡ header.scale.time → AreDecidedLines scale d.at d.holds grown
-    → IsEarlyText p header (rows ++ r ∷ []) false (made ++ grown)
-now_said {p} {header} {rows} {made} r grown d scale told at first digits (time, num, is) =
-    at_row rows [] r d.holds time refl first
-    (subst (λ k. IsNumberText k (row_time r) time) digits (subst (λ t. IsNumberText scale.time (whole (pos t)) time) at num))
-    (ap (λ m. m ++ grown) (empty_before p header rows made told first.not_before) ∙ is)
+-- rows of which one is the first that decides
+pub now_said : {p : Subformula} {header : Header} {rows : List Row} {made : List ℕ} (more : List Row) (grown : List ℕ) (d : Decided) (scale : Scale)
+    → IsEarlyText p header rows false made → NoneDecides p header rows → WasDecided p header (rows ++ more) d
+    → scale.time ≡ header.scale.time → AreDecidedLines scale d.at d.holds grown
+    → IsEarlyText p header (rows ++ more) false (made ++ grown)
+now_said {p} {header} {rows} {made} more grown d scale told none w digits (time, num, is) =
+    at_row w.before w.after w.row d.holds time w.among w.first
+    (subst (λ k. IsNumberText k (row_time w.row) time) digits (subst (λ t. IsNumberText scale.time (whole (pos t)) time) w.at num))
+    (ap (λ m. m ++ grown) (empty_before p header rows made told none) ∙ is)
+
+-- one row is some rows
+of_row : (p : Subformula) (header : Header) (rows : List Row) (r : Row) (answer : Option Decided) → IsAnswer p header rows r answer
+    → IsBlockAnswer p header rows (r ∷ []) answer
+of_row p header rows r None h = λ none. none_more p header rows r none (λ b d. h b (record { decides = d; not_before = none }))
+of_row p header rows r (Some d) (at, first) =
+    (first.not_before, record { before = rows; row = r; after = []; among = refl; at = at; first = first })
 
 -- the end, where a row had decided
 pub said_before : (p : Subformula) (header : Header) (rows : List Row) (made : List ℕ) (d : Decided) → IsEarlyText p header rows false made
@@ -89,41 +97,51 @@ some_last width (q ∷ rows) last ok e = subst (λ o. IsSome o) (sym e) refl
 
 module _ (x y : Deciding) (case : Case) (made : List ℕ) (h : Follows (λ c text. IsDeciding false x c) early case made)
     (nodes : y.early.nodes ≡ x.early.nodes) (header : y.early.header ≡ x.early.header) (scale : y.scale ≡ x.scale) where
+  follows : (rows : List Row) (grown : List ℕ) → Stands y.early rows false
+      → IsEarlyText (root case.formula.nodes) case.trace.header rows false (made ++ grown)
+      → Follows (λ c text. IsDeciding false y c) early (record case { trace = record case.trace { rows = rows } }) (made ++ grown)
+  follows rows grown st told = record {
+    stands = record {
+      stands = st;
+      nodes = nodes ∙ h.stands.nodes;
+      header = header ∙ h.stands.header;
+      digits = ap (λ (s : Scale). s.time) scale ∙ h.stands.digits;
+    };
+    fits = (h.fits.0, record { formula = h.fits.1.formula; bound = h.fits.1.bound });
+    told = told;
+  }
+
+  -- some rows, of which one may be the first that decides
+  pub rows_on : (more : List Row) (old new : List ℕ) (answer : Option Decided) → Stands y.early (case.trace.rows ++ more) false
+      → IsBlockAnswer (root x.early.nodes) x.early.header case.trace.rows more answer
+      → MatchOption answer (new ≡ old) (λ d. Grew (AreDecidedLines x.scale d.at d.holds) old new)
+      → IsFollowedOn (λ c text. IsDeciding false y c) early (with_rows more case) old new made
+  rows_on more old new answer st is grew = by_answer answer (subst (λ n. IsBlockAnswer (root n) case.trace.header case.trace.rows more answer) h.stands.nodes
+      (subst (λ l. IsBlockAnswer (root x.early.nodes) l case.trace.rows more answer) h.stands.header is)) grew
+    where
+      by_answer : (o : Option Decided) → IsBlockAnswer (root case.formula.nodes) case.trace.header case.trace.rows more o
+          → MatchOption o (new ≡ old) (λ d. Grew (AreDecidedLines x.scale d.at d.holds) old new)
+          → IsFollowedOn (λ c text. IsDeciding false y c) early (with_rows more case) old new made
+      by_answer None none e = (
+        [],
+        e ∙ sym (append-nil old),
+        follows (case.trace.rows ++ more) [] st
+            (subst (λ m. IsEarlyText (root case.formula.nodes) case.trace.header (case.trace.rows ++ more) false m) (sym (append-nil made))
+            (still_said (root case.formula.nodes) case.trace.header case.trace.rows more made h.told none)),
+      )
+      by_answer (Some d) (none, w) (grown, lines, e) = (
+        grown,
+        e,
+        follows (case.trace.rows ++ more) grown st (now_said more grown d x.scale h.told none w h.stands.digits lines),
+      )
+
   -- a row
   pub row_on : (r : Row) (old new : List ℕ) (answer : Option Decided) → Stands y.early (case.trace.rows ++ r ∷ []) false
       → IsAnswer (root x.early.nodes) x.early.header case.trace.rows r answer
       → MatchOption answer (new ≡ old) (λ d. Grew (AreDecidedLines x.scale d.at d.holds) old new)
       → IsFollowedOn (λ c text. IsDeciding false y c) early (with_row r case) old new made
-  row_on r old new answer st is grew = by_answer answer (subst (λ n. IsAnswer (root n) case.trace.header case.trace.rows r answer) h.stands.nodes
-      (subst (λ l. IsAnswer (root x.early.nodes) l case.trace.rows r answer) h.stands.header is)) grew
-    where
-      follows : (grown : List ℕ) → IsEarlyText (root case.formula.nodes) case.trace.header (case.trace.rows ++ r ∷ []) false (made ++ grown)
-          → Follows (λ c text. IsDeciding false y c) early (with_row r case) (made ++ grown)
-      follows grown told = record {
-        stands = record {
-          stands = st;
-          nodes = nodes ∙ h.stands.nodes;
-          header = header ∙ h.stands.header;
-          digits = ap (λ (s : Scale). s.time) scale ∙ h.stands.digits;
-        };
-        fits = (h.fits.0, record { formula = h.fits.1.formula; bound = h.fits.1.bound });
-        told = told;
-      }
-
-      by_answer : (o : Option Decided) → IsAnswer (root case.formula.nodes) case.trace.header case.trace.rows r o
-          → MatchOption o (new ≡ old) (λ d. Grew (AreDecidedLines x.scale d.at d.holds) old new)
-          → IsFollowedOn (λ c text. IsDeciding false y c) early (with_row r case) old new made
-      by_answer None none e = (
-        [],
-        e ∙ sym (append-nil old),
-        follows [] (subst (λ m. IsEarlyText (root case.formula.nodes) case.trace.header (case.trace.rows ++ r ∷ []) false m) (sym (append-nil made))
-            (still_said (root case.formula.nodes) case.trace.header case.trace.rows r made h.told none)),
-      )
-      by_answer (Some d) (at, first) (grown, lines, e) = (
-        grown,
-        e,
-        follows grown (now_said r grown d x.scale h.told at first h.stands.digits lines),
-      )
+  row_on r old new answer st is grew =
+      rows_on (r ∷ []) old new answer st (of_row (root x.early.nodes) x.early.header case.trace.rows r answer is) grew
 
   -- the end
   pub end_on : (old new : List ℕ) (decided : Option Decided) (holds : Bool) → decided ≡ x.early.decided

@@ -5,16 +5,17 @@ ghost use Rattle.io_edge.specs.Calls.{drained, filled};
 ghost use Rattle.report.specs.Report.{check};
 ghost use Rattle.workbench.specs.Wholes.{IsWholeEnd};
 
-use crate::answer::Answer;
 use crate::fault::Stop;
 use crate::from_source::read_trace;
-use crate::top::{LIMITS, write_answer};
+use crate::top::{LIMITS, write_lines};
 use io_edge::{Sink, Source};
+use report::LineRoom;
 use std::alloc::Global;
 use stl_syntax::Formula;
 use verdict_sets::VerdictSets;
 
-/// Reads the whole trace, judges it by the formula, and writes the verdicts.
+/// Reads the whole trace, judges it by the formula, and writes the verdicts: their lines are made while they are written, over a room that
+/// is taken before.
 pub(crate) fn judge<S: Source, K: Sink>(
     alloc: Global,
     formula: &Formula,
@@ -36,14 +37,11 @@ pub(crate) fn judge<S: Source, K: Sink>(
         Ok(sets) => sets,
         Err(stop) => return Err(stop),
     };
+    let Ok(mut room) = LineRoom::new(alloc) else {
+        return Err(Stop::NoMemory);
+    };
     match sets.finish(alloc) {
-        Ok(told) => write_answer(
-            out,
-            &Answer {
-                holds: told.holds,
-                text: told.text,
-            },
-        ),
+        Ok(mut told) => write_lines(out, told.holds, &mut told, &mut room),
         Err(_) => Err(Stop::NoMemory),
     }
 }

@@ -161,11 +161,15 @@ impl Follow for Deciding {
 
     fn take_rows(
         &mut self,
-        _rows: &mut Rows,
-        _piece: &[u8],
-        _text: &mut Text,
+        rows: &mut Rows,
+        piece: &[u8],
+        text: &mut Text,
     ) -> Result<usize, Memory> {
-        Ok(0)
+        let Ok(taken) = self.early.take_rows(rows, piece) else {
+            return Err(Memory);
+        };
+        put_answer(text, taken.decided, self.scale)?;
+        Ok(taken.bytes)
     }
 
     fn flush(&mut self, _text: &mut Text) -> Result<(), Memory> {

@@ -1,7 +1,11 @@
 //! The answer of `json` for a formula and a trace.
-ghost use Rattle.std.specs.Prelude.{◌≡◌, ◌<◌, length, MatchResult};
+ghost use Rattle.std.specs.Prelude.{◌≡◌, ◌<◌, ℕ, length, MatchBool, MatchResult};
+ghost use Rattle.stl_syntax.specs.SupInf.{truths};
+ghost use Rattle.atom_lines.specs.Binding.{IsBound};
+ghost use Rattle.implicants.specs.Explaining.{HoldsAtStart, IsExplained, IsExplainFault};
 ghost use Rattle.report.specs.Report.{json};
 ghost use Rattle.trace_stream.specs.Cases.{IsCase};
+ghost use Rattle.workbench.specs.Answering.{IsRootOf};
 ghost use Rattle.workbench.specs.Reasons.{truth_of as truth_explained, items_of};
 ghost use Rattle.workbench.specs.Wholes.{IsAnswerOf, IsUnanswered};
 
@@ -9,13 +13,15 @@ use crate::answer::{Answer, truth_of};
 use crate::explain::{fault_stop, reasons};
 use crate::fault::Stop;
 use crate::robust::margins_of;
-use implicants::Explained;
+use implicants::{ExplainFault, Explained};
+use pl_signal::Signal;
 use report::put_json;
 use std::alloc::Global;
 use std::marker::Brand;
 use std::sync::ledger::Blank;
 use stl_syntax::{Formula, Items, Text};
 use trace_stream::Case;
+use value_laws::{Shape, Truth};
 
 /// What an explanation says of the start, and its items.
 fn truth_and_items(alloc: Global, explained: Explained) -> (bool, Items)
@@ -26,6 +32,35 @@ fn truth_and_items(alloc: Global, explained: Explained) -> (bool, Items)
         Explained::Holds => (true, Items::new(alloc)),
         Explained::Violated(items) => (false, items),
     }
+}
+
+/// Whether the formula is true at the start of the trace, from the signal of its truth.
+fn holds_at_start(case: &Case, truth: &Signal<Truth>) -> bool
+    requires told { IsRootOf ⟦<Truth as Shape>⟧ truths case.now truth.now }
+    ensures { MatchBool result
+        (HoldsAtStart case.now.formula.nodes case.now.trace) (¬ HoldsAtStart case.now.formula.nodes case.now.trace) }
+{
+    // For the proof alone: what the signal tells, and that it is one.
+    let _ = (case.trace.rows(), truth.len());
+    truth.knot(0).point.holds()
+}
+
+/// Why the formula of the case is false at the start of the trace. Where its truth tells that it holds there, nothing more is asked.
+///
+/// # Errors
+/// A violation with too many cells; want of memory.
+fn reasons_for(alloc: Global, case: &Case, truth: &Signal<Truth>) -> Result<Explained, ExplainFault>
+    requires bound { IsBound case.now.bound case.now.formula case.now.trace.header }
+    requires some { 0 < length case.now.trace.rows }
+    requires told { IsRootOf ⟦<Truth as Shape>⟧ truths case.now truth.now }
+    ensures { MatchResult result
+        (λ r. (steps : ℕ) × IsExplained case.now.formula.nodes case.now.trace steps r)
+        (IsExplainFault case.now.formula.nodes case.now.trace) }
+{
+    if holds_at_start(case, truth) {
+        return Ok(Explained::Holds);
+    }
+    reasons::<Brand>(alloc, case, Blank::new(1))
 }
 
 /// The verdicts, the robustness and the explanation over a trace that has a row, of the formula of which the case is made, as one
@@ -43,17 +78,17 @@ pub(crate) fn give_report(alloc: Global, formula: &Formula, case: &Case) -> Resu
     let scale = case.formula.scale();
     // For the proof alone: the formula is well formed.
     let _ = case.formula.len();
-    let explained = match reasons::<Brand>(alloc, case, Blank::new(1)) {
+    let truth = match truth_of(alloc, case) {
+        Ok(truth) => truth,
+        Err(_) => return Err(Stop::NoMemory),
+    };
+    let explained = match reasons_for(alloc, case, &truth) {
         Ok(explained) => explained,
         Err(fault) => return Err(fault_stop(fault)),
     };
     let margins = match margins_of(alloc, case) {
         Ok(margins) => margins,
         Err(stop) => return Err(stop),
-    };
-    let truth = match truth_of(alloc, case) {
-        Ok(truth) => truth,
-        Err(_) => return Err(Stop::NoMemory),
     };
     let (holds, items) = truth_and_items(alloc, explained);
     let mut text = Text::new(alloc);

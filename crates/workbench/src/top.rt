@@ -25,7 +25,7 @@ use crate::json::give_report;
 use crate::kept::Kept;
 use crate::line::write_line;
 use crate::many::Many;
-use crate::output::write_all;
+use crate::output::{write_all, write_left};
 use crate::request::{Command, Mode, Workload, asked, workload_of};
 use crate::robust::measure;
 use crate::stream::{Push, stream};
@@ -36,7 +36,7 @@ use frac128::Memory;
 use io_edge::{Sink, Source};
 use margin_stream::Margins;
 use online_robust::first_unstreamed;
-use report::Line;
+use report::{Line, LineRoom, LinesLeft};
 use session_mux::input_fault_line;
 use std::alloc::Global;
 use stl_grammar::{FormulaFault, parse};
@@ -73,6 +73,25 @@ pub(crate) fn write_answer<K: Sink>(out: &mut K, answer: &Answer) -> Result<bool
 {
     match write_all(out, answer.text.bytes()) {
         Ok(()) => Ok(answer.holds),
+        Err(_) => Err(Stop::Unwritten),
+    }
+}
+
+/// Writes the answer whose lines are left, and made while they are written.
+pub(crate) fn write_lines<L: LinesLeft, K: Sink>(
+    out: &mut K,
+    holds: bool,
+    left: &mut L,
+    room: &mut LineRoom,
+) -> Result<bool, Stop>
+    requires { L.can_go_on left.old }
+    ensures written { (text : List ℕ) × L.is_left left.old text × IsWrittenWith holds text (K.written out.old) (K.written out.new) result }
+    ensures cause { result ≡ Err Stop.Unwritten → Rose (K.faults out.old) (K.faults out.new) }
+    ensures still { result ≢ Err Stop.Unwritten → K.faults out.new ≡ K.faults out.old }
+    ensures later { K.faults out.old ≤ K.faults out.new }
+{
+    match write_left(out, left, room) {
+        Ok(()) => Ok(holds),
         Err(_) => Err(Stop::Unwritten),
     }
 }

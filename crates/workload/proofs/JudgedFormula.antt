@@ -9,7 +9,7 @@ use Rattle.stl_grammar.specs.Tokens.{Token, Lexes, word, number, relation, open_
 use Rattle.stl_grammar.specs.Tokens.{comma, nothing, blank as skip, token, a_word, an_integer, at_least, below, paren}
 use Rattle.stl_grammar.specs.Tokens.{paren_end, bracket, bracket_end, a_comma}
 use Rattle.stl_grammar.specs.Grammar.{FormulaText, IsFormula, IsOperand, disjunct, implies, conjunct, timed, and, operand}
-use Rattle.stl_grammar.specs.Grammar.{since, not, eventually, always, parens, atom, first, bound, inside, bounded}
+use Rattle.stl_grammar.specs.Grammar.{since, not, eventually, always, parens, atom, first, inside, bounded}
 use Rattle.stl_grammar.specs.Grammar.{name as term_name, none as no_terms, plain as no_sign}
 use Rattle.workload.specs.Generated.{ticks}
 use Rattle.workload.specs.Judged.{judged, compared, ahead_nodes, behind_nodes, judged_formula}
@@ -139,7 +139,7 @@ soon : IsOperand ticks 1 (word (codes "eventually") ∷ bound_tokens 0 8 ++ comp
     (Leaf (compared (codes "s") AtLeast 0) ∷ Eventually 1 0 8 true true ∷ [])
 soon =
     eventually {ts = compared_tokens (codes "s") AtLeast 0} {us = bound_tokens 0 8} {ns = Leaf (compared (codes "s") AtLeast 0) ∷ []}
-    (bound inside inside) s_at_least
+    (bounded inside inside) s_at_least
 
 answered : IsFormula ticks 0 ahead_tokens ahead_nodes
 answered =
@@ -150,13 +150,13 @@ answered =
 ahead : IsOperand ticks 0 (word (codes "always") ∷ bound_tokens 0 8 ++ open_paren ∷ ahead_tokens ++ close_paren ∷ [])
     (ahead_nodes ++ Always 3 0 8 true true ∷ [])
 ahead =
-    always {ts = open_paren ∷ ahead_tokens ++ close_paren ∷ []} {us = bound_tokens 0 8} {ns = ahead_nodes} (bound inside inside)
+    always {ts = open_paren ∷ ahead_tokens ++ close_paren ∷ []} {us = bound_tokens 0 8} {ns = ahead_nodes} (bounded inside inside)
     (parens {ts = ahead_tokens} {ns = ahead_nodes} answered)
 
 held : IsFormula ticks 5 behind_tokens behind_nodes
 held =
     disjunct (conjunct (timed (since {ts = compared_tokens (codes "s") Below 0} {us = bound_tokens 4 12} {vs = compared_tokens (codes "x") AtLeast 500000}
-    {ns = Leaf (compared (codes "s") Below 0) ∷ []} {ms = Leaf (compared (codes "x") AtLeast 500000) ∷ []} s_below bounded x_at_least)))
+    {ns = Leaf (compared (codes "s") Below 0) ∷ []} {ms = Leaf (compared (codes "x") AtLeast 500000) ∷ []} s_below (bounded inside inside) x_at_least)))
 
 behind : IsOperand ticks 5 (word (codes "not") ∷ open_paren ∷ behind_tokens ++ close_paren ∷ []) (behind_nodes ++ Not 7 ∷ [])
 behind = not {ts = open_paren ∷ behind_tokens ++ close_paren ∷ []} {ns = behind_nodes} (parens {ts = behind_tokens} {ns = behind_nodes} held)

@@ -7,7 +7,7 @@ use std::alloc::Global;
 use stl_grammar::{FormulaFault, parse};
 use stl_syntax::Formula;
 
-/// Its text.
+/// The text of the formula that is judged on a generated trace.
 const JUDGED: &str =
     "always[0,8] (x < 0 implies eventually[0,8] s >= 0) and not (s < 0 since[4,12] x >= 500000)";
 

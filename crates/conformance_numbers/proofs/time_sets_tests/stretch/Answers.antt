@@ -6,6 +6,6 @@ pub returns : goal.returns
 returns c =
     let on = c.args.on.now in
     let begin = place on.from in let from = place c.args.from in let to = place c.args.to in let end = place on.to in
-    c.in_ok-set_from-2.ensures.of on
-    (c.in_ok-set_from.ensures.of on (c.constant-set.ensures.of on) c.requires.begins (before_trans from to end c.requires.order c.requires.ends))
+    c.in_ok-turn-2.ensures.of on
+    (c.in_ok-turn.ensures.of on (c.constant-set.ensures.of on) c.requires.begins (before_trans from to end c.requires.order c.requires.ends))
     (before_trans begin from to c.requires.begins c.requires.order) c.requires.ends

@@ -1,7 +1,8 @@
-use Rattle.std.proofs.Common.{true, refl, sym, ◌∙◌}
+use Rattle.std.proofs.Common.{true, refl}
 use Rattle.rational.proofs.Order.{same_refl}
 use Rattle.stl_syntax.specs.Trace.{row_time}
 use Rattle.early_verdict.specs.Adding.{AfterRow, before_row}
+use Rattle.early_verdict.specs.BlockRows.{own_row, previous_row}
 use Rattle.frac128.specs.Cuts.{place}
 use Rattle.frac128.proofs.Wholes.{same_at_tick}
 use Rattle.early_verdict.proofs.AtomSets.{atom_fits, atom_stepped, grown_of, grown_then, near_of}
@@ -15,13 +16,13 @@ returns-clause-stepped c =
 
 pub returns-clause-fits : goal.returns-clause-fits
 returns-clause-fits c a old tr for next from w =
-    let r = c.args.row.now in
-    let before = c.args.before.now in
-    let holds = c.holds-holds.result in
+    let r = own_row c.args.next.now in
+    let before = previous_row c.args.next.now in
+    let holds = c.in_ok-pending.pending.holds in
     let to = c.after_tick.result in
     let ends = same_at_tick to c.time.result r.time true c.time.ensures c.after_tick.ensures in
     atom_fits a tr before r holds (before_row r) (place to) (same_refl (row_time r), refl) ends
-    (λ t same. c.truth_point.ensures a tr t for next.stands same ∙ sym c.holds-holds.ensures)
+    (λ t same. c.in_ok-pending.ensures.holds a tr t for next.stands same)
     old c.args.own.now c.rest.new.own c.add_truth.new.own next from w c.rest.ensures
     (adds_row c.rest.new.own c.up_to_row.new.own c.add_truth.new.own c.in_ok-pending.pending holds r to (AfterRow a tr before r)
-    c.in_ok-pending.ensures.holds ends (c.in_ok-pending.ensures.added a tr for (near_of a old tr before r next)) c.in_ok-add_truth.ensures)
+    refl ends (c.in_ok-pending.ensures.added a tr for (near_of a old tr before r next)) c.in_ok-add_truth.ensures)

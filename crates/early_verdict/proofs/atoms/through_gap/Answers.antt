@@ -1,5 +1,8 @@
 use Rattle.std.proofs.Common.{◌≡◌, ℕ, true, sym, subst, pos, ◌∙◌}
 use Rattle.rational.specs.Time.{whole}
+use Rattle.stl_syntax.specs.Trace.{row_time}
+use Rattle.stl_syntax.specs.Truth.{holds_at}
+use Rattle.atom_lines.specs.Pieces.{TellsGap}
 use Rattle.frac128.specs.Value.{value}
 use Rattle.rational.specs.Places.{Same}
 use Rattle.frac128.specs.Cuts.{place}
@@ -18,10 +21,10 @@ pub returns-in-Whole-clause-grown : goal.returns-in-Whole-clause-grown
 returns-in-Whole-clause-grown c = grown_none c.args.own.now c.requires.own
 
 pub returns-in-Whole-clause-added : goal.returns-in-Whole-clause-added
-returns-in-Whole-clause-added c = λ a tr for next.
-    adds_whole a tr c.args.first.now c.args.row.now c.after_tick-from.result
-    (at_row c.after_tick-from.result c.time.result c.args.first.now.time c.time.ensures c.after_tick-from.ensures) c.requires.later
-    c.holds.result (λ t x y. c.in-Whole.ensures a tr for next t x y ∙ sym c.holds.ensures) c.args.own.now
+returns-in-Whole-clause-added c = λ a tr q r first later tells.
+    let tells = subst (λ p. TellsGap (row_time q) (row_time r) (holds_at a tr) p) c.in-Whole.is tells in
+    adds_whole a tr q r c.after_tick-from.result (at_row c.after_tick-from.result c.args.first q.time first c.after_tick-from.ensures) later
+    c.holds.result (λ t x y. tells t x y ∙ sym c.holds.ensures) c.args.own.now
 
 pub returns-in_ok-there-in-Split-clause-grown : goal.returns-in_ok-there-in-Split-clause-grown
 returns-in_ok-there-in-Split-clause-grown c =
@@ -34,10 +37,9 @@ returns-in_ok-there-in-Split-clause-grown c =
     (turned_grown c.turn.new.own c.turn-in-Split.new.own c.in_ok-there-in-Split.there next c.holds-in-Split-3.result (after_time at) first.tidy h))
 
 pub returns-in_ok-there-in-Split-clause-added : goal.returns-in_ok-there-in-Split-clause-added
-returns-in_ok-there-in-Split-clause-added c = if_good c.turn-in-Split.result c.turn-in-Split.ensures (λ next h a tr for near.
-    let w = c.in-Split.ensures a tr for near in
-    adds_split a tr c.args.first.now c.args.row.now c.after_tick-from.result
-    (at_row c.after_tick-from.result c.time.result c.args.first.now.time c.time.ensures c.after_tick-from.ensures) c.requires.later
+returns-in_ok-there-in-Split-clause-added c = if_good c.turn-in-Split.result c.turn-in-Split.ensures (λ next h a tr q r begins later tells.
+    let w = subst (λ p. TellsGap (row_time q) (row_time r) (holds_at a tr) p) c.in-Split.is tells in
+    adds_split a tr q r c.after_tick-from.result (at_row c.after_tick-from.result c.args.first q.time begins c.after_tick-from.ensures) later
     c.holds-in-Split.result c.holds-in-Split-2.result c.holds-in-Split-3.result (value c.in-Split.at) w.after_first w.before_second
     (λ t x y. w.until_then t x y ∙ sym c.holds-in-Split.ensures) (λ t x. w.there t x ∙ sym c.holds-in-Split-2.ensures)
     (λ t x y. w.from_then t x y ∙ sym c.holds-in-Split-3.ensures) c.args.own.now c.turn.new.own c.turn-in-Split.new.own c.in_ok-there-in-Split.there next

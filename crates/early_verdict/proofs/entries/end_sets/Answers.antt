@@ -1,13 +1,35 @@
-use Rattle.std.proofs.Common.{◌≡◌, sym, ap, subst, ◌∙◌, Option, List, length, arith}
-use Rattle.std.specs.Prelude.{IfSome}
-use Rattle.std.proofs.lemmas.Option.{same_Some}
-use Rattle.stl_syntax.specs.Trace.{Row}
-use Rattle.early_verdict.specs.Deciding.{last_after, IsVerdict}
+use Rattle.std.proofs.Common.{◌≡◌, sym, ap, subst, ◌∙◌, ◌-◌, ◌<◌, Some, List, length, arith}
+use Rattle.stl_syntax.specs.Trace.{Row, Trace}
+use Rattle.atom_lines.specs.Rows.{row_of}
+use Rattle.early_verdict.specs.Deciding.{last_after, last_of, IsVerdict}
 use Rattle.early_verdict.specs.Standing.{AllTidy}
 use Rattle.early_verdict.specs.declared.sets.Sets.{Sets}
+use Rattle.early_verdict.proofs.BlockLemmas.{last_place}
 use Rattle.early_verdict.proofs.GoingOn.{leaves_bound}
-use Rattle.early_verdict.proofs.Undecided.{end_some, end_truth, last_wide}
+use Rattle.early_verdict.proofs.Undecided.{end_some, end_truth}
 use Rattle.early_verdict.proofs.entries.end_sets.Goals as goal
+use Rattle.early_verdict.proofs.entries.end_sets.Goals.{After-time}
+
+pub overflow_sub-rows : goal.overflow_sub-rows
+overflow_sub-rows c =
+    let (header, r, rows, o) = c.requires.open in
+    let some = (last_place c.args.block.now.rows (last_after r rows) o.ends).0 in
+    omega (arith, c.rows.ensures.count, some)
+
+pub new-last-requires : goal.new-last-requires
+new-last-requires c =
+    let (header, r, rows, o) = c.requires.open in
+    let some = (last_place c.args.block.now.rows (last_after r rows) o.ends).0 in
+    omega (arith, c.rows.ensures.count, some)
+
+-- the last row of the block is the last of the rows
+is_last : (c : After-time) (r : Row) (rows : List Row) → last_of c.args.block.now.rows ≡ Some (last_after r rows)
+    → c.time.result ≡ (last_after r rows).time
+is_last c r rows ends =
+    let x = c.new-last.result in
+    let block = c.args.block.now in
+    c.time.ensures ∙ ap (λ (q : Row). q.time) (ap (λ (b : Trace). row_of b x.at) c.new-last.ensures.block
+    ∙ ap (λ n. row_of block n) (c.new-last.ensures.at ∙ ap (λ n. n - 1) c.rows.ensures.count) ∙ (last_place block.rows (last_after r rows) ends).1)
 
 pub step_sets-requires-clause-count : goal.step_sets-requires-clause-count
 step_sets-requires-clause-count c = c.requires.open.3.sets_are.1.have.count
@@ -27,11 +49,8 @@ step_sets-requires-clause-none c = λ f. absurd (let g = c.end_entry-entry.ensur
 pub step_sets-requires-clause-atoms : goal.step_sets-requires-clause-atoms
 step_sets-requires-clause-atoms c = leaves_bound c.args.bound.now c.args.formula.now c.requires.open.0 c.requires.open.3.bound
 
-pub step_sets-requires-clause-second : goal.step_sets-requires-clause-second
-step_sets-requires-clause-second c =
-    let o = c.requires.open in
-    subst (λ (x : Option Row). IfSome x (λ q. length q.values ≡ c.args.bound.now.width)) c.in-Some.is
-    (last_wide c.args.formula.now c.args.bound.now o.0 o.1 o.2 c.args.begin c.args.last.now c.args.net.now.live.items c.args.net.now.shown.items o.3)
+pub step_sets-requires-clause-columns : goal.step_sets-requires-clause-columns
+step_sets-requires-clause-columns c = ap (λ (b : Trace). length b.header.columns) c.new-last.ensures.block ∙ c.requires.columns
 
 pub root_verdict-requires-clause-some : goal.root_verdict-requires-clause-some
 root_verdict-requires-clause-some c =
@@ -47,18 +66,16 @@ root_verdict-requires-clause-tidy c = subst (λ (xs : List Sets). AllTidy xs) (s
 pub returns : goal.returns
 returns c = λ header r rows o.
     let e = c.end_entry-entry.ensures in
-    let last : c.in-Some.row ≡ last_after r rows = same_Some c.in-Some.row (last_after r rows) (sym c.in-Some.is ∙ o.ends) in
-    end_truth o c.in_ok-step_sets.ensures e.ended (e.happens header r rows o.sets_are.0 (c.time.ensures ∙ ap (λ (q : Row). q.time) last))
-    c.in-Some-root_verdict.holds
-    (subst (λ v. IsVerdict c.step_sets.new.net.shown.items c.args.begin v) c.in-Some-root_verdict.is
+    end_truth o c.in_ok-step_sets.ensures e.ended (e.happens header r rows o.sets_are.0 (is_last (goal.at.returns c).After-time r rows o.ends))
+    c.in-Some.holds
+    (subst (λ v. IsVerdict c.step_sets.new.net.shown.items c.args.begin v) c.in-Some.is
     (subst (λ (xs : List Sets). IsVerdict xs c.args.begin c.root_verdict.result) c.deref.ensures.value c.root_verdict.ensures))
 
-pub unreachable-requires-in-None : goal.unreachable-requires-in-None
-unreachable-requires-in-None c =
+pub unreachable-requires : goal.unreachable-requires
+unreachable-requires c =
     let q = c.requires.open in
     let o = q.3 in
     let e = c.end_entry-entry.ensures in
-    let last : c.in-Some.row ≡ last_after q.1 q.2 = same_Some c.in-Some.row (last_after q.1 q.2) (sym c.in-Some.is ∙ o.ends) in
-    (end_some o c.in_ok-step_sets.ensures e.ended (e.happens q.0 q.1 q.2 o.sets_are.0 (c.time.ensures ∙ ap (λ (q : Row). q.time) last))
+    (end_some o c.in_ok-step_sets.ensures e.ended (e.happens q.0 q.1 q.2 o.sets_are.0 (is_last (goal.at.unreachable-requires c).After-time q.1 q.2 o.ends))
     (subst (λ v. IsVerdict c.step_sets.new.net.shown.items c.args.begin v) c.in-None.is
     (subst (λ (xs : List Sets). IsVerdict xs c.args.begin c.root_verdict.result) c.deref.ensures.value c.root_verdict.ensures)))

@@ -1,6 +1,7 @@
 use Rattle.std.proofs.Common.{rules, ◌≡◌, sym, subst, ap, ◌∙◌, ◌++◌, length, take, drop, List}
 use Rattle.early_verdict.specs.Standing.{AllEmpty, AllTidy}
 use Rattle.early_verdict.specs.Living.{ComesOn}
+use Rattle.early_verdict.specs.BlockRows.{own_row, previous_row}
 use Rattle.early_verdict.specs.declared.sets.Sets.{Sets}
 use Rattle.early_verdict.proofs.Places.{written}
 use Rattle.early_verdict.proofs.entries.step_sets.Goals as goal
@@ -25,8 +26,8 @@ returns c =
     let nodes = c.args.formula.now.nodes in
     let b = c.args.bound.now in
     let e = c.args.entry.now in
-    let before = c.args.before.now in
-    let r = c.args.row.now in
+    let before = previous_row c.args.next.now in
+    let r = own_row c.args.next.now in
     let live = c.args.net.now.live in
     let shown = c.args.net.now.shown in
     let new = c.step_all.new.live in

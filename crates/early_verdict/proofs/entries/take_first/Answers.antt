@@ -1,8 +1,11 @@
 use Rattle.std.proofs.Common.{◌≡◌, ℕ, ◌∙◌, List, pos, refl, subst}
 use Rattle.rational.specs.Time.{whole}
 use Rattle.stl_syntax.proofs.PostOrderLemmas.{placed}
+use Rattle.early_verdict.specs.BlockRows.{own_row}
+use Rattle.early_verdict.specs.Living.{ComesOn}
 use Rattle.early_verdict.specs.Making.{AreMade, AreShownOf}
 use Rattle.early_verdict.specs.declared.sets.Sets.{Sets}
+use Rattle.early_verdict.proofs.BlockLemmas.{none_before, own_wide}
 use Rattle.early_verdict.proofs.GoingOn.{first_stand, leaves_bound}
 use Rattle.early_verdict.proofs.LiveMaking.{shown_tidy}
 use Rattle.early_verdict.proofs.entries.take_first.Goals as goal
@@ -34,10 +37,15 @@ pub step_sets-requires-clause-atoms : goal.step_sets-requires-clause-atoms
 step_sets-requires-clause-atoms c = leaves_bound c.args.bound.now c.args.formula.now c.requires.open.0 c.requires.open.1.bound
 
 pub returns : goal.returns
-returns c = λ header o. (
-  refl,
-  first_stand o (subst (λ (t : ℕ). AreMade c.args.formula.now.nodes (whole (pos t)) c.in_ok-live.live.items) c.time.ensures c.in_ok-live.ensures)
-      (are c.in_ok-live.live.items c.deref.result.now c.in_ok-shown.shown.items c.deref.ensures.value c.in_ok-shown.ensures)
-      c.in_ok-step_sets.ensures c.requires.width c.first_entry-entry.ensures.open
-      (c.first_entry-entry.ensures.happens header c.args.row.now c.time-2.ensures),
-)
+returns c = λ header o.
+    let x = c.args.next.now in
+    let nodes = c.args.formula.now.nodes in
+    let shown = c.in_ok-shown.shown.items in
+    let on = subst (λ q. ComesOn nodes c.args.bound.now c.first_entry-entry.result q (own_row x) c.in_ok-live.live.items c.step_sets.new.net.live.items
+    shown c.step_sets.new.net.shown.items) (none_before x.block.now x.at c.requires.first) c.in_ok-step_sets.ensures in (
+      refl,
+      first_stand o (subst (λ (t : ℕ). AreMade nodes (whole (pos t)) c.in_ok-live.live.items) c.time.ensures c.in_ok-live.ensures)
+          (are c.in_ok-live.live.items c.deref.result.now shown c.deref.ensures.value c.in_ok-shown.ensures)
+          on (own_wide x ∙ c.requires.columns) c.first_entry-entry.ensures.open
+          (c.first_entry-entry.ensures.happens header (own_row x) c.time-2.ensures),
+    )

@@ -1,10 +1,17 @@
-use Rattle.std.proofs.Common.{◌≡◌, sym, ap, ◌∙◌}
-use Rattle.std.proofs.lemmas.Option.{same_Some}
-use Rattle.stl_syntax.specs.Trace.{Row}
-use Rattle.early_verdict.specs.Deciding.{last_after}
+use Rattle.std.proofs.Common.{◌≡◌, ◌<◌, ◌∙◌, subst, Some, arith}
+use Rattle.std.specs.Prelude.{IfSome}
+use Rattle.early_verdict.specs.BlockRows.{own_row}
+use Rattle.early_verdict.proofs.BlockLemmas.{own_later, own_wide}
 use Rattle.early_verdict.proofs.GoingOn.{next_stand, leaves_bound}
-use Rattle.early_verdict.proofs.Undecided.{after_last, last_wide}
 use Rattle.early_verdict.proofs.entries.take_next.Goals as goal
+
+pub next_entry-entry-requires : goal.next_entry-entry-requires
+next_entry-entry-requires c =
+    let (header, r, rows, o) = c.requires.open in
+    let x = c.args.next.now in
+    let later = subst (λ p. IfSome p (λ q. q.time < (own_row x).time)) o.ends (own_later x) in
+    let before = subst (λ p. IfSome p (λ q. c.time_before.result ≡ q.time)) o.ends c.time_before.ensures in
+    omega (arith, later, before, c.time.ensures)
 
 pub step_sets-requires-clause-count : goal.step_sets-requires-clause-count
 step_sets-requires-clause-count c = c.requires.open.3.sets_are.1.have.count
@@ -24,16 +31,13 @@ step_sets-requires-clause-none c = λ f. absurd (let g = c.next_entry-entry.ensu
 pub step_sets-requires-clause-atoms : goal.step_sets-requires-clause-atoms
 step_sets-requires-clause-atoms c = leaves_bound c.args.bound.now c.args.formula.now c.requires.open.0 c.requires.open.3.bound
 
-pub step_sets-requires-clause-first : goal.step_sets-requires-clause-first
-step_sets-requires-clause-first c =
-    let o = c.requires.open in
-    last_wide c.args.formula.now c.args.bound.now o.0 o.1 o.2 c.args.begin c.args.last.now c.args.net.now.live.items c.args.net.now.shown.items o.3
-
 pub returns : goal.returns
 returns c = λ header r rows o.
+    let x = c.args.next.now in
     let e = c.next_entry-entry.ensures in
-    let last : c.in-Some.before ≡ last_after r rows = same_Some c.in-Some.before (last_after r rows) (sym c.in-Some.is ∙ o.ends) in (
+    let later = subst (λ p. IfSome p (λ q. q.time < (own_row x).time)) o.ends (own_later x) in
+    let before = subst (λ p. IfSome p (λ q. c.time_before.result ≡ q.time)) o.ends c.time_before.ensures in (
       o.sets_are.0,
-      next_stand o c.in_ok-step_sets.ensures (after_last r rows c.args.last.now c.args.row.now o.ends c.requires.later) c.requires.width e.open
-          (e.happens header r rows c.args.row.now o.sets_are.0 (c.time.ensures ∙ ap (λ (q : Row). q.time) last) c.time-2.ensures),
+      next_stand o c.in_ok-step_sets.ensures later (own_wide x ∙ c.requires.columns) e.open
+          (e.happens header r rows (own_row x) o.sets_are.0 before c.time.ensures),
     )

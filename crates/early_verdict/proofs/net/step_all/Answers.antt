@@ -3,6 +3,7 @@ use Rattle.std.proofs.lemmas.Option.{slice_get_within}
 use Rattle.stl_syntax.proofs.PostOrderLemmas.{placed}
 use Rattle.early_verdict.specs.Standing.{SteppedTo}
 use Rattle.early_verdict.specs.Living.{ShownTo}
+use Rattle.early_verdict.specs.BlockRows.{own_row, previous_row}
 use Rattle.early_verdict.proofs.EntryByNodes.{fits_on, shown_none, shown_on, shown_tidy_on, stepped_none, stepped_on, tidy_on}
 use Rattle.early_verdict.proofs.net.step_all.Goals as goal
 
@@ -37,7 +38,7 @@ loop-i-preserved c =
       tidy = tidy_on i mid new v.tidy at;
       shown_tidy = shown_tidy_on i new mid_shown new_shown v.shown_tidy shows;
       fits = λ old tr h have go were.
-          fits_on c.args.bound.now c.args.before.now c.args.row.now h have go were v.stepped v.shows at shows
+          fits_on c.args.bound.now (previous_row c.args.next.now) (own_row c.args.next.now) h have go were v.stepped v.shows at shows
           (λ j m e. placed nodes j m c.len-count.ensures.well_formed.nodes.post_order e) c.node.ensures.node
           (v.fits old tr h have go were) (λ was. c.in_ok-step_at.ensures.1 old tr was);
     }

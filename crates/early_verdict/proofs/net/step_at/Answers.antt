@@ -2,6 +2,7 @@ use Rattle.std.proofs.Common.{◌≡◌, ◌<◌, ℕ, refl, sym, subst, length,
 use Rattle.std.specs.Prelude.{slice_index_or}
 use Rattle.stl_syntax.specs.Formula.{HasChildrenBelow}
 use Rattle.early_verdict.specs.Standing.{LeafGoes, LeafIsBound}
+use Rattle.early_verdict.specs.BlockRows.{own_row, previous_row}
 use Rattle.early_verdict.specs.declared.sets.Sets.{Sets}
 use Rattle.early_verdict.proofs.Splitting.{at_split, changes_at, front_tidy, on_two, length_front}
 use Rattle.early_verdict.proofs.net.step_at.Goals as goal
@@ -42,5 +43,5 @@ returns c =
       changes_at c.index-from-0.result c.step_node.new.own (record { front_is = f.ensures.front; back_is = f.ensures.back; within = c.requires.within }) step,
       λ old tr was h had parts leaf w.
           fits old tr was h had parts
-          (subst (λ (k : ℕ). LeafGoes c.args.bound.now k c.args.entry.now old tr c.args.before.now c.args.row.now own n) (sym size) leaf) w,
+          (subst (λ (k : ℕ). LeafGoes c.args.bound.now k c.args.entry.now old tr (previous_row c.args.next.now) (own_row c.args.next.now) own n) (sym size) leaf) w,
     ))

@@ -28,5 +28,8 @@ returns-in-Ok-clause-told g c =
     record {
       count = c.in-Ok.ensures.count;
       told = told;
-      values = λ k inside. c.told_have_values.ensures nodes c.in-Ok.nodes s c.len.ensures.well_formed.nodes.post_order refl told k inside;
+      values = λ k inside. c.chains_have_values.ensures nodes c.in-Ok.nodes s c.len.ensures.well_formed.nodes.post_order refl told k inside;
     }
+
+pub returns-in-Ok-clause-closed : goal.returns-in-Ok-clause-closed
+returns-in-Ok-clause-closed g c k x at = (c.in-Ok.ensures.sound k x at).limited

@@ -4,7 +4,7 @@ use Rattle.implicants.specs.Nearby.{IsBestSoFar}
 use Rattle.implicants.proofs.nearby.few.Given as goal
 
 abbrev pub invariant-loop-j : goal.invariant-loop-j
-invariant-loop-j l = IsBestSoFar kleene_shape l.runs l.view l.signal
+invariant-loop-j l = IsBestSoFar kleene_shape l.runs l.view l.chain
 
 abbrev pub decreases-loop-j : goal.decreases-loop-j
 decreases-loop-j l = l.to - l.j

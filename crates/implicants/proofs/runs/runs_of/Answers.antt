@@ -4,19 +4,12 @@ use Rattle.value_laws.specs.Kinds.{kleene_shape}
 use Rattle.implicants.specs.Signs.{sign_at}
 use Rattle.implicants.specs.Upward.{AreShortEach}
 use Rattle.implicants.proofs.Running.{no_run, short_each, short_more}
-use Rattle.implicants.proofs.Wholes.{told_fit}
 use Rattle.implicants.proofs.runs.runs_of.Goals as goal
 
 pub loop-k-init : goal.loop-k-init
 loop-k-init c = record {
   count = ap length c.new-all.ensures.items;
   short = λ k v at. absurd (no_run k v (subst (λ l. slice_get l k ≡ Some v) c.new-all.ensures.items at));
-}
-
-pub own_runs-requires : goal.own_runs-requires
-own_runs-requires c = record {
-  fit = told_fit c.args.formula.now.nodes c.args.trace.now c.requires.told.0 c.args.nodes.now
-      (subst (λ n. n < 2 ^ 32) c.last.ensures.last c.last.type_inv) c.requires.told.1 c.loop-k.k c.signal.result.now c.signal.ensures;
 }
 
 pub loop-k-preserved : goal.loop-k-preserved
@@ -28,8 +21,8 @@ loop-k-preserved c =
       count = let e = length-append xs (x ∷ []) in let f = c.loop-k.invariant.count in let g = ap length more in omega (arith, e, f, g);
       short = subst (AreShortEach kleene_shape c.args.signs.now c.args.nodes.now) (sym more)
           (short_each c.args.signs.now c.args.nodes.now xs x c.loop-k.invariant.short
-          (short_more c.args.signs.now c.args.nodes.now c.loop-k.k (sign_at c.args.signs.now c.loop-k.k) c.signal.result.now [] x.items
-          refl c.signal.ensures c.in_ok-own.ensures (λ j r at. absurd (no_run j r at))));
+          (short_more c.args.signs.now c.args.nodes.now c.loop-k.k (sign_at c.args.signs.now c.loop-k.k) c.chain.result.now [] x.items
+          refl c.chain.ensures c.in_ok-own.ensures (λ j r at. absurd (no_run j r at))));
     }
 
 pub returns-clause-short : goal.returns-clause-short

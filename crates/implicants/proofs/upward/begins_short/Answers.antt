@@ -1,5 +1,9 @@
+use Rattle.offline_eval.proofs.SignalsAndChains.{some_piece}
 use Rattle.implicants.proofs.Nearing.{begins_is_on}
 use Rattle.implicants.proofs.upward.begins_short.Goals as goal
 
 pub returns : goal.returns
-returns c h = begins_is_on c.args.x.now c.knot-knot.result c.knot-knot.ensures (c.is_on.ensures h)
+returns c h = begins_is_on c.args.x.now c.piece.result.now c.len.ensures.normal c.requires.first c.piece.ensures (c.is_on.ensures h)
+
+pub piece-requires : goal.piece-requires
+piece-requires c = some_piece c.args.x.now c.requires.first c.requires.last

@@ -22,12 +22,12 @@ pub loop-k-preserved : goal.loop-k-preserved
 loop-k-preserved c =
     let tr = c.args.trace.now in
     let xs = c.loop-k.done.items in
-    let x = c.in_ok-signal.signal in
-    let more = c.in_ok-add_signal.ensures in
+    let x = c.in_ok-chain.chain in
+    let more = c.in_ok-add_chain.ensures in
     record {
       count = let e = length-append xs (x ∷ []) in let f = c.loop-k.invariant.count in let g = ap length more in omega (arith, e, f, g);
       whole = subst (AreWhole kleene_shape tr) (sym more)
-          (whole_push tr xs x (whole_view tr _ _ x c.first-from.ensures c.last-to.ensures.last c.in_ok-signal.ensures) c.loop-k.invariant.whole);
+          (whole_push tr xs x (whole_view tr _ _ x c.first-from.ensures c.last-to.ensures.last c.in_ok-chain.ensures) c.loop-k.invariant.whole);
     }
 
 pub returns-clause-whole : goal.returns-clause-whole

@@ -52,6 +52,16 @@ loop-k-preserved c =
           (c.loop-k.invariant.gained all marks i ground before old);
     }
 
+pub begins_short-requires : goal.begins_short-requires
+begins_short-requires c =
+    let xs = c.loop-k.done.items in
+    let x = c.index.result.now in
+    let l = c.loop-k.invariant.inside in
+    let count = c.loop-k.invariant.count in
+    let at : slice_get xs c.loop-k.k ≡ Some x =
+    subst (λ y. slice_get xs c.loop-k.k ≡ Some y) (sym c.index.ensures) (slice_get-get_or xs c.loop-k.k x (omega (arith, l, count))) in
+    (c.loop-k.invariant.whole c.loop-k.k x at).input.limited
+
 pub returns-clause-needed : goal.returns-clause-needed
 returns-clause-needed c h all marks i ground before =
     let nodes = c.args.formula.now.nodes in

@@ -10,7 +10,7 @@ loop-c-init c = record {
   put = puts_from_none c.args.formula.now.nodes c.args.trace.now c.args.cells.now.all.items c.args.left c.args.marks.now.items;
   runs = c.requires.runs;
   lost = c.requires.lost;
-  signals = c.in_ok-done.ensures.count;
+  chains = c.in_ok-done.ensures.count;
   whole = c.in_ok-done.ensures.whole;
 }
 
@@ -32,7 +32,7 @@ loop-c-preserved c =
           (let e : c.loop-c.c ≡ suc (c.loop-c.c - 1) = omega (arith, t) in e) before.put) put;
       runs = c.mark_lost.ensures.runs ∙ before.runs;
       lost = c.in_ok-mark_lost.ensures.lost;
-      signals = c.mark_lost.ensures.count ∙ before.signals;
+      chains = c.mark_lost.ensures.count ∙ before.chains;
       whole = c.mark_lost.ensures.whole;
     }
 
@@ -52,7 +52,7 @@ mark_lost-requires-clause-lost c =
     c.loop-c.runs.items) (let e : c.loop-c.c ≡ c.loop-c.c - 1 + 1 = omega (arith, t) in e) c.loop-c.invariant.lost
 
 pub mark_lost-requires-clause-count : goal.mark_lost-requires-clause-count
-mark_lost-requires-clause-count c = c.loop-c.invariant.signals
+mark_lost-requires-clause-count c = c.loop-c.invariant.chains
 
 pub mark_lost-requires-clause-whole : goal.mark_lost-requires-clause-whole
 mark_lost-requires-clause-whole c = c.loop-c.invariant.whole

@@ -11,7 +11,7 @@ invariant-loop-c l = record {
   put : PutsFrom l.formula.nodes l.trace l.cells.all.items l.left l.c l.fn.marks.items l.marks.items;
   runs : length l.runs.items ≡ length l.formula.nodes;
   lost : AreLostFrom l.formula.nodes l.trace l.cells.all.items l.marks.items l.c l.ground.signs.items l.runs.items;
-  signals : length l.done.items ≡ length l.formula.nodes;
+  chains : length l.done.items ≡ length l.formula.nodes;
   whole : AreWhole kleene_shape l.trace l.done.items;
 }
 

@@ -12,11 +12,9 @@ use Rattle.implicants.proofs.upward.mark_upward.Goals as goal
 pub returns-in_default-clause-needed : goal.returns-in_default-clause-needed
 returns-in_default-clause-needed c = no_more_needed c.args.formula.now.nodes c.args.trace.now c.args.cells.now.all.items c.args.left c.args.marks.now.items
 
-pub runs_of-requires-clause-told : goal.runs_of-requires-clause-told
-runs_of-requires-clause-told c =
-    let told = subst (λ o. IfSome o (AreToldOfMore kleene_shape c.args.formula.now.nodes c.args.trace.now
-    (remaining c.args.left c.args.marks.now.items c.args.cells.now.all.items))) c.in-Some-nodes.is c.requires.told in
-    (told.more, told.told)
+pub runs_of-requires-clause-nodes : goal.runs_of-requires-clause-nodes
+runs_of-requires-clause-nodes c = (subst (λ o. IfSome o (AreToldOfMore kleene_shape c.args.formula.now.nodes c.args.trace.now
+    (remaining c.args.left c.args.marks.now.items c.args.cells.now.all.items))) c.in-Some-nodes.is c.requires.told).told.count
 
 pub runs_of-requires-clause-signs : goal.runs_of-requires-clause-signs
 runs_of-requires-clause-signs c =

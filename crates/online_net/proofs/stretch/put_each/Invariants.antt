@@ -1,7 +1,10 @@
-use Rattle.atom_lines.specs.Growing.{IsReachAt}
-use Rattle.online_net.specs.Stretches.{HasPutRows}
+use Rattle.std.proofs.Common.{◌≤◌, ◌-◌}
+use Rattle.online_net.specs.Stretches.{HasComeTo}
 use Rattle.online_net.proofs.stretch.put_each.Given as goal
 
--- the verdicts of the rows so far were put, and the sum is that at the last of them
-abbrev pub invariant-loop-r : goal.invariant-loop-r
-invariant-loop-r l = HasPutRows l.bound l.block l.from l.r l.node l.fn.edges l.edges × IsReachAt l.bound l.node l.block l.r l.sum
+-- the atom has come to a spot on the way
+abbrev pub invariant-loop-here : goal.invariant-loop-here
+invariant-loop-here l = HasComeTo l.bound l.block l.from l.node l.fn.edges l.edges l.here × (l.here.at ≤ l.to)
+
+abbrev pub decreases-loop-here : goal.decreases-loop-here
+decreases-loop-here l = l.to - l.here.at

@@ -6,7 +6,7 @@ returns-then-not-precedes c = adds_nothing c.args.on.now c.args.begin c.args.end
     (λ b. let e = c.precedes.ensures.1 b in let f = c.if-not-precedes.true in cc)
 
 pub returns-then-not-precedes-2 : goal.returns-then-not-precedes-2
-returns-then-not-precedes-2 c = adds_longer c.args.on.now c.args.begin c.args.end c.args.made.now c.args.last c.in-Some.was c.later.result c.in-Some.is
+returns-then-not-precedes-2 c = adds_longer c.args.on.now c.args.begin c.args.end c.args.made.now c.args.last c.in-Some.was c.later.result.now c.in-Some.is
     c.requires (λ b. let e = c.precedes-in-Some.ensures.1 b in let f = c.if-not-precedes-2.true in cc)
     c.later.ensures.one c.later.ensures.first c.later.ensures.second
 

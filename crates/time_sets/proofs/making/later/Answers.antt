@@ -3,8 +3,8 @@ use Rattle.rational.proofs.PlaceLemmas.{upto_of_before, at_most_of_not_before}
 use Rattle.time_sets.proofs.making.later.Goals as goal
 
 pub returns-then-precedes-clause-first : goal.returns-then-precedes-clause-first
-returns-then-precedes-clause-first c t h = upto_of_before (place c.args.a) (place c.args.b) t (c.precedes.ensures.0 c.if-precedes.true) h
+returns-then-precedes-clause-first c t h = upto_of_before (place c.args.a.now) (place c.args.b.now) t (c.precedes.ensures.0 c.if-precedes.true) h
 
 pub returns-else-precedes-clause-second : goal.returns-else-precedes-clause-second
-returns-else-precedes-clause-second c = at_most_of_not_before (place c.args.b) (place c.args.a)
+returns-else-precedes-clause-second c = at_most_of_not_before (place c.args.b.now) (place c.args.a.now)
     (λ b. let e = c.precedes.ensures.1 b in let f = c.if-precedes.false in cc)

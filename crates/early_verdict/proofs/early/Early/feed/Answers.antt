@@ -1,127 +1,114 @@
-use Rattle.std.proofs.Common.{◌≡◌, ◌<◌, ℕ, false, Some, None, List, [], ◌∷◌, ◌++◌, length, refl, sym, ap, subst, ◌∙◌}
+use Rattle.std.proofs.Common.{◌≡◌, ◌≤◌, ◌<◌, ◌-◌, false, List, [], ◌∷◌, ◌++◌, length, refl, sym, ap, subst, ◌∙◌, arith, length-append}
 use Rattle.std.specs.Prelude.{IfSome}
-use Rattle.stl_syntax.specs.Trace.{Row}
+use Rattle.stl_syntax.specs.Trace.{Row, Trace}
 use Rattle.stl_syntax.specs.Formula.{root}
-use Rattle.early_verdict.specs.Standing.{AllTidy}
-use Rattle.early_verdict.specs.Deciding.{Kept, IsAnswer, IsVerdict, Stands}
-use Rattle.early_verdict.specs.declared.sets.Sets.{Sets}
-use Rattle.early_verdict.proofs.StandingOn.{decided_now, open_of}
-use Rattle.early_verdict.proofs.Feeding.{as_ended, fed_by, net_of, none_if, passed_by, sets_as, shown_tidy, some_shown, unended}
+use Rattle.early_verdict.specs.Answers.{newly_decided}
+use Rattle.early_verdict.specs.Deciding.{Kept, IsAnswer, Stands, decided_by, last_of}
+use Rattle.early_verdict.specs.declared.early.Decided.{Decided}
+use Rattle.early_verdict.proofs.Answering.{as_open, decided_newly, from_open, row_answer, stands_before, stands_behind}
+use Rattle.early_verdict.proofs.BlockLemmas.{last_kept, later_than, one_kept}
+use Rattle.early_verdict.proofs.Feeding.{as_ended, unended}
+use Rattle.early_verdict.proofs.StandingOn.{last_on}
 use Rattle.early_verdict.specs.contracts.early.Early.{the_view}
 use Rattle.early_verdict.proofs.early.Early.feed.Goals as goal
-use Rattle.early_verdict.proofs.early.Early.feed.Goals.{After-result-1}
+use Rattle.early_verdict.proofs.early.Early.feed.Goals.{After-keep_last}
 
-pub invariant_of-self-then-is_some : goal.invariant_of-self-then-is_some
-invariant_of-self-then-is_some c running =
+pub push-requires-clause-width : goal.push-requires-clause-width
+push-requires-clause-width c =
     let x : Kept = the_view c.self.inside in
-    let w = c.self.invariant c.if-self.false in
-    let r = c.args.row.now in
-    let st = unended x c.args.self.now w.0 c.self.view_is c.requires.open w.1 in
-    let width = subst (λ (z : Kept). length r.values ≡ z.bound.width) (sym c.self.view_is) c.requires.width in
-    let later = subst (λ (z : Kept). IfSome z.last (λ q. q.time < r.time)) (sym c.self.view_is) c.requires.later in (
-      w.0 ++ r ∷ [],
-      as_ended (record x { last = Some c.in-Ok.kept }) (w.0 ++ r ∷ []) false
-          (passed_by x w.0 r c.in-Ok.kept st (sym c.is_some.ensures ∙ c.if-is_some.true) width later c.in-Ok.ensures).0,
+    let w = c.self.invariant.0 c.if-self.false in
+    subst (λ (z : Kept). length c.args.row.now.values ≡ z.bound.width) (sym c.self.view_is) c.requires.width ∙ w.1.bound.width
+
+pub push-requires-clause-later : goal.push-requires-clause-later
+push-requires-clause-later c = later_than c.self.inside.block.rows c.args.row.now
+    (subst (λ (z : Kept). IfSome z.last (λ q. q.time < c.args.row.now.time)) (sym c.self.view_is) c.requires.later)
+
+pub take_rows-requires-clause-stands : goal.take_rows-requires-clause-stands
+take_rows-requires-clause-stands c =
+    let x : Kept = the_view c.self.inside in
+    let w = c.self.invariant.0 c.if-self.false in
+    let st = unended x c.args.self.now w.0 c.self.view_is c.requires.open w.1 in (
+      c.push.new.self.header,
+      w.0,
+      stands_before c.self.inside.formula c.self.inside.bound c.self.inside.block c.push.new.self (c.args.row.now ∷ []) c.in-Ok.ensures.ok
+          c.rows-from.result c.rows-from.ensures.count w.0 c.self.inside.progress (as_open x w.0 st),
     )
 
-pub returns-then-is_some-clause-stands : goal.returns-then-is_some-clause-stands
-returns-then-is_some-clause-stands c rows was =
+pub take_rows-requires-clause-columns : goal.take_rows-requires-clause-columns
+take_rows-requires-clause-columns c =
+    let w = c.self.invariant.0 c.if-self.false in
+    ap (λ (t : Trace). length t.header.columns) c.in-Ok.ensures.ok ∙ sym w.1.bound.width
+
+pub take_rows-requires-clause-within : goal.take_rows-requires-clause-within
+take_rows-requires-clause-within c =
+    let e = ap (λ (t : Trace). length t.rows) c.in-Ok.ensures.ok in
+    let n = length-append c.self.inside.block.rows (c.args.row.now ∷ []) in
+    omega (arith, e, n, c.rows-from.ensures.count)
+
+-- what it is once the row was taken
+abbrev after : After-keep_last → Kept
+after c = record {
+  nodes = c.self.inside.formula.nodes;
+  header = c.keep_last.new.self.header;
+  bound = c.self.inside.bound;
+  live = c.take_rows.new.self.net.live.items;
+  shown = c.take_rows.new.self.net.shown.items;
+  begin = c.take_rows.new.self.begin;
+  last = last_of c.keep_last.new.self.rows;
+  decided = c.take_rows.new.self.decided;
+  ended = c.self.inside.ended;
+  stopped = c.self.inside.stopped;
+}
+
+-- it stands for the rows with it
+taken : (c : After-keep_last) (rows : List Row) → Stands (the_view c.self.inside) rows false → Stands (after c) (rows ++ c.args.row.now ∷ []) false
+taken c rows st =
     let x : Kept = the_view c.self.inside in
-    let r = c.args.row.now in
-    let st = subst (λ (z : Kept). Stands z rows false) (sym c.self.view_is) was in
-    let width = subst (λ (z : Kept). length r.values ≡ z.bound.width) (sym c.self.view_is) c.requires.width in
-    let later = subst (λ (z : Kept). IfSome z.last (λ q. q.time < r.time)) (sym c.self.view_is) c.requires.later in
-    let passed = passed_by x rows r c.in-Ok.kept st (sym c.is_some.ensures ∙ c.if-is_some.true) width later c.in-Ok.ensures in
-    (passed.0, subst (λ (z : Kept). IsAnswer (root z.nodes) z.header rows r None) c.self.view_is passed.1)
-
-pub take_row-requires-clause-open : goal.take_row-requires-clause-open
-take_row-requires-clause-open c =
-    let x : Kept = the_view c.self.inside in
-    let w = c.self.invariant c.if-self.false in
-    let st = unended x c.args.self.now w.0 c.self.view_is c.requires.open w.1 in
-    (x.header, w.0, open_of x c.self.inside.formula w.0 refl st (none_if c.self.inside.decided (sym c.is_some.ensures ∙ c.if-is_some.false)))
-
-pub take_row-requires-clause-width : goal.take_row-requires-clause-width
-take_row-requires-clause-width c = subst (λ (z : Kept). length c.args.row.now.values ≡ z.bound.width) (sym c.self.view_is) c.requires.width
-
-pub take_row-requires-clause-later : goal.take_row-requires-clause-later
-take_row-requires-clause-later c = subst (λ (z : Kept). IfSome z.last (λ q. q.time < c.args.row.now.time)) (sym c.self.view_is) c.requires.later
-
-pub root_verdict-requires-clause-some : goal.root_verdict-requires-clause-some
-root_verdict-requires-clause-some c =
-    let x : Kept = the_view c.self.inside in
-    let w = c.self.invariant c.if-self.false in
-    let st = unended x c.args.self.now w.0 c.self.view_is c.requires.open w.1 in
-    let o = open_of x c.self.inside.formula w.0 refl st (none_if c.self.inside.decided (sym c.is_some.ensures ∙ c.if-is_some.false)) in
-    subst (λ (xs : List Sets). 0 < length xs) (sym c.deref.ensures.value)
-    (some_shown x.nodes x.header c.in-Ok-take_row.begin c.take_row.new.net.live.items c.take_row.new.net.shown.items w.0
-    c.args.row.now (c.in-Ok-take_row.ensures x.header w.0 o) st.some)
-
-pub root_verdict-requires-clause-tidy : goal.root_verdict-requires-clause-tidy
-root_verdict-requires-clause-tidy c =
-    let x : Kept = the_view c.self.inside in
-    let w = c.self.invariant c.if-self.false in
-    let st = unended x c.args.self.now w.0 c.self.view_is c.requires.open w.1 in
-    let o = open_of x c.self.inside.formula w.0 refl st (none_if c.self.inside.decided (sym c.is_some.ensures ∙ c.if-is_some.false)) in
-    subst (λ (xs : List Sets). AllTidy xs) (sym c.deref.ensures.value)
-    (shown_tidy x.nodes x.header c.in-Ok-take_row.begin c.take_row.new.net.live.items c.take_row.new.net.shown.items w.0
-    c.args.row.now (c.in-Ok-take_row.ensures x.header w.0 o))
-
-pub let_go_by-requires : goal.let_go_by-requires
-let_go_by-requires c = λ e.
-    let x : Kept = the_view c.self.inside in
-    let w = c.self.invariant c.if-self.false in
-    let st = unended x c.args.self.now w.0 c.self.view_is c.requires.open w.1 in
-    let o = open_of x c.self.inside.formula w.0 refl st (none_if c.self.inside.decided (sym c.is_some.ensures ∙ c.if-is_some.false)) in
-    net_of x.nodes x.header c.in-Ok-take_row.begin c.take_row.new.net.live.items c.take_row.new.net.shown.items w.0 c.args.row.now
-    (c.in-Ok-take_row.ensures x.header w.0 o)
-
--- the row is taken, and what the sets of the root say of the start is the answer
-fed : (c : After-result-1) (rows : List Row) → Stands (the_view c.self.inside) rows false
-    → Stands (record {
-      nodes = c.self.inside.formula.nodes;
-      header = c.self.inside.header;
-      bound = c.self.inside.bound;
-      live = c.let_go_by.new.net.live.items;
-      shown = c.let_go_by.new.net.shown.items;
-      begin = c.in-Ok-take_row.begin;
-      last = Some c.in-Ok.kept;
-      decided = c.decided_at-decided.result;
-      ended = c.self.inside.ended;
-      stopped = c.self.inside.stopped;
-    }) (rows ++ c.args.row.now ∷ []) false × IsAnswer (root c.self.inside.formula.nodes) c.self.inside.header rows c.args.row.now c.decided_at-decided.result
-fed c rows st =
-    let x : Kept = the_view c.self.inside in
-    let r = c.args.row.now in
-    let width = subst (λ (z : Kept). length r.values ≡ z.bound.width) (sym c.self.view_is) c.requires.width in
-    let later = subst (λ (z : Kept). IfSome z.last (λ q. q.time < r.time)) (sym c.self.view_is) c.requires.later in
-    let none = none_if c.self.inside.decided (sym c.is_some.ensures ∙ c.if-is_some.false) in
-    let are = c.in-Ok-take_row.ensures x.header rows (open_of x c.self.inside.formula rows refl st none) in
-    let live = c.take_row.new.net.live.items in
-    let shown = c.take_row.new.net.shown.items in
-    let is = c.decided_at-decided.ensures ∙ ap (λ (t : ℕ). decided_now t c.root_verdict.result) c.time.ensures in
-    fed_by {x = x} {rows = rows} {r = r} (record {
-      stood = st;
-      undecided = none;
-      width = width;
-      later = later;
-      live = live;
-      shown = shown;
-      are = are;
-      says = subst (λ (xs : List Sets). IsVerdict xs c.in-Ok-take_row.begin c.root_verdict.result) c.deref.ensures.value c.root_verdict.ensures;
-      kept = λ e. sets_as x.nodes x.header c.in-Ok-take_row.begin live shown c.let_go_by.new.net.live.items c.let_go_by.new.net.shown.items rows r
-          (c.let_go_by.ensures (is ∙ e)) are;
-    }) c.in-Ok.ensures is
+    let f = c.self.inside.formula in
+    let b = c.self.inside.bound in
+    let all = c.push.new.self in
+    let more = c.args.row.now ∷ [] in
+    from_open (after c) (rows ++ more) st.is_ended st.running
+    (stands_behind f b c.self.inside.block all more c.in-Ok.ensures.ok c.rows-from.result c.rows-from.ensures.count rows c.take_rows.new.self
+    c.keep_last.new.self c.keep_last.ensures
+    (c.in-Ok-take_rows.ensures.stands all.header rows
+    (stands_before f b c.self.inside.block all more c.in-Ok.ensures.ok c.rows-from.result c.rows-from.ensures.count rows c.self.inside.progress
+    (as_open x rows st))))
 
 pub invariant_of-self-2 : goal.invariant_of-self-2
-invariant_of-self-2 c running =
+invariant_of-self-2 c =
+    let a = (goal.at.invariant_of-self-2 c).After-keep_last in
     let x : Kept = the_view c.self.inside in
-    let w = c.self.invariant c.if-self.false in
-    let st = unended x c.args.self.now w.0 c.self.view_is c.requires.open w.1 in
-    let f = (fed c w.0 st).0 in
-    (w.0 ++ c.args.row.now ∷ [], as_ended _ (w.0 ++ c.args.row.now ∷ []) false f)
+    let w = c.self.invariant.0 c.if-self.false in
+    let st = unended x c.args.self.now w.0 c.self.view_is c.requires.open w.1 in (
+      λ running. (w.0 ++ c.args.row.now ∷ [], as_ended (after a) (w.0 ++ c.args.row.now ∷ []) false (taken a w.0 st)),
+      λ running. subst (λ (t : Trace). length t.rows ≤ 1) (sym c.keep_last.ensures) (one_kept c.push.new.self.rows),
+    )
+
+pub returns-clause-answer : goal.returns-clause-answer
+returns-clause-answer c =
+    let d = c.in-Ok-take_rows.ensures.decided in
+    record {
+      running = ap (λ (z : Kept). z.stopped) (sym c.self.view_is) ∙ c.if-self.false;
+      still_running = c.if-self.false;
+      not_ended = ap (λ (z : Kept). z.ended) c.self.view_is ∙ c.requires.open;
+      last = ap (λ (t : Trace). last_of t.rows) c.keep_last.ensures ∙ last_kept c.push.new.self.rows
+          ∙ ap (λ (t : Trace). last_of t.rows) c.in-Ok.ensures.ok ∙ sym (last_on c.self.inside.block.rows c.args.row.now);
+      decided = decided_newly c.self.inside.progress.decided c.take_rows.new.self.decided d.0
+          ∙ ap (λ o. decided_by c.self.inside.progress.decided o) (sym d.1)
+          ∙ ap (λ (z : Kept). decided_by z.decided c.in-Ok-take_rows.decided) c.self.view_is;
+    }
 
 pub returns-clause-stands : goal.returns-clause-stands
 returns-clause-stands c rows was =
-    let f = fed c rows (subst (λ (z : Kept). Stands z rows false) (sym c.self.view_is) was) in
-    (f.0, subst (λ (z : Kept). IsAnswer (root z.nodes) z.header rows c.args.row.now c.decided_at-decided.result) c.self.view_is f.1)
+    let a = (goal.at.returns-clause-stands c).After-keep_last in
+    let x : Kept = the_view c.self.inside in
+    let r = c.args.row.now in
+    let st = subst (λ (z : Kept). Stands z rows false) (sym c.self.view_is) was in
+    let now = taken a rows st in
+    let d = c.in-Ok-take_rows.ensures.decided in
+    let header = ap (λ (t : Trace). t.header) c.keep_last.ensures ∙ ap (λ (t : Trace). t.header) c.in-Ok.ensures.ok in (
+      now,
+      subst (λ (z : Kept). IsAnswer (root z.nodes) z.header rows r c.in-Ok-take_rows.decided) c.self.view_is
+          (subst (λ o. IsAnswer (root x.nodes) x.header rows r o) (sym d.1) (row_answer x (after a) rows r refl header st now d.0)),
+    )

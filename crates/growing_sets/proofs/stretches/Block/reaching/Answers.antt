@@ -1,4 +1,4 @@
-use Rattle.std.proofs.Common.{rules, ◌≡◌, ◌+◌, ◌-◌, ◌/◌, ℕ, length, take, subst, sym, add-one, arith}
+use Rattle.std.proofs.Common.{rules, ◌≡◌, ℕ, length, take, subst, sym, add-one, arith}
 use Rattle.std.specs.Prelude.{Some, slice_get}
 use Rattle.std.proofs.lemmas.Option.{slice_get_read}
 use Rattle.frac128.specs.Cuts.{place}
@@ -8,7 +8,9 @@ use Rattle.growing_sets.proofs.stretches.Block.reaching.Goals as goal
 
 pub loop-low-preserved-then-precedes : goal.loop-low-preserved-then-precedes
 loop-low-preserved-then-precedes c =
-    let i : ℕ = c.loop-low.low + (c.loop-low.high - c.loop-low.low) / 2 in
+    let i : ℕ = c.between-middle.result in
+    let above = c.between-middle.ensures.above in
+    let below = c.between-middle.ensures.below in
     let e : slice_get c.args.self.now.ring.items i ≡ Some c.index.result.now =
     slice_get_read c.args.self.now.ring.items (length c.args.self.now.ring.items) i c.index.result.now (search rules) (omega arith) c.index.ensures in
     record {
@@ -21,7 +23,9 @@ loop-low-preserved-then-precedes c =
 
 pub loop-low-preserved : goal.loop-low-preserved
 loop-low-preserved c =
-    let i : ℕ = c.loop-low.low + (c.loop-low.high - c.loop-low.low) / 2 in
+    let i : ℕ = c.between-middle.result in
+    let above = c.between-middle.ensures.above in
+    let below = c.between-middle.ensures.below in
     let e : slice_get c.args.self.now.ring.items i ≡ Some c.index.result.now =
     slice_get_read c.args.self.now.ring.items (length c.args.self.now.ring.items) i c.index.result.now (search rules) (omega arith) c.index.ensures in
     record {

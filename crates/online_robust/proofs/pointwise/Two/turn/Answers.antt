@@ -1,4 +1,4 @@
-use Rattle.std.proofs.Common.{◌≡◌, inl, inr, Some, sym, subst, ap, ◌∙◌, ◌^◌, slice_get, length, arith}
+use Rattle.std.proofs.Common.{◌≡◌, inl, inr, Some, sym, subst, ap, ◌^◌, slice_get, length, arith}
 use Rattle.std.specs.Prelude.{IsTrue}
 use Rattle.rational.specs.Time.{Rational, ◌≈◌}
 use Rattle.rational.specs.Extended.{value_at, ◌≈ᵉ◌}

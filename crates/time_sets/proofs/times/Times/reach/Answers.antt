@@ -1,88 +1,51 @@
-use Rattle.std.proofs.Common.{◌≡◌, ◌+◌, ◌⊎◌, inl, inr, Option, None, Some, not, false, sym, subst, arith}
-use Rattle.std.specs.Prelude.{IfNone, IfSome}
+use Rattle.std.proofs.Common.{◌≡◌, ◌<◌, ◌⊎◌, inl, inr, false, not, length, arith}
 use Rattle.rational.specs.Time.{Rational}
-use Rattle.time_sets.specs.Parts.{IsPart, left_from}
+use Rattle.time_sets.specs.Parts.{left_from, over}
 use Rattle.time_sets.proofs.MakingLemmas.{if_ok_then}
-use Rattle.time_sets.proofs.PartLemmas.{all_left}
+use Rattle.time_sets.proofs.PartLemmas.{all_left, none_at}
 use Rattle.time_sets.proofs.TurnLemmas.{byte_small}
 use Rattle.time_sets.proofs.SeeingLemmas.{reached_nothing}
 use Rattle.time_sets.proofs.ReachLemmas.{reached_first, reached_can, reached_run, reached_part, reached_last}
 use Rattle.time_sets.proofs.times.Times.reach.Goals as goal
+use Rattle.time_sets.proofs.times.Times.reach.Goals.{then-loop-i-test+else-k-len, else-loop-i-test}
 
--- what is said of an answer, of what it holds
-held : {A : Type 0} (r : Option A) (x : A) (P : A → Type 0) → r ≡ Some x → IfSome r P → P x
-held r x P e h = subst (λ y. IfSome y P) e h
-
-if_some_then : {A : Type 0} (r : Option A) (P Q : A → Type 0) → IfSome r P → ((x : A) → P x → Q x) → IfSome r Q
-if_some_then None P Q h f = tt
-if_some_then (Some x) P Q h f = f x h
-
-if_none_then : {A : Type 0} (r : Option A) (P Q : Type 0) → IfNone r P → (P → Q) → IfNone r Q
-if_none_then None P Q h f = f h
-if_none_then (Some x) P Q h f = tt
-
-pub loop-next-init : goal.loop-next-init
-loop-next-init c = record {
+pub loop-i-init : goal.loop-i-init
+loop-i-init c = record {
   reached = reached_first c.args.on.now c.args.w.now c.args.self.now c.args.q.now c.constant-made.result _ _ c.constant-made.ensures.starts
       c.constant-made.ensures.turns c.constant-made.ensures.times
       (λ t. all_left c.args.self.now.starts c.from-i.result c.args.self.now.turns.items t c.from-i.ensures)
       (λ t. all_left c.args.q.now.starts c.from-k.result c.args.q.now.turns.items t c.from-k.ensures);
   run_in = let e = c.from-i.ensures in let h = byte_small (not c.args.self.now.starts) in omega arith;
   part_in = let e = c.from-k.ensures in let h = byte_small (not c.args.q.now.starts) in omega arith;
-  none = c.pair-next.ensures.none;
-  run = c.pair-next.ensures.run;
-  part = c.pair-next.ensures.part;
-  more = c.pair-next.ensures.more;
 }
 
 pub meet-requires-clause-run : goal.meet-requires-clause-run
-meet-requires-clause-run c = (held c.loop-next.next c.in-Some.both _ c.in-Some.is c.loop-next.invariant.run).inside
+meet-requires-clause-run c = c.stretch-run.ensures.inside
 
 pub meet-requires-clause-part : goal.meet-requires-clause-part
-meet-requires-clause-part c = (held c.loop-next.next c.in-Some.both _ c.in-Some.is c.loop-next.invariant.part).inside
+meet-requires-clause-part c = c.stretch-part.ensures.inside
 
 pub meet-requires-clause-made : goal.meet-requires-clause-made
-meet-requires-clause-made c = reached_can c.args.on.now c.in-Some.both.run c.in-Some.both.part c.args.w.now c.args.self.now c.args.q.now c.loop-next.end
-    c.loop-next.made _ _ _ _ c.loop-next.invariant.reached (held c.loop-next.next c.in-Some.both _ c.in-Some.is c.loop-next.invariant.run)
-    (held c.loop-next.next c.in-Some.both _ c.in-Some.is c.loop-next.invariant.part)
+meet-requires-clause-made c = reached_can c.args.on.now (over c.stretch-run.result) (over c.stretch-part.result) c.args.w.now c.args.self.now
+    c.args.q.now c.loop-i.end c.loop-i.made _ _ _ _ c.loop-i.invariant.reached c.stretch-run.ensures c.stretch-part.ensures
 
-pub loop-next-preserved-then-precedes : goal.loop-next-preserved-then-precedes
-loop-next-preserved-then-precedes c =
-    let i = c.loop-next.invariant in
-    let run = held c.loop-next.next c.in-Some.both _ c.in-Some.is i.run in
-    let part = held c.loop-next.next c.in-Some.both _ c.in-Some.is i.part in
-    let more = held c.loop-next.next c.in-Some.both _ c.in-Some.is i.more in
-    let qs = c.args.q.now.turns.items in
-    record {
-      reached = reached_run c.args.on.now c.in-Some.both.run c.in-Some.both.part c.args.w.now c.args.self.now c.args.q.now c.loop-next.end c.loop-next.made
-          _ _ _ _ i.reached run part _ c.meet.new.made c.in_ok-end.ensures (c.precedes.ensures.0 c.if-precedes.true);
-      run_in = let h = more.0 in omega arith;
-      part_in = i.part_in;
-      none = if_none_then c.run_beside-next.result _ _ c.run_beside-next.ensures.none (λ h. inl h);
-      run = c.run_beside-next.ensures.run;
-      part = if_some_then c.run_beside-next.result _ _ c.run_beside-next.ensures.part
-          (λ d e. subst (λ x. IsPart c.args.on.now x (left_from c.loop-next.k qs) (left_from (c.loop-next.k + 2) qs)) (sym e) part);
-      more = if_some_then c.run_beside-next.result _ _ c.run_beside-next.ensures.more (λ d h. (h, more.1));
-    }
+pub loop-i-preserved-then-met : goal.loop-i-preserved-then-met
+loop-i-preserved-then-met c = record {
+  reached = reached_run c.args.on.now (over c.stretch-run.result) (over c.stretch-part.result) c.args.w.now c.args.self.now c.args.q.now c.loop-i.end
+      c.loop-i.made _ _ _ _ c.loop-i.invariant.reached c.stretch-run.ensures c.stretch-part.ensures _ c.meet.new.made c.in_ok-met.ensures.adds
+      (c.in_ok-met.ensures.done.0 c.if-met.true);
+  run_in = let o = c.args.self.now.turns.ok.0 in omega arith;
+  part_in = c.loop-i.invariant.part_in;
+}
 
-pub loop-next-preserved : goal.loop-next-preserved
-loop-next-preserved c =
-    let i = c.loop-next.invariant in
-    let run = held c.loop-next.next c.in-Some.both _ c.in-Some.is i.run in
-    let part = held c.loop-next.next c.in-Some.both _ c.in-Some.is i.part in
-    let more = held c.loop-next.next c.in-Some.both _ c.in-Some.is i.more in
-    let ps = c.args.self.now.turns.items in
-    record {
-      reached = reached_part c.args.on.now c.in-Some.both.run c.in-Some.both.part c.args.w.now c.args.self.now c.args.q.now c.loop-next.end c.loop-next.made
-          _ _ _ _ i.reached run part _ c.meet.new.made c.in_ok-end.ensures (λ b. let e = c.precedes.ensures.1 b in let f = c.if-precedes.false in cc);
-      run_in = i.run_in;
-      part_in = let h = more.1 in omega arith;
-      none = if_none_then c.part_beside-next.result _ _ c.part_beside-next.ensures.none (λ h. inr h);
-      run = if_some_then c.part_beside-next.result _ _ c.part_beside-next.ensures.run
-          (λ d e. subst (λ x. IsPart c.args.on.now x (left_from c.loop-next.i ps) (left_from (c.loop-next.i + 2) ps)) (sym e) run);
-      part = c.part_beside-next.ensures.part;
-      more = if_some_then c.part_beside-next.result _ _ c.part_beside-next.ensures.more (λ d h. (more.0, h));
-    }
+pub loop-i-preserved : goal.loop-i-preserved
+loop-i-preserved c = record {
+  reached = reached_part c.args.on.now (over c.stretch-run.result) (over c.stretch-part.result) c.args.w.now c.args.self.now c.args.q.now c.loop-i.end
+      c.loop-i.made _ _ _ _ c.loop-i.invariant.reached c.stretch-run.ensures c.stretch-part.ensures _ c.meet.new.made c.in_ok-met.ensures.adds
+      (λ b. let e = c.in_ok-met.ensures.done.1 b in let f = c.if-met.false in cc);
+  run_in = c.loop-i.invariant.run_in;
+  part_in = let o = c.args.q.now.turns.ok.0 in omega arith;
+}
 
 pub returns-then-not-has_room-clause-times : goal.returns-then-not-has_room-clause-times
 returns-then-not-has_room-clause-times c = λ t l. reached_nothing c.args.on.now c.args.w.now c.args.self.now c.args.q.now c.constant-made.result t
@@ -90,8 +53,16 @@ returns-then-not-has_room-clause-times c = λ t l. reached_nothing c.args.on.now
 
 pub returns-clause-times : goal.returns-clause-times
 returns-clause-times c =
-    let i = c.loop-next.invariant in
-    let done = subst (λ r. IfNone r (((t : Rational) → left_from c.loop-next.i c.args.self.now.turns.items t ≡ false)
-    ⊎ ((t : Rational) → left_from c.loop-next.k c.args.q.now.turns.items t ≡ false))) c.in_default.is i.none in
+    let ps = c.args.self.now.turns.items in
+    let qs = c.args.q.now.turns.items in
+    let o = c.args.self.now.turns.ok.0 in
+    let p = c.args.q.now.turns.ok.0 in
+    let done : ((t : Rational) → left_from c.loop-i.i ps t ≡ false) ⊎ ((t : Rational) → left_from c.loop-i.k qs t ≡ false) =
+    elim c.loop-i-test.branch [
+      | then-loop-i-test+else-k-len w ↦
+          let past : length qs < c.loop-i.k = omega (arith, p, w.if-k-len.false, w.len-in-loop-i.ensures) in inr (λ t. none_at qs c.loop-i.k t past)
+      | else-loop-i-test w ↦
+          let past : length ps < c.loop-i.i = omega (arith, o, w.loop-i-test.false, c.len.ensures) in inl (λ t. none_at ps c.loop-i.i t past)
+    ] in
     if_ok_then c.finish.result _ _ c.finish.ensures (λ r e t l.
-    reached_last c.args.on.now c.args.w.now c.args.self.now c.args.q.now c.loop-next.end c.loop-next.made r _ _ i.reached done e t l)
+    reached_last c.args.on.now c.args.w.now c.args.self.now c.args.q.now c.loop-i.end c.loop-i.made r _ _ c.loop-i.invariant.reached done e t l)

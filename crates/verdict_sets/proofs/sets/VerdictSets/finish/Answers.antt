@@ -1,6 +1,5 @@
 -- The one row that is held is the last of the trace.
 use Rattle.std.proofs.Common.{◌≡◌, ◌-◌, length, sym, ap, ◌∙◌, subst, arith, get_or}
-use Rattle.std.proofs.lemmas.Result.{IfOk-weaker}
 use Rattle.stl_syntax.specs.Formula.{Formula}
 use Rattle.stl_syntax.specs.Trace.{IsTrace, last_time}
 use Rattle.stl_syntax.specs.declared.scale.Scale.{Scale}
@@ -8,9 +7,10 @@ use Rattle.atom_lines.specs.Binding.{IsBound}
 use Rattle.truth_sets.specs.Standing.{StandFor, TellsRoot}
 use Rattle.trace_stream.specs.declared.case.Case.{Case}
 use Rattle.verdict_sets.specs.Keeping.{HasSets}
-use Rattle.verdict_sets.specs.Telling.{IsJudgedText}
+use Rattle.verdict_sets.specs.Telling.{AreLinesFrom}
 use Rattle.verdict_sets.proofs.Taking.{no_row, last_held}
 use Rattle.verdict_sets.proofs.Judging.{is_check_answer}
+use Rattle.verdict_sets.proofs.LinesFrom.{begun_with, all_left}
 use Rattle.verdict_sets.proofs.sets.VerdictSets.finish.Goals.{After-time-last}
 use Rattle.verdict_sets.proofs.sets.VerdictSets.finish.Goals as goal
 
@@ -66,14 +66,25 @@ told_by-requires-clause-own c =
     (c.in_ok-judged.ensures case.bound case.trace (last_held c.args.self case h ok).0 (bound_own t case h ok) ok (at_last t case h ok)
     (last_all t case h ok) (stands_all t case h ok)).told.of
 
-pub returns : goal.returns
-returns c =
-    let t = (goal.at.returns c).After-time-last in
-    let j = c.in_ok-judged.judged in
-    IfOk-weaker c.told_by.result _ _
-    (λ a is f case fits h ok.
+pub returns-clause-begun : goal.returns-clause-begun
+returns-clause-begun c =
+    let (case, h, ok) = c.requires in
+    let t = (goal.at.returns-clause-begun c).After-time-last in
     let told = c.in_ok-judged.ensures case.bound case.trace (last_held c.args.self case h ok).0 (bound_own t case h ok) ok (at_last t case h ok)
     (last_all t case h ok) (stands_all t case h ok) in
-    is_check_answer case f fits j (subst (λ (g : Formula). TellsRoot g.nodes case.trace j) h.tail.formula told) a.holds a.text
-    (subst (λ (s : Scale). IsJudgedText j s a.holds a.text) (c.scale-scale.ensures.scale ∙ ap (λ (g : Formula). g.scale) h.tail.formula) is))
-    c.told_by.ensures
+    let is = c.told_by.ensures in
+    begun_with c.in_ok-judged.judged c.told_by.result is.judged is.none c.scale-scale.result c.scale-scale.ensures.digits.time
+    told.domain told.told.of is.scale is.from
+
+pub returns-clause-told : goal.returns-clause-told
+returns-clause-told c = λ f case text fits h ok left.
+    let t = (goal.at.returns-clause-told c).After-time-last in
+    let j = c.in_ok-judged.judged in
+    let a = c.told_by.result in
+    let is = c.told_by.ensures in
+    let told = c.in_ok-judged.ensures case.bound case.trace (last_held c.args.self case h ok).0 (bound_own t case h ok) ok (at_last t case h ok)
+    (last_all t case h ok) (stands_all t case h ok) in
+    is_check_answer case f fits j (subst (λ (g : Formula). TellsRoot g.nodes case.trace j) h.tail.formula told) a.holds text
+    (subst (λ (s : Scale). AreLinesFrom j s a.holds 0 text)
+    (is.scale ∙ c.scale-scale.ensures.scale ∙ ap (λ (g : Formula). g.scale) h.tail.formula)
+    (all_left j a is.judged is.none text left)) is.first

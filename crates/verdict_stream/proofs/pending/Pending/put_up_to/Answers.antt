@@ -5,19 +5,19 @@ use Rattle.verdict_stream.proofs.Cutting.{cut_parts, lines_more}
 use Rattle.verdict_stream.proofs.pending.Pending.put_up_to.Goals as goal
 
 pub loop-verdict-init : goal.loop-verdict-init
-loop-verdict-init c = ([], ([], refl, sym (append-nil c.args.text.now)), λ some left h. h)
+loop-verdict-init c = ([], ([], refl, sym (append-nil (c.args.text.now ++ c.args.lines.now))), λ some left h. h)
 
 pub loop-verdict-preserved : goal.loop-verdict-preserved
 loop-verdict-preserved c =
     let (put, (grown, lines, is), on) = c.loop-verdict.invariant in
     let (e, whole) = c.in-Some.ensures in
-    let (line, is_line, longer) = c.in_ok-put_verdict_after.ensures.ok in
+    let (line, is_line, longer) = c.in_ok-put.ensures.ok in
     let v = c.in-Some.verdict in (
       put ++ v ∷ [],
       (
         grown ++ line,
         lines_more c.args.scale put v grown line lines is_line,
-        longer ∙ ap (λ t. t ++ line) is ∙ append_assoc c.args.text.now grown line,
+        longer ∙ ap (λ t. t ++ line) is ∙ append_assoc (c.args.text.now ++ c.args.lines.now) grown line,
       ),
       λ some left h.
           subst (λ l. AreUpTo c.args.front c.args.self.now l left) (sym (append_assoc put (v ∷ []) some))
@@ -39,7 +39,7 @@ returns-in-Some-cut c =
     let (same, beyond) = subst (λ o. IsNextUpTo c.args.front c.loop-verdict.self o c.next.new.self) c.in_default.is c.next.ensures in
     let up = cut_parts c.args.front c.next.new.self c.cut.new.self (Some part) (subst (λ l. GoesBeyond c.args.front l) (sym same) beyond)
     c.in-Some-cut.ensures in
-    IfOk-weaker c.put_verdict_after-in-Some-cut.result _ _ (λ u h.
+    IfOk-weaker c.put-in-Some-cut.result _ _ (λ u h.
     let (line, is_line, longer) = h in (
       grown ++ line,
       (
@@ -47,9 +47,9 @@ returns-in-Some-cut c =
         on (part ∷ []) c.cut.new.self (subst (λ l. AreUpTo c.args.front l (part ∷ []) c.cut.new.self) same up),
         lines_more c.args.scale put part grown line lines is_line,
       ),
-      longer ∙ ap (λ t. t ++ line) is ∙ append_assoc c.args.text.now grown line,
+      longer ∙ ap (λ t. t ++ line) is ∙ append_assoc (c.args.text.now ++ c.args.lines.now) grown line,
     ))
-    c.put_verdict_after-in-Some-cut.ensures.ok
+    c.put-in-Some-cut.ensures.ok
 
 pub returns-in-None : goal.returns-in-None
 returns-in-None c =

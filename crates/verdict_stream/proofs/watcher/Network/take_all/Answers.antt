@@ -1,4 +1,4 @@
-use Rattle.std.proofs.Common.{suc, ◌-◌, ◌<◌, [], ◌∷◌, ◌++◌, length, refl, sym, subst, ◌∙◌}
+use Rattle.std.proofs.Common.{suc, ◌-◌, ◌<◌, [], ◌∷◌, ◌++◌, length, refl, sym, ap, subst, ◌∙◌, append-nil}
 use Rattle.online_nodes.specs.Network.{take as taken}
 use Rattle.online_nodes.specs.Driven.{takes}
 use Rattle.online_nodes.specs.Held.{held_at}
@@ -10,7 +10,11 @@ use Rattle.verdict_stream.proofs.watcher.Network.take_all.Goals as goal
 pub loop-verdict-init : goal.loop-verdict-init
 loop-verdict-init c = record {
   formula = refl;
-  taken = λ p can. (0, none_yet p can.given c.args.self.now c.args.text.now can);
+  taken = λ p can. (
+    0,
+    subst (λ t. HasTaken p 0 c.args.self.now c.args.text.now t) (sym (ap (λ l. c.args.text.now ++ l) c.requires.none ∙ append-nil c.args.text.now))
+        (none_yet p can.given c.args.self.now c.args.text.now can),
+  );
 }
 
 pub loop-verdict-preserved : goal.loop-verdict-preserved
@@ -19,7 +23,7 @@ loop-verdict-preserved c = record {
   taken = λ p can.
       let (n, h) = c.loop-verdict.invariant.taken p can in (
         suc n,
-        takes_one p can.given c.in-Some.verdict c.put.new.self c.put.new.text h
+        takes_one p can.given c.in-Some.verdict c.put.new.self (c.put.new.text ++ c.put.new.lines) h
             (record {
               next = c.in-Some.ensures.next p.nodes p.header (p.events ++ takes n) h.stands;
               stands = subst (λ (q : Parts). Stands p.nodes p.header q ((p.events ++ takes n) ++ taken ∷ [])) (sym c.put.ensures.net)
@@ -32,7 +36,7 @@ loop-verdict-preserved c = record {
 
 pub loop-verdict-smaller : goal.loop-verdict-smaller
 loop-verdict-smaller c =
-    let (p, can) = c.requires in
+    let (p, can) = c.requires.can in
     let (n, h) = c.loop-verdict.invariant.taken p can in
     subst (λ (q : Parts). length (held_at q.edges (length q.operators - 1))
     < length (held_at c.loop-verdict.self.net.edges (length c.loop-verdict.self.net.operators - 1))) (sym c.put.ensures.net)
@@ -45,9 +49,11 @@ returns-clause-taken c = λ p can.
     let (n, h) = c.loop-verdict.invariant.taken p can in
     let same = c.take.ensures.unchanged c.in_default.is in (
       n,
-      subst (λ (q : Parts). HasTaken p n (record { net = q; formula = c.loop-verdict.self.formula; start = c.loop-verdict.self.start })
-          c.args.text.now c.loop-verdict.text) (sym same) h,
-      all_taken p can.given n c.loop-verdict.self c.args.text.now c.loop-verdict.text h
+      subst (λ t. HasTaken p n (record { net = c.take.new.self; formula = c.loop-verdict.self.formula; start = c.loop-verdict.self.start }) c.args.text.now t)
+          (sym c.in_ok-hand_over.ensures.text)
+          (subst (λ (q : Parts). HasTaken p n (record { net = q; formula = c.loop-verdict.self.formula; start = c.loop-verdict.self.start })
+          c.args.text.now (c.loop-verdict.text ++ c.loop-verdict.lines)) (sym same) h),
+      all_taken p can.given n c.loop-verdict.self c.args.text.now (c.loop-verdict.text ++ c.loop-verdict.lines) h
           (subst (λ o. IsNext p.nodes p.header (p.events ++ takes n) o) c.in_default.is
           (c.take.ensures.next p.nodes p.header (p.events ++ takes n) h.stands)),
     )

@@ -35,6 +35,14 @@ give_all-requires c =
     let x = owing_passing v case made o c.step_all.new.self.net st in
     (Before v case made o x, owing_can v case made o x c.step_all.new.self st c.step_all.ensures.start)
 
+pub put_rows-requires : goal.put_rows-requires
+put_rows-requires c =
+    let (case, made, opened) = c.requires in
+    let v = c.args.self.now in
+    let o = some_owed v case made opened
+    (λ e. false≢true (sym c.if-is_empty.false ∙ c.is_empty.ensures ∙ ap (λ n. n == 0) (v.times.ok.0 ∙ ap length e))) in
+    o.none_waiting
+
 pub returns : goal.returns
 returns c = λ case made opened.
     let v = c.args.self.now in
@@ -50,7 +58,7 @@ returns c = λ case made opened.
       horizon = put.horizon;
       times = c.clear.new.self;
       pending = c.clear-2.new.self;
-      last = put.last;
+      lines = put.lines;
     } in
     let left_off : OwesNoMore v c.give_all.new.self after = record {
       network = c.put_rows.ensures.network;
@@ -58,6 +66,7 @@ returns c = λ case made opened.
       horizon = c.put_rows.ensures.horizon;
       times = c.clear.ensures.items;
       pending = c.clear-2.ensures;
+      lines = c.in_ok-put_rows.ensures.none;
     } in
     owing_followed v case made o left_off x c.give_all.new.pending put.pending c.args.text.now c.put_rows.new.text grown
     (c.in_ok-give_all.ensures.given (Before v case made o x) can) lines longer

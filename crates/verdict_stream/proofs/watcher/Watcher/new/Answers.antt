@@ -21,4 +21,5 @@ returns c = λ case same bound none.
       start = refl;
       no_times = c.new.ensures.items;
       none_pending = c.new-2.ensures;
+      none_waiting = c.new-3.ensures;
     }

@@ -7,7 +7,7 @@ use Rattle.verdict_stream.specs.declared.watcher.Network.{Network}
 use Rattle.verdict_stream.proofs.watcher.Watcher.put_rows.Goals as goal
 
 pub loop-i-init : goal.loop-i-init
-loop-i-init c = record { network = refl; horizon = refl; times = refl; lines = ([], sym (append-nil c.args.text.now), λ later left h. h) }
+loop-i-init c = record { network = refl; horizon = refl; times = refl; lines = ([], ap (λ l. c.args.text.now ++ l) c.requires, λ later left h. h) }
 
 pub loop-i-preserved : goal.loop-i-preserved
 loop-i-preserved c =
@@ -55,5 +55,5 @@ returns-clause-lines c =
           (on [] c.loop-i.self.pending
           (subst (λ ts. IsTextOfRows v.network.formula.scale v.horizon ts c.loop-i.self.pending [] c.loop-i.self.pending)
           (sym (drop_all c.loop-i.i v.times.items past)) (refl, refl))),
-      is,
+      c.in_ok-hand_over.ensures.text ∙ is,
     )

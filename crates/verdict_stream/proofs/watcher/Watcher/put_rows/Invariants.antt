@@ -8,7 +8,7 @@ invariant-loop-i l = record {
   network : l.self.network ≡ l.initial.self.network;
   horizon : l.self.horizon ≡ l.initial.self.horizon;
   times : l.self.times.items ≡ l.initial.self.times.items;
-  lines : (grown : List ℕ) × (l.text ≡ l.initial.text ++ grown)
+  lines : (grown : List ℕ) × (l.text ++ l.self.lines ≡ l.initial.text ++ grown)
       × ((later : List ℕ) (left : List Verdict)
       → IsTextOfRows l.initial.self.network.formula.scale l.initial.self.horizon (drop l.i l.initial.self.times.items) l.self.pending later left
       → IsTextOfRows l.initial.self.network.formula.scale l.initial.self.horizon l.initial.self.times.items l.initial.self.pending (grown ++ later) left);

@@ -14,8 +14,11 @@ step_all-requires c =
     places c.args.self.now case w c.close.new.self (w.events ++ close ∷ [])
     (c.in-Ok.ensures.stands case.formula.nodes case.trace.header w.events w.stands)
 
-pub take_all-requires : goal.take_all-requires
-take_all-requires c =
+pub take_all-requires-clause-none : goal.take_all-requires-clause-none
+take_all-requires-clause-none c = let (case, made, k, t) = c.requires in k.stands.none_waiting
+
+pub take_all-requires-clause-can : goal.take_all-requires-clause-can
+take_all-requires-clause-can c =
     let (case, made, k, t) = c.requires in
     let v = c.args.self.now in
     let w = k.stands in
@@ -53,5 +56,5 @@ returns c = λ case made k t.
     end_followed v case w k
     (is_out v case w x after c.args.text.now c.take_all.new.text t
     (c.in_ok-take_all.ensures.taken (pass_before case.formula.nodes case.trace.header w.events (close ∷ []) x.first x.beyond) can))
-    c.take_all.new.last c.put_start.new.text c.in-Some.holds t
+    c.take_all.new.lines c.put_start.new.text c.in-Some.holds c.in_ok-take_all.ensures.none t
     (c.take_all.ensures.formula ∙ c.step_all.ensures.formula) c.in-Some.is c.in_ok-put_start.ensures.ok

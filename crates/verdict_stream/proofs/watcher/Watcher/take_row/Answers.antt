@@ -1,5 +1,4 @@
 use Rattle.std.proofs.Common.{◌<◌, [], ◌∷◌, ◌++◌, length, refl, sym, ap, ◌∙◌, subst, append-nil, inl, inr, arith, lit≤}
-use Rattle.std.proofs.lemmas.Result.{IfOk-weaker}
 use Rattle.online_nodes.specs.Driven.{rows_of, most_rows}
 use Rattle.trace_stream.specs.Cases.{with_row}
 use Rattle.verdict_stream.specs.Watching.{IsOwing}
@@ -20,8 +19,13 @@ step_all-requires c =
     let (case, made, opened, t) = c.requires.open in
     c.in-Ok.ensures.nodes ∙ open_places c.args.self.now case made opened
 
-pub take_all-requires : goal.take_all-requires
-take_all-requires c =
+pub take_all-requires-clause-none : goal.take_all-requires-clause-none
+take_all-requires-clause-none c =
+    let (case, made, opened, t) = c.requires.open in
+    (atom_owes_none c.args.self.now case made opened (sym c.is_atom.ensures ∙ c.if-is_atom.true)).stands.none_waiting
+
+pub take_all-requires-clause-can : goal.take_all-requires-clause-can
+take_all-requires-clause-can c =
     let (case, made, opened, t) = c.requires.open in
     let v = c.args.self.now in
     let k = atom_owes_none v case made opened (sym c.is_atom.ensures ∙ c.if-is_atom.true) in
@@ -48,13 +52,12 @@ returns-then-is_atom c = λ case made opened t.
     let x = passing v case w (rows_of rows) mid.net (rows_others case.formula.nodes case.trace.header rows) st in
     let can = can_take v case w (rows_of rows) x mid st c.step_all.ensures.start in
     let fed = c.in-Ok.ensures.stands case.formula.nodes case.trace.header w.events w.stands in
-    IfOk-weaker c.take_all.result _ _
-    (λ u h.
     let (grown, is_grown, follows) = rows_followed v case w rows k (atom_here v case w (sym c.is_atom.ensures ∙ c.if-is_atom.true)) (omega arith)
     (lit≤ tt) fed.run
-    x after c.take_all.new.last c.args.text.now c.take_all.new.text (c.take_all.ensures.formula ∙ c.step_all.ensures.formula) h in
-    (grown, is_grown, inl follows))
-    (c.take_all.ensures.taken (pass_before case.formula.nodes case.trace.header w.events (rows_of rows) x.first x.beyond) can)
+    x after c.take_all.new.lines c.args.text.now c.take_all.new.text (c.take_all.ensures.formula ∙ c.step_all.ensures.formula)
+    c.in_ok-take_all.ensures.none
+    (c.in_ok-take_all.ensures.taken (pass_before case.formula.nodes case.trace.header w.events (rows_of rows) x.first x.beyond) can) in
+    (grown, is_grown, inl follows)
 
 pub returns-in-Ok-push : goal.returns-in-Ok-push
 returns-in-Ok-push c = λ case made opened t.
@@ -64,7 +67,7 @@ returns-in-Ok-push c = λ case made opened t.
       horizon = v.horizon;
       times = c.push.new.self;
       pending = v.pending;
-      last = v.last;
+      lines = v.lines;
     } in (
       [],
       sym (append-nil c.args.text.now),
@@ -77,5 +80,6 @@ returns-in-Ok-push c = λ case made opened t.
             horizon = refl;
             times = c.in-Ok-push.ensures.items ∙ ap (λ n. v.times.items ++ n ∷ []) c.time.ensures;
             pending = refl;
+            lines = refl;
           }))),
     )

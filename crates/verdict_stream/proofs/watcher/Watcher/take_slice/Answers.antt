@@ -18,8 +18,13 @@ feed_rows-requires-clause-last c =
     let (case, made, opened, l) = c.requires.open in
     open_last c.args.self.now case made opened ∙ ap last_row_of l.rows ∙ last_pushed l.before (row_of c.args.block.now c.args.at)
 
-pub take_all-requires : goal.take_all-requires
-take_all-requires c =
+pub take_all-requires-clause-none : goal.take_all-requires-clause-none
+take_all-requires-clause-none c =
+    let (case, made, opened, l) = c.requires.open in
+    (atom_owes_none c.args.self.now case made opened (sym c.is_atom.ensures ∙ c.if-is_atom.true)).stands.none_waiting
+
+pub take_all-requires-clause-can : goal.take_all-requires-clause-can
+take_all-requires-clause-can c =
     let (case, made, opened, l) = c.requires.open in
     let v = c.args.self.now in
     let k = atom_owes_none v case made opened (sym c.is_atom.ensures ∙ c.if-is_atom.true) in
@@ -52,8 +57,8 @@ returns-then-is_atom-clause-open c = λ case made opened l.
     let room : length v.times.items < most_rows = c.requires.room in
     let some : 0 < length rows = omega (arith, count, room, c.requires.within, c.min.ensures, c.rows.ensures.count, c.len-room.ensures, v.times.ok.0) in
     let few : length rows ≤ most_rows = omega (arith, count, c.min.ensures) in
-    let (grown, is, follows) = rows_followed v case w rows k (atom_here v case w atom) some few fed.run x c.take_all.new.self c.take_all.new.last
-    c.args.text.now c.take_all.new.text (c.take_all.ensures.formula ∙ c.step_all.ensures.formula)
+    let (grown, is, follows) = rows_followed v case w rows k (atom_here v case w atom) some few fed.run x c.take_all.new.self c.take_all.new.lines
+    c.args.text.now c.take_all.new.text (c.take_all.ensures.formula ∙ c.step_all.ensures.formula) c.in_ok-take_all.ensures.none
     (c.in_ok-take_all.ensures.taken (pass_before case.formula.nodes case.trace.header w.events (rows_of rows) x.first x.beyond) can) in
     (grown, is, inl follows)
 
@@ -69,7 +74,7 @@ returns-clause-open c = λ case made opened l.
       horizon = v.horizon;
       times = c.keep_times.new.times;
       pending = v.pending;
-      last = v.last;
+      lines = v.lines;
     } in
     let count = count_between block at to (omega arith) (omega (arith, c.requires.within, c.min.ensures, c.rows.ensures.count)) in
     let room : length v.times.items < most_rows = c.requires.room in
@@ -85,5 +90,6 @@ returns-clause-open c = λ case made opened l.
             horizon = refl;
             times = c.in_ok-keep_times.ensures;
             pending = refl;
+            lines = refl;
           }))),
     )
