@@ -1,6 +1,6 @@
 use Rattle.rational.proofs.Order.{le_trans, le_of_same, ge_of_same}
 use Rattle.pl_signal.proofs.SampleLemmas.{not_later}
-use Rattle.conformance_numbers.proofs.pl_signal_tests.is_near.Goals as goal
+use Rattle.conformance_numbers.proofs.signals.is_near.Goals as goal
 
 pub returns : goal.returns
 returns c = λ t. (

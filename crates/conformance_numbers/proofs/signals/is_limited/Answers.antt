@@ -9,7 +9,7 @@ use Rattle.value_laws.specs.Members.{ShapeOf}
 use Rattle.pl_signal.specs.declared.knot.Knot.{Knot}
 use Rattle.pl_signal.specs.Knots.{IsWorth}
 use Rattle.pl_signal.proofs.Limits.{limited}
-use Rattle.conformance_numbers.proofs.pl_signal_tests.is_limited.Goals as goal
+use Rattle.conformance_numbers.proofs.signals.is_limited.Goals as goal
 
 small_values : {P : Type 0} (shape : ShapeOf P) → ((x : P) (t : Rational) → IsBounded (2 ^ 31) (value_at (shape.function x) t)) → (ks : List (Knot P))
     → HasBounded (2 ^ 31) (IsWorth shape ks)
