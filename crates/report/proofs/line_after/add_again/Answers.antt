@@ -6,5 +6,6 @@ use Rattle.report.proofs.line_after.add_again.Goals as goal
 pub returns : goal.returns
 returns c =
     let text = c.args.text in
-    add_as (ap (take text.len) c.copy_from_slice.ensures.after ∙ take-take text.len (text.at + 32 - text.at) (drop text.at c.args.buf.now) (omega (arith, c.requires.short)))
-    c.add_part.ensures
+    let rest = drop text.at c.args.buf.now in
+    let same = ap (take text.len) c.copy_from_slice.ensures.after ∙ take-take text.len (text.at + 32 - text.at) rest (omega (arith, c.requires.short)) in
+    add_as same c.add_part.ensures
