@@ -4,7 +4,7 @@ use Rattle.rational.specs.Extended.{value_at}
 use Rattle.rational.proofs.AffineLemmas.{value_same}
 use Rattle.frac128.specs.Value.{value}
 use Rattle.envelope.proofs.Bests.{chosen_better, no_better_back, no_better_same, no_better_trans}
-use Rattle.online_robust.proofs.queue.better.Goals as goal
+use Rattle.online_robust.proofs.ever.better.Goals as goal
 
 pub returns : goal.returns
 returns g c =
