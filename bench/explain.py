@@ -6,9 +6,11 @@ is 0 there: of some 4 cells a row, 2 W + 1 are kept, which stand together. The e
 these places: the program does not count them. The bound is the proved one, 1 + (m + 1) d with 2^d at least n + 1, for m items and n cells.
 """
 import argparse
+import os
 import pathlib
 import resource
 import subprocess
+import sys
 import time
 
 ROOT = pathlib.Path(__file__).resolve().parent.parent
@@ -77,6 +79,8 @@ def main():
     parser.add_argument("--program", default=str(ROOT / "crates/stl_bench/out/stl_bench"))
     parser.add_argument("--runs", type=int, default=3)
     args = parser.parse_args()
+    if not os.path.isfile(args.program):
+        sys.exit(f"there is no {os.path.normpath(args.program)}: build it first, as README.md says")
     print(f"{'cells':>7}{'kept':>6}{'evaluations':>13}{'bound':>7}{'seconds':>9}")
     for rows in (250, 2500, 16383):
         text = trace(rows)

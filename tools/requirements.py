@@ -20,6 +20,8 @@ import time
 
 NAME = re.compile(r"(always\s+)?([A-Za-z0-9_.-]+)\s*:\s*(\S.*)\Z", re.DOTALL)
 SPAN = re.compile(r"([\[(])([0-9/]+),([0-9/]+)([\])]) (true|false)")
+# The last line of `check`, by its status.
+START = {0: "start true", 1: "start false"}
 LONGEST_ROW = 4096
 LONGEST_FILE = 10_000_000
 

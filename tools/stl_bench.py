@@ -153,10 +153,18 @@ def span(line):
     return Span(number(begin), number(end or begin), left + right, value, atom)
 
 
+def unless(answered, command):
+    """Refuses a run with a status of an answer that wrote none: it is of another program."""
+    if not answered:
+        raise Refused(f"{PROGRAM} {command} wrote no answer")
+
+
 def check(formula, data, step=(), command="check"):
     """The truth at the start, and the spans of one truth."""
     told = list(lines(command, formula, parts(data, step)))
-    return Answer(next((START[line] for line in told if line in START), None), [span(line) for line in told if line not in START])
+    start = next((START[line] for line in told if line in START), None)
+    unless(told and (start is not None or command == "robust"), command)
+    return Answer(start, [span(line) for line in told if line not in START])
 
 
 def explain(formula, data, step=()):
@@ -171,10 +179,16 @@ def robust(formula, data, step=()):
 
 def early(formula, data, step=()):
     """The time of the first row that settles the truth at the start, and this truth."""
-    row, start = lines("early", formula, parts(data, step))
+    told = list(lines("early", formula, parts(data, step)))
+    unless(len(told) == 2 and told[1] in START, "early")
+    row, start = told
     return Early(None if row == "decided at end" else number(row.removeprefix("decided at ")), START[start])
 
 
 def watch(formula, rows):
     """The spans as they are known, while `rows` gives the lines of a recording; at last the truth at the start."""
-    yield from (START[line] if line in START else span(line) for line in lines("watch", formula, (f"{row}\n" for row in rows)))
+    start = None
+    for line in lines("watch", formula, (f"{row}\n" for row in rows)):
+        start = START.get(line)
+        yield span(line) if start is None else start
+    unless(start is not None, "watch")

@@ -3,7 +3,16 @@ import importlib.machinery
 import importlib.util
 import os
 import shutil
+import signal
 import sys
+
+
+def help_of(about):
+    """Writes what a script does, and ends it, where its one word asks for that."""
+    if sys.argv[1:] in (["--help"], ["-h"]):
+        signal.signal(signal.SIGPIPE, signal.SIG_DFL)
+        print(about.strip())
+        sys.exit(0)
 
 
 def command():

@@ -199,6 +199,8 @@ def columns_of(chosen):
         if name not in by_name:
             raise Refused(f"--factor {words}: there is no such column")
         by_name[name].factor, by_name[name].scaled = decimal_of("--factor", name, factor), True
+        if not by_name[name].factor:
+            raise Refused(f"--factor {words}: every value would be 0")
     return columns
 
 

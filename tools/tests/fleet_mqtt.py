@@ -5,7 +5,7 @@ import sys
 import time
 
 import frame
-from serving import FORMULA, by_tag, ended, mixed, mosquitto, recordings, running, wait_for, watched
+from serving import FORMULA, ended, mixed, mosquitto, recordings, running, wait_for, watched
 
 KEEPS_ALL = ["max_queued_messages 0"]
 
@@ -42,7 +42,7 @@ def subscribed(bench, number):
 def verdicts():
     """What each bench was told so far."""
     lines = [line.removeprefix("bench/").replace("/verdicts", "", 1) for line in text_of("heard.txt").splitlines() if line.startswith("bench/")]
-    return by_tag("\n".join(lines))
+    return frame.by_tag("\n".join(lines))
 
 
 @frame.needs("mosquitto", "mosquitto_sub", "mosquitto_pub")
@@ -93,8 +93,8 @@ def test_a_shared_subscription_tears_recordings_apart(bench):
     for part in parts:
         frame.holds(part, "a member had no line")
         ordered = bench.tool("in_order", given=part)
-        told = by_tag(bench.run("stl_bench", "mux", FORMULA, given=ordered.out).out)
-        frame.same(sorted(told), sorted(by_tag(part)))
+        told = frame.by_tag(bench.run("stl_bench", "mux", FORMULA, given=ordered.out).out)
+        frame.same(sorted(told), sorted(frame.by_tag(part)))
         for tag, lines in told.items():
             frame.holds(lines[-1].startswith("line "), f"{tag} was told {lines}")
     frame.holds(any("is missing" in bench.tool("in_order", given=part).err for part in parts), "no line was missing")

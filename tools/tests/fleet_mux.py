@@ -1,6 +1,6 @@
 """One stream dealt to several processes, and what goes wrong where mux stands alone."""
 import frame
-from serving import FORMULA, by_tag, mixed, recordings, watched
+from serving import FORMULA, mixed, recordings, watched
 
 
 def stream(seed, benches=8, rows=40):
@@ -16,7 +16,7 @@ def test_lines_dealt_by_their_tag(bench):
     shards = ["parallel", "--will-cite", "--pipe", "--shard", "1", "--colsep", " ", "--jobs", "3", "--line-buffer", f"stl_bench mux '{FORMULA}'"]
     run = bench.run(*shards, given=text)
     frame.same(run.status, 0, run.err)
-    frame.same(by_tag(run.out), {tag: watched(bench, lines) for tag, lines in found.items()})
+    frame.same(frame.by_tag(run.out), {tag: watched(bench, lines) for tag, lines in found.items()})
 
 
 @frame.needs("parallel")
@@ -24,7 +24,7 @@ def test_lines_dealt_in_turn_tear_recordings_apart(bench):
     """What a shared subscription does, too: no bench is told what it would be told alone, and rows are taken for headers."""
     found, text = stream(2)
     dealt = ["parallel", "--will-cite", "--pipe", "--round-robin", "--max-lines", "1", "--block", "10", "--jobs", "3", "--line-buffer", f"stl_bench mux '{FORMULA}'"]
-    told = by_tag(bench.run(*dealt, given=text).out)
+    told = frame.by_tag(bench.run(*dealt, given=text).out)
     for tag, lines in found.items():
         frame.holds(told.get(tag) != watched(bench, lines), f"{tag} was told right")
     frame.holds(any("line 1: field 1" in line for lines in told.values() for line in lines), f"no row was taken for a header: {told}")
@@ -35,11 +35,11 @@ def test_the_end_of_the_input_is_taken_for_the_end_of_all_recordings(bench):
     formula = "always[0,100] x <= 5"
     cut = [("a", 1, "time,x"), ("a", 2, "0,1"), ("a", 3, "1,2")]
     alone = bench.run("stl_bench", "mux", formula, given="".join(f"{tag} {line}\n" for tag, _, line in cut))
-    frame.same(by_tag(alone.out)["a"][-1], "start true")
+    frame.same(frame.by_tag(alone.out)["a"][-1], "start true")
     whole = bench.run("stl_bench", "mux", formula, given="a time,x\na 0,1\na 1,2\na 2,9\na .\n")
-    frame.same(by_tag(whole.out)["a"][-1], "start false")
+    frame.same(frame.by_tag(whole.out)["a"][-1], "start false")
     ordered = bench.tool("in_order", given="".join(f"{tag} {number} {line}\n" for tag, number, line in cut))
-    told = by_tag(bench.run("stl_bench", "mux", formula, given=ordered.out).out)["a"]
+    told = frame.by_tag(bench.run("stl_bench", "mux", formula, given=ordered.out).out)["a"]
     frame.same(told[-1], "line 4: 1 fields")
     frame.holds(not any(line.startswith("start") for line in told), told)
 

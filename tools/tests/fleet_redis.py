@@ -3,7 +3,7 @@ import sys
 import time
 
 import frame
-from serving import FORMULA, by_tag, mixed, recordings, redis, running, wait_for, watched
+from serving import FORMULA, mixed, recordings, redis, running, wait_for, watched
 
 SOAK = frame.ROOT / "bench" / "soak.py"
 sys.path.insert(0, str(frame.TOOLS / "example"))
@@ -110,7 +110,7 @@ def test_a_consumer_group_misleads(bench):
         frame.same(sum(map(len, had.values())), len(lines))
         for some in had.values():
             ordered = bench.tool("in_order", given="".join(f"{line}\n" for line in some))
-            told = by_tag(bench.run("stl_bench", "mux", FORMULA, given=ordered.out).out)
+            told = frame.by_tag(bench.run("stl_bench", "mux", FORMULA, given=ordered.out).out)
             frame.same([lines[-1][:5] for lines in told.values()], ["line "] * len(told))
         frame.same(server.ask("XREADGROUP", "GROUP", "judges", "one", "COUNT", 100, "STREAMS", "all", "0"), [[b"all", []]])
 

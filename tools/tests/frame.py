@@ -89,6 +89,15 @@ def holds(truth, about):
         raise Failed(about)
 
 
+def by_tag(text):
+    """The lines behind each tag."""
+    found = {}
+    for line in text.splitlines():
+        tag, _, rest = line.partition(" ")
+        found.setdefault(tag, []).append(rest)
+    return found
+
+
 def mutants(texts, pieces, count, seed, most=4):
     """Texts as bytes, each with one to `most` places cut, doubled, overwritten by a piece or a byte, or exchanged, the same ones for one seed."""
     dice = random.Random(seed)

@@ -95,15 +95,6 @@ def watched(bench, lines, formula=FORMULA):
     return (run.out + run.err).splitlines()
 
 
-def by_tag(text):
-    """The lines behind each tag."""
-    found = {}
-    for line in text.splitlines():
-        tag, _, rest = line.partition(" ")
-        found.setdefault(tag, []).append(rest)
-    return found
-
-
 def ended(line):
     """Whether a bench is told nothing after this line."""
     return re.match(r"start |line ", line) is not None

@@ -76,6 +76,8 @@ def test_rows_refuse(bench):
         ("time v:1:step", "", "column v:1:step: after the name stand ramp or step, and then decimals from 0 to 6"),
         ("--factor w=2 time v", "", "--factor w=2: there is no such column"),
         ("--factor v=x time v", "", "--factor: v: 'x' is no number"),
+        ("--factor v=0 time v", "", "--factor v=0: every value would be 0"),
+        ("--skip -1 time v", "", "--skip -1: lines are passed over from 0 on"),
         ("time " + " ".join(f"v{k}" for k in range(65)), "", "65 columns beside time, and 64 fit"),
         ("time v", "time,v\n0,0.5\n", "line 2: v: 0.5 has more than 0 decimals (--round rounds it)"),
         ("time v", "time,v\n-1,0\n", "line 2: time -1 is out of range, which is 0 to 4294967295 (--from-first counts from the first row)"),

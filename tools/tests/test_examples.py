@@ -92,6 +92,6 @@ def test_pictures_are_drawn_or_refused_with_a_line(bench):
 
 
 def test_no_program_is_one_line(bench):
-    for script in ("tools/read_back", "tools/hostile", "tools/try_guide", "bench/bench.py", "bench/compare.py", "bench/mux.py", "bench/worst.py", "bench/fleet.py", "bench/soak.py"):
+    for script in ("tools/read_back", "tools/hostile", "tools/try_guide", "bench/bench.py", "bench/compare.py", "bench/explain.py", "bench/mux.py", "bench/worst.py", "bench/fleet.py", "bench/soak.py"):
         run = bench.run("python3", frame.ROOT / script, "--program", "nowhere").one_line([1])
         frame.same((run.out + run.err).count("\n"), 1, script)

@@ -26,20 +26,11 @@ def streams(seed, benches=5, rows=12):
     return found, lines
 
 
-def by_tag(text):
-    """The lines behind each tag."""
-    found = {}
-    for line in text.splitlines():
-        tag, _, rest = line.partition(" ")
-        found.setdefault(tag, []).append(rest)
-    return found
-
-
 def test_a_clean_stream_is_passed_on(bench):
     given, lines = streams(1)
     run = bench.tool("in_order", given="".join(given))
     run.ended(0, "".join(f"{tag} {line}\n" for tag, _, line in (text.rstrip("\n").split(" ", 2) for text in given)))
-    frame.same(by_tag(run.out), lines)
+    frame.same(frame.by_tag(run.out), lines)
     frame.same(bench.tool("in_order", given="".join(given).replace("\n", "\r\n")).ended(0, None).out, run.out)
     bench.tool("in_order").ended(0, "")
 
@@ -66,7 +57,7 @@ def test_a_gap(bench):
         frame.same((run.status, run.err), (0, f"in_order: a: line {lost} is missing\n"))
         frame.same([line for line in run.out.splitlines() if line.startswith("a")], [line[0] + line[3:] for line in whole[: lost - 1]] + ["a missing"])
         judged = bench.run("stl_bench", "mux", "x >= 6", given=run.out)
-        frame.same(by_tag(judged.out), {"a": told[lost], **by_tag(alone)})
+        frame.same(frame.by_tag(judged.out), {"a": told[lost], **frame.by_tag(alone)})
 
 
 def test_each_line_is_passed_on_before_the_next_is_read(bench):
@@ -97,6 +88,11 @@ def test_lines_that_are_refused(bench):
     longest = b"a" * 16 + b" 1 " + b"x" * 4096
     run = bench.tool("in_order", given=longest + b"\r\n" + b"a" * 16 + b" 2 .\n")
     run.ended(0, "a" * 16 + " " + "x" * 4096 + "\n" + "a" * 16 + " .\n")
+
+
+def test_words_are_not_taken(bench):
+    bench.tool("in_order", "carried.log").refused("usage: tools/in_order < LINES")
+    frame.holds(bench.tool("in_order", "--help").ended(0, None).out.startswith("Turns lines"), "what it does")
 
 
 def test_inputs_and_outputs_that_fail(bench):
@@ -130,9 +126,9 @@ def test_carriers_that_lose_and_double(bench):
     lost = 0
     for seed in range(25):
         given, lines = streams(seed, 4, 8)
-        clean = by_tag(bench.run("stl_bench", "mux", FORMULA, given="".join(f"{tag} {line}\n" for tag, some in lines.items() for line in some)).out)
+        clean = frame.by_tag(bench.run("stl_bench", "mux", FORMULA, given="".join(f"{tag} {line}\n" for tag, some in lines.items() for line in some)).out)
         carried = [line for line in given for _ in range(dice.choice([0, 1, 1, 1, 1, 1, 1, 1, 1, 2, 3]) if seed % 2 else dice.choice([1, 2]))]
-        told = by_tag(bench.run("stl_bench", "mux", FORMULA, given=bench.tool("in_order", given="".join(carried)).out).out)
+        told = frame.by_tag(bench.run("stl_bench", "mux", FORMULA, given=bench.tool("in_order", given="".join(carried)).out).out)
         for tag, some in told.items():
             if some != clean[tag]:
                 lost += 1

@@ -185,7 +185,7 @@ def test_lines_come_in_order(bench):
 
 def test_runs_go_on_beside_each_other(bench):
     """Each of four runs waits until all four have begun: so many are enough for `--jobs 4`, and one too many for `--jobs 3`."""
-    wait = "#!/bin/sh\necho begun >> begun\nfor n in $(seq 40); do\n  [ $(wc -l < begun) -lt 4 ] || { echo '[0,0] true'; exit 0; }\n  sleep 0.1\ndone\nexit 9\n"
+    wait = "#!/bin/sh\necho begun >> begun\nfor n in $(seq 40); do\n  [ $(wc -l < begun) -lt 4 ] || { echo 'start true'; exit 0; }\n  sleep 0.1\ndone\nexit 9\n"
     program = bench.script("program", wait)
     for jobs, status in (("4", 0), ("3", 2)):
         bench.write("begun", "")
@@ -210,6 +210,15 @@ def test_a_program_that_dies(bench):
     program = bench.script("nothing", "no program\n")
     run = judge(bench, "a: true\n", LATE, "--program", program)
     frame.holds(run.status == 2 and "Exec format error" in run.out and not run.err, run.out + run.err)
+
+
+def test_another_program_judges_nothing(bench):
+    """A status of 0 or 1 is a verdict only with the line that goes with it."""
+    for text in ("exit 0", "exit 1", "echo '[0,1] true'", "echo 'start false'", "echo 'start true'; exit 1", "echo 'start true'; echo more"):
+        program = bench.script("program", f"#!/bin/sh\n{text}\n")
+        for asked in ("a: true\n", "always a: true\n"):
+            run = judge(bench, asked, LATE, "--program", program)
+            run.ended(2, f"unjudged  a  {LATE}                {program} is not stl_bench\n1 asked: 0 hold, 0 fail, 1 unjudged\n")
 
 
 def interrupted(bench, number):

@@ -100,6 +100,10 @@ def test_a_class_for_each_status(bench):
             frame.same(refused(getattr(stl_bench, name), f"fault {status}", call, "true", RAMP).status, status)
     stl_bench.PROGRAM = bench.script("program", "#!/bin/sh\nexit 77\n")
     refused(stl_bench.Refused, "ended with 77", stl_bench.check, "true", RAMP)
+    stl_bench.PROGRAM = bench.script("program", "#!/bin/sh\ncat > /dev/null\n")
+    for call in (stl_bench.check, stl_bench.robust, stl_bench.explain, stl_bench.early):
+        refused(stl_bench.Refused, f"{stl_bench.PROGRAM} {call.__name__} wrote no answer", call, "true", RAMP)
+    refused(stl_bench.Refused, f"{stl_bench.PROGRAM} watch wrote no answer", lambda: list(stl_bench.watch("true", ["time", "0"])))
     stl_bench.PROGRAM = "no_such_program"
     try:
         stl_bench.check("true", RAMP)
