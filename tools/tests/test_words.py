@@ -1,4 +1,4 @@
-"""Tests of the scripts that work on the crates, in what needs no prover: what they do, and words that they do not take."""
+"""That each script says what it does, and what those that work on the crates say of words that they do not take; no prover is needed."""
 import sys
 
 import frame
@@ -9,11 +9,18 @@ SEED = "usage: tools/seed GATE, at the top of a checkout, where GATE is the top 
 UNPROVED = "usage: bench/unproved.py OUT, where OUT is the program to write"
 
 
-def test_each_says_what_it_does(bench):
-    for name in ("tools/edits", "tools/profile", "tools/seed", "bench/unproved.py"):
+def test_each_script_says_what_it_does(bench):
+    """Also into a pipe that nobody reads to its end, and a word that it does not take is no traceback."""
+    scripts = [path for folder in ("tools", "bench") for path in sorted((frame.ROOT / folder).glob("*")) if path.is_file() and path.read_bytes()[:2] == b"#!"]
+    frame.holds(len(scripts) > 25, f"{len(scripts)} scripts")
+    for path in scripts:
         for word in ("--help", "-h"):
-            said = bench.run(sys.executable, frame.ROOT / name, word).ended(0, None).out
-            frame.holds(f"    {name}" in said, f"{name} {word} says how it is called: {said}")
+            run = bench.run(path, word)
+            frame.holds(run.status == 0 and len(run.out.splitlines()) > 2 and not run.err, f"{path.name} {word}: {run.status}\n{run.out}{run.err}")
+        if path.name == "check_formula":  # what begins with - may be a formula
+            continue
+        run = bench.run(path, "--no-such-word")
+        frame.holds(run.status in (1, 2) and not run.out and "Traceback" not in run.err, f"{path.name} --no-such-word: {run.status}\n{run.out}{run.err}")
 
 
 def test_words_that_are_not_taken(bench):
