@@ -44,7 +44,7 @@ impl Lines {
     {
         Ok(Lines {
             begun: 0,
-            bytes: Vec::with_capacity(alloc, LONGEST).map_err(|_| Memory)?,
+            bytes: Vec::with_capacity(alloc, LONGEST)?,
         })
     }
 
