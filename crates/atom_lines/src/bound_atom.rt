@@ -2,7 +2,7 @@
 use stl_syntax::Rel;
 
 /// A column by its place, whether its values are steps, and by what it is multiplied.
-#[derive(Clone, Copy, Debug)]
+#[derive(Clone, Copy)]
 pub(crate) struct BoundTerm {
     pub(crate) coef: i32,
     pub(crate) column: usize,

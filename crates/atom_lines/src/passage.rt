@@ -4,7 +4,7 @@ ghost use Rattle.std.specs.Prelude.{◌<◌};
 use value_laws::Margin;
 
 /// A time in ticks, `floor + rest / den`, in no lowest terms.
-#[derive(Clone, Copy, Debug)]
+#[derive(Clone, Copy)]
 pub struct Crossing {
     /// The whole ticks.
     pub floor: u32,
@@ -16,7 +16,7 @@ pub struct Crossing {
 }
 
 /// How an atom's truth goes over the open gap between two rows.
-#[derive(Clone, Copy, Debug)]
+#[derive(Clone, Copy)]
 pub enum Passage {
     /// One truth on the whole gap.
     Steady(bool),
@@ -30,7 +30,7 @@ pub enum Passage {
 
 /// How an atom's truth goes from a row of a trace to a later one: it stays what it is at the first up to the row before the last, and
 /// then takes the last gap.
-#[derive(Clone, Copy, Debug)]
+#[derive(Clone, Copy)]
 pub struct Way {
     /// The row at which the way ends.
     pub row: usize,
@@ -43,7 +43,7 @@ pub struct Way {
 }
 
 /// A place at which a truth turns.
-#[derive(Clone, Copy, Debug)]
+#[derive(Clone, Copy)]
 pub struct Turning {
     /// The time.
     pub at: Crossing,
@@ -53,7 +53,7 @@ pub struct Turning {
 
 /// How an atom's truth goes from a row of a trace to a later one, by where it turns: it stays what it is at the first up to the row before
 /// the last, may turn once on the gap behind that row, and may turn once more at the last.
-#[derive(Clone, Copy, Debug)]
+#[derive(Clone, Copy)]
 pub struct Leg {
     /// The row at which the leg ends.
     pub row: usize,
@@ -66,7 +66,7 @@ pub struct Leg {
 }
 
 /// How an atom's margin goes from a row of a trace to a later one: along one line, or as one constant.
-#[derive(Clone, Copy, Debug)]
+#[derive(Clone, Copy)]
 pub struct MarginWay {
     /// The row at which the way ends.
     pub row: usize,

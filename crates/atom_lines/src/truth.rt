@@ -14,7 +14,7 @@ use stl_syntax::Rel;
 use value_laws::Truth;
 
 /// An atom's truth on the open gap between two rows.
-#[derive(Clone, Copy, Debug)]
+#[derive(Clone, Copy)]
 pub enum TruthPiece {
     /// One truth on the whole gap.
     Whole(Truth),

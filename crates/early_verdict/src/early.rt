@@ -34,7 +34,7 @@ pub enum EarlyFault {
 }
 
 /// Rows that a piece begins with.
-#[derive(Clone, Copy, Debug)]
+#[derive(Clone, Copy)]
 pub struct Taken {
     /// How many bytes they are.
     pub bytes: usize,

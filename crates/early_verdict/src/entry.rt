@@ -3,7 +3,7 @@
 use frac128::Cut;
 
 /// A row, or the end of the input.
-#[derive(Clone, Copy, Debug)]
+#[derive(Clone, Copy)]
 pub(crate) struct Entry {
     /// Just before the first row.
     pub(crate) start: Cut,

@@ -9,7 +9,7 @@ use crate::order::precedes;
 use frac128::Cut;
 
 /// The times between two places, of which there are some. Times are in ticks.
-#[derive(Clone, Copy, Debug)]
+#[derive(Clone, Copy)]
 pub struct Stretch {
     pub from: Cut,
     pub to: Cut,

@@ -7,7 +7,7 @@ use frac128::Cut;
 
 /// From a time the window goes from `low` to `high` ticks after it, each end in or out; without `low` it has no beginning. Behind,
 /// these are at or below 0.
-#[derive(Clone, Copy, Debug)]
+#[derive(Clone, Copy)]
 pub struct Window {
     pub low: Option<i64>,
     pub high: i64,

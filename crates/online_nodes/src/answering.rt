@@ -22,14 +22,14 @@ use crate::writer::Out;
 use frac128::{Cut, Memory};
 
 /// What an operator keeps in mind: up to where what was read counts, and where the left input's run began.
-#[derive(Clone, Copy, Debug)]
+#[derive(Clone, Copy)]
 pub(crate) struct Marks {
     pub(crate) reach: Cut,
     pub(crate) run: Cut,
 }
 
 /// What was written of a stretch, and what is kept in mind then.
-#[derive(Clone, Copy, Debug)]
+#[derive(Clone, Copy)]
 pub(crate) struct Outcome {
     pub(crate) out: Out,
     pub(crate) marks: Marks,

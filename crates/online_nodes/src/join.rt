@@ -13,7 +13,7 @@ use frac128::{Cut, Memory};
 use stl_syntax::Verdict;
 
 /// A connective of two inputs.
-#[derive(Clone, Copy, Debug)]
+#[derive(Clone, Copy)]
 pub(crate) enum Join {
     And,
     Or,
@@ -34,7 +34,7 @@ impl Join {
 }
 
 /// The node's two inputs.
-#[derive(Clone, Copy, Debug)]
+#[derive(Clone, Copy)]
 pub(crate) struct Inputs {
     pub(crate) left: u32,
     pub(crate) right: u32,

@@ -15,7 +15,7 @@ use crate::window::Window;
 use stl_syntax::Node;
 
 /// What an operator does with its inputs.
-#[derive(Clone, Copy, Debug)]
+#[derive(Clone, Copy)]
 pub(crate) enum Kind {
     Const(bool),
     Not(u32),

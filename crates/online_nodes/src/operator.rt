@@ -20,7 +20,7 @@ use stl_syntax::Formula;
 ///
 /// `reach` says up to where what was read counts, and `run` where the run of the left input of since began; both are set at the
 /// first answer.
-#[derive(Clone, Copy, Debug)]
+#[derive(Clone, Copy)]
 pub struct Operator {
     node: u32,
     kind: Kind,

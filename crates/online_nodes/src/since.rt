@@ -18,14 +18,14 @@ use frac128::{Cut, Memory};
 use stl_syntax::Verdict;
 
 /// Since by its right input's window, whose `of` is the left input, and the right input.
-#[derive(Clone, Copy, Debug)]
+#[derive(Clone, Copy)]
 pub(crate) struct Since {
     pub(crate) window: Window,
     pub(crate) right: u32,
 }
 
 /// What was written of a stretch, up to where what was found counts, and where the left input's run began.
-#[derive(Clone, Copy, Debug)]
+#[derive(Clone, Copy)]
 pub(crate) struct Wrote {
     pub(crate) out: Out,
     pub(crate) reach: Cut,
@@ -33,7 +33,7 @@ pub(crate) struct Wrote {
 }
 
 /// One step: a verdict was read, or the stretch is told to its end.
-#[derive(Clone, Copy, Debug)]
+#[derive(Clone, Copy)]
 enum Step {
     More(Wrote),
     Done(Wrote),

@@ -15,7 +15,7 @@ use frac128::{Cut, Memory};
 use stl_syntax::Verdict;
 
 /// Until by its right input's window, whose `of` is the left input, and the right input.
-#[derive(Clone, Copy, Debug)]
+#[derive(Clone, Copy)]
 pub(crate) struct Until {
     pub(crate) window: Window,
     pub(crate) right: u32,

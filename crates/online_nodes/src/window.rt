@@ -17,7 +17,7 @@ use stl_syntax::Verdict;
 
 /// A window by what a time that was found counts for: from `begin_by` later to `end_by` later, each end in or out.
 /// The widest fields stand first, so that an operator takes two lines of the cache in place of three.
-#[derive(Clone, Copy, Debug)]
+#[derive(Clone, Copy)]
 pub(crate) struct Window {
     pub(crate) begin_by: i64,
     pub(crate) end_by: i64,
@@ -29,7 +29,7 @@ pub(crate) struct Window {
 }
 
 /// What was written of a stretch, and up to where what was found counts.
-#[derive(Clone, Copy, Debug)]
+#[derive(Clone, Copy)]
 pub(crate) struct Sweep {
     pub(crate) out: Out,
     pub(crate) reach: Cut,

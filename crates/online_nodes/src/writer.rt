@@ -12,7 +12,7 @@ use stl_syntax::Verdict;
 
 /// Writes the verdicts of a stretch onto an edge. Each call says the verdict from where the last one ended; neighbours that
 /// agree become one span. A call may say more than the stretch: what lies beyond its end is left out.
-#[derive(Clone, Copy, Debug)]
+#[derive(Clone, Copy)]
 pub struct Out {
     edge: u32,
     from: Cut,

@@ -10,7 +10,7 @@ use value_laws::{Margin, Shape};
 
 /// The gap about an end of the window, up to where it is known to go. Before the start, and after the end of the input, it is the
 /// value of no time, and stands on no edge.
-#[derive(Clone, Copy, Debug)]
+#[derive(Clone, Copy)]
 pub(crate) struct Rim {
     pub(crate) shape: Margin,
     pub(crate) until: Option<Frac>,

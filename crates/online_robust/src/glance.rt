@@ -20,7 +20,7 @@ use std::cmp::Ordering;
 use value_laws::{Margin, Shape};
 
 /// A window that at t has the time t + by alone, where it is in; and up to where it was told.
-#[derive(Clone, Copy, Debug)]
+#[derive(Clone, Copy)]
 pub(crate) struct Moved {
     pub(crate) of: u32,
     /// The greatest is wanted, or the least: the value of no times is the least, or the greatest.
@@ -31,7 +31,7 @@ pub(crate) struct Moved {
 }
 
 /// A step: the margin on the way, and the margin where it ends.
-#[derive(Clone, Copy, Debug)]
+#[derive(Clone, Copy)]
 struct Stride {
     shape: Margin,
     to: Reached,

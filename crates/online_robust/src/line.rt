@@ -17,7 +17,7 @@ pub enum MarginLine {
 }
 
 /// The margin of a node at the time up to which it was told.
-#[derive(Clone, Copy, Debug)]
+#[derive(Clone, Copy)]
 pub(crate) struct Reached {
     pub(crate) at: Frac,
     pub(crate) value: Margin,

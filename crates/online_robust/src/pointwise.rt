@@ -24,14 +24,14 @@ use std::cmp::Ordering;
 use value_laws::{Margin, Shape};
 
 /// A negation, and up to where it was told.
-#[derive(Clone, Copy, Debug)]
+#[derive(Clone, Copy)]
 pub(crate) struct Not {
     pub(crate) of: u32,
     pub(crate) last: Option<Reached>,
 }
 
 /// A connective: the least or the greatest of its inputs, the left one negated before; and up to where it was told.
-#[derive(Clone, Copy, Debug)]
+#[derive(Clone, Copy)]
 pub(crate) struct Two {
     pub(crate) left: u32,
     pub(crate) right: u32,

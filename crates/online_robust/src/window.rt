@@ -37,7 +37,7 @@ use std::cmp::Ordering;
 use value_laws::{Margin, Shape};
 
 /// A window: at t it goes from t + low to t + high, each end in or out. The one end lies before the other.
-#[derive(Clone, Copy, Debug)]
+#[derive(Clone, Copy)]
 pub(crate) struct Window {
     pub(crate) of: u32,
     /// The greatest is wanted, or the least.
@@ -49,7 +49,7 @@ pub(crate) struct Window {
 }
 
 /// Where a window stands: the time from which its ends are counted, and the gap about each end.
-#[derive(Clone, Copy, Debug)]
+#[derive(Clone, Copy)]
 pub(crate) struct Place {
     pub(crate) at: Frac,
     pub(crate) low: Rim,

@@ -14,7 +14,7 @@ use std::cmp::Ordering;
 use value_laws::Shape;
 
 /// Which of two values is wanted at a time.
-#[derive(Clone, Copy, Debug)]
+#[derive(Clone, Copy)]
 pub enum Side {
     /// The least of the two.
     Least,

@@ -20,7 +20,7 @@ pub struct Sample<P> {
 }
 
 /// The earlier of two times, and whether each of the two is it.
-#[derive(Clone, Copy, Debug)]
+#[derive(Clone, Copy)]
 pub struct Next {
     pub time: Frac,
     pub left: bool,

@@ -15,7 +15,7 @@ use stl_syntax::{Scale, Text, Verdict};
 const ROOM: usize = 256;
 
 /// The time that was written last, with its text, so that it need not be made again, and room for a line. Contracts see the time.
-#[derive(Debug, Drop)]
+#[derive(Drop)]
 pub struct LastTime {
     text: TimeText,
     line: [u8; ROOM],

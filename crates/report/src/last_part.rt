@@ -10,7 +10,7 @@ use crate::margin_lines::KnotTexts;
 const ROOM: usize = 448;
 
 /// The time that was written last, and the value that was, each with its text, so that they need not be made again, and room for a line.
-#[derive(Debug, Drop)]
+#[derive(Drop)]
 pub struct LastPart {
     pub(crate) texts: KnotTexts,
     pub(crate) line: [u8; ROOM],

@@ -19,7 +19,7 @@ use stl_syntax::Scale;
 use value_laws::Margin;
 
 /// The time that was written last, and the value that was, each with its text, so that they need not be made again.
-#[derive(Debug, Drop)]
+#[derive(Drop)]
 pub(crate) struct KnotTexts {
     pub(crate) time: TimeText,
     pub(crate) value: ValueText,

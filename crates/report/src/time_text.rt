@@ -13,7 +13,7 @@ use frac128::Frac;
 use std::marker::Model;
 
 /// A time with its text, in units of a scale with `digits` decimals of times. The text stands in `room` from `from` on.
-#[derive(Debug, Drop)]
+#[derive(Drop)]
 pub(crate) struct TimeText {
     time: Frac,
     digits: u8,

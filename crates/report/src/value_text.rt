@@ -22,14 +22,14 @@ use std::marker::Model;
 use value_laws::{Margin, Shape};
 
 /// A value of a margin: a whole number of ticks, or what it is at a time.
-#[derive(Clone, Copy, Debug)]
+#[derive(Clone, Copy)]
 pub(crate) enum Shown {
     Whole(i64),
     At(Margin, Frac),
 }
 
 /// A value with its text, in units of a scale with `digits` decimals of values. The text stands in `room` from `from` on.
-#[derive(Debug, Drop)]
+#[derive(Drop)]
 pub(crate) struct ValueText {
     shown: Shown,
     digits: u8,

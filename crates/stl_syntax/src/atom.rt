@@ -10,7 +10,7 @@ use std::alloc::{AllocError, Global};
 use std::marker::Model;
 
 /// A column times a whole number, its coefficient.
-#[derive(Debug, Drop)]
+#[derive(Drop)]
 pub struct Term {
     coef: i32,
     name: Name,
@@ -78,7 +78,7 @@ impl Clone for Term {
 }
 
 /// A sum of terms, compared with a constant in ticks.
-#[derive(Debug, Drop)]
+#[derive(Drop)]
 pub struct Atom {
     terms: Vec<Term>,
     rel: Rel,

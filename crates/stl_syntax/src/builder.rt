@@ -10,7 +10,7 @@ use std::alloc::Global;
 use std::marker::Model;
 
 /// The nodes of a formula that is being built, in post-order.
-#[derive(Debug, Drop)]
+#[derive(Drop)]
 pub struct FormulaBuilder {
     nodes: Vec<Node>,
 }

@@ -9,7 +9,7 @@ use std::marker::Model;
 /// A formula of signal temporal logic: 1 to 256 nodes in post-order, each but the last, the root, used once as a child.
 ///
 /// Its numbers are ticks of its scale, and all are within the limits of the language.
-#[derive(Debug, Clone, Drop)]
+#[derive(Clone, Drop)]
 pub struct Formula {
     nodes: Vec<Node>,
     scale: Scale,

@@ -21,7 +21,7 @@ pub struct Item {
 }
 
 /// The items of an explanation.
-#[derive(Debug, Drop)]
+#[derive(Drop)]
 pub struct Items {
     list: Vec<Item>,
 }

@@ -8,7 +8,7 @@ use crate::Atom;
 use std::alloc::AllocError;
 
 /// A node of a formula; its children are named by their places in post-order.
-#[derive(Debug, Drop)]
+#[derive(Drop)]
 pub enum Node {
     Const(bool),
     Atom(Atom),

@@ -2,7 +2,7 @@
 use crate::turn::Turn;
 
 /// The times behind one place and up to another, which are all in a set or all out of it.
-#[derive(Clone, Copy, Debug)]
+#[derive(Clone, Copy)]
 pub struct Span {
     /// The place behind which its times lie.
     pub from: Turn,

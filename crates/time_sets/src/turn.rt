@@ -7,7 +7,7 @@ use std::cmp::Ordering;
 
 /// The place just before a time, or just after it: twice the floor of the time, with "just after" in the lowest bit, and above the
 /// floor `rest / den`, in no lowest terms.
-#[derive(Clone, Copy, Debug)]
+#[derive(Clone, Copy)]
 pub struct Turn {
     twice: i64,
     rest: u32,

@@ -8,7 +8,7 @@ use crate::turn::Turn;
 
 /// The times from `low` ticks after a time to `high` ticks after it; with no `low` all times up to there. A window behind has negative
 /// numbers.
-#[derive(Clone, Copy, Debug)]
+#[derive(Clone, Copy)]
 pub struct Window {
     /// How many ticks after the time it begins.
     pub low: Option<i64>,

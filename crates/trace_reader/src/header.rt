@@ -55,7 +55,7 @@ impl Label {
         ensures { IfOk result (λ l. column_of l ≡ column_of self.now) }
     {
         Ok(Label {
-            name: String::from_str(alloc, self.name.as_str()).map_err(|_| Memory)?,
+            name: String::from_str(alloc, self.name.as_str())?,
             step: self.step,
         })
     }
@@ -117,9 +117,9 @@ impl Header {
     pub fn copy(&self) -> Result<Header, Memory>
         ensures { IfOk result (λ h. h ≡ self.now) }
     {
-        let mut labels = Vec::with_capacity(self.alloc, self.labels.len()).map_err(|_| Memory)?;
+        let mut labels = Vec::with_capacity(self.alloc, self.labels.len())?;
         for label in &self.labels {
-            labels.push(label.copy(self.alloc)?).map_err(|_| Memory)?;
+            labels.push(label.copy(self.alloc)?)?;
         }
         Ok(Header {
             alloc: self.alloc,

@@ -7,7 +7,7 @@ use std::marker::Model;
 const LONGEST: usize = 4096;
 
 /// A line that breaks a limit.
-#[derive(Clone, Copy, Debug, PartialEq, Eq)]
+#[derive(Clone, Copy)]
 pub(crate) enum LineFault {
     /// More lines were begun than may be.
     TooMany,
@@ -44,7 +44,7 @@ impl Lines {
     {
         Ok(Lines {
             begun: 0,
-            bytes: Vec::with_capacity(alloc, LONGEST).map_err(|_| Memory)?,
+            bytes: Vec::with_capacity(alloc, LONGEST)?,
         })
     }
 

@@ -25,7 +25,7 @@ impl NameRoom {
 
     fn new(alloc: Global) -> Result<NameRoom, Memory> {
         Ok(NameRoom {
-            text: String::with_capacity(alloc, LONGEST_NAME).map_err(|_| Memory)?,
+            text: String::with_capacity(alloc, LONGEST_NAME)?,
         })
     }
 
@@ -76,15 +76,15 @@ impl HeadingRoom {
     pub(crate) fn new(alloc: Global) -> Result<HeadingRoom, Memory>
         ensures { IfOk result (λ r. r ≡ record { columns = []; digits = [] }) }
     {
-        let mut spare = Vec::with_capacity(alloc, MOST_COLUMNS).map_err(|_| Memory)?;
+        let mut spare = Vec::with_capacity(alloc, MOST_COLUMNS)?;
         for _name in 0..MOST_COLUMNS {
-            spare.push(NameRoom::new(alloc)?).map_err(|_| Memory)?;
+            spare.push(NameRoom::new(alloc)?)?;
         }
         Ok(HeadingRoom {
             alloc,
             spare,
-            labels: Vec::with_capacity(alloc, MOST_COLUMNS).map_err(|_| Memory)?,
-            digits: Vec::with_capacity(alloc, MOST_COLUMNS).map_err(|_| Memory)?,
+            labels: Vec::with_capacity(alloc, MOST_COLUMNS)?,
+            digits: Vec::with_capacity(alloc, MOST_COLUMNS)?,
         })
     }
 

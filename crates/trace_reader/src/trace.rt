@@ -86,8 +86,8 @@ impl Trace {
         ensures err { OnErr result (self.new ≡ self.old) }
     {
         let values = row.values();
-        self.values.try_reserve(values.len()).map_err(|_| Memory)?;
-        self.times.push(row.time()).map_err(|_| Memory)?;
+        self.values.try_reserve(values.len())?;
+        self.times.push(row.time())?;
         add_all(&mut self.values, values);
         Ok(())
     }

@@ -12,8 +12,8 @@ returns c =
     let tr = c.args.trace.now in
     let next = c.step_from-step.result.next in
     let more : c.args.at < c.args.last = omega arith in
-    let sum : to_z w64 (of_z w64 c.args.sum) ≡ c.args.sum = search (rules, to_z-of_z) in
-    let from : to_z w64 (of_z w64 c.args.from) ≡ c.args.from = search (rules, to_z-of_z) in
+    let sum : to_z w64 (of_z w64 c.args.sum) ≡ c.args.sum = to_z-of_z w64 c.args.sum c.ranges.sum in
+    let from : to_z w64 (of_z w64 c.args.from) ≡ c.args.from = to_z-of_z w64 c.args.from c.ranges.from in
     let begin : to_z w64 (of_z w64 g.from) ≡ g.from = search (rules, to_z-of_z) in
     let end : to_z w64 (of_z w64 g.to) ≡ g.to = search (rules, to_z-of_z) in (
       more,

@@ -42,7 +42,7 @@ returns-then-holds c =
     let end : to_z w64 (of_z w64 c.from.result) ≡ pos g.second = search (rules, to_z-of_z) in
     let is : value c.of-end.result ≈ whole (pos g.second) = rw end at c.of-end.ensures.value in
     let from : to_z w64 (of_z w64 g.from) ≡ g.from = search (rules, to_z-of_z) in
-    let then : to_z w64 (of_z w64 c.args.next) ≡ c.args.next = search (rules, to_z-of_z) in
+    let then : to_z w64 (of_z w64 c.args.next) ≡ c.args.next = to_z-of_z w64 c.args.next c.ranges.next in
     let alike : c.truth_at-before.result.holds ≡ c.truth_at-after.result.holds = search rules in
     let was : compares rel (whole g.from) ≡ c.truth_at-after.result.holds =
     ap (λ n. compares rel (whole n)) (sym from) ∙ sym c.truth_at-before.ensures ∙ alike in
@@ -71,7 +71,7 @@ returns c =
     let end : to_z w64 (of_z w64 c.from.result) ≡ pos g.second = search (rules, to_z-of_z) in
     let is : value c.of-end.result ≈ whole (pos g.second) = rw end at c.of-end.ensures.value in
     let from : to_z w64 (of_z w64 g.from) ≡ g.from = search (rules, to_z-of_z) in
-    let then : to_z w64 (of_z w64 c.args.next) ≡ c.args.next = search (rules, to_z-of_z) in
+    let then : to_z w64 (of_z w64 c.args.next) ≡ c.args.next = to_z-of_z w64 c.args.next c.ranges.next in
     let was : compares rel (whole g.from) ≡ c.truth_at-before.result.holds = ap (λ n. compares rel (whole n)) (sym from) ∙ sym c.truth_at-before.ensures in
     let sum : compares rel (whole (g.from +ℤ g.to)) ≡ c.truth_at-after.result.holds = search rules in
     let last : compares rel (whole c.args.next) ≡ c.truth_at-last.result.holds =

@@ -22,7 +22,7 @@ returns g c =
     let time : to_z w64 (of_z w64 c.from.result) ≡ pos c.time.result = search (rules, to_z-of_z) in
     let is : value c.of-at.result ≈ whole (pos c.time.result) = rw time at c.of-at.ensures.value in
     let when : value c.of-at.result ≈ row_time (row_of tr 0) = subst (λ n. value c.of-at.result ≈ whole (pos n)) (c.time.ensures d) is in
-    let same : to_z w64 (of_z w64 c.args.from) ≡ c.args.from = search (rules, to_z-of_z) in
+    let same : to_z w64 (of_z w64 c.args.from) ≡ c.args.from = to_z-of_z w64 c.args.from c.ranges.from in
     let here : (t : Rational) → value_at (g.P.Shape.function c.point.result) t ≈ᵉ worth g.P.Piecewise.read_as k.rel (whole c.args.from) =
     λ t. subst (λ n. value_at (g.P.Shape.function c.point.result) t ≈ᵉ worth g.P.Piecewise.read_as k.rel (whole n)) same (c.point.ensures.worth t) in
     let time_fits : c.time.result < 4294967296 = omega arith in

@@ -1,4 +1,4 @@
-use Rattle.std.proofs.Common.{rules, ◌≡◌, ◌<◌, ◌≤◌, ◌^◌, ◌-◌, ◌∙◌, nat_abs, pos, suc, ap, sym, subst, length, to_z, of_z, [], arith}
+use Rattle.std.proofs.Common.{◌≡◌, ◌<◌, ◌≤◌, ◌^◌, ◌-◌, ◌∙◌, nat_abs, pos, suc, ap, sym, subst, length, to_z, of_z, [], arith}
 use Rattle.std.specs.Int.{w64}
 use Rattle.std.proofs.lemmas.Int.{to_z-of_z}
 use Rattle.rational.specs.Rational.{Rational, whole}
@@ -38,7 +38,7 @@ returns g c =
     let reached = c.requires.from k c.atom-atom.ensures.at in
     let size : nat_abs c.args.from ≤ 2 ^ 31 =
     subst (λ n. nat_abs n ≤ 2 ^ 31) (sym reached.0.sum) (reach_small k (values_at tr n) (values_at tr n) reached.1 reached.0.small) in
-    let same : to_z w64 (of_z w64 c.args.from) ≡ c.args.from = search (rules, to_z-of_z) in
+    let same : to_z w64 (of_z w64 c.args.from) ≡ c.args.from = to_z-of_z w64 c.args.from c.ranges.from in
     let here : (t : Rational) → value_at (g.P.Shape.function c.point.result) t ≈ᵉ worth g.P.Piecewise.read_as k.rel (whole c.args.from) =
     λ t. subst (λ n. value_at (g.P.Shape.function c.point.result) t ≈ᵉ worth g.P.Piecewise.read_as k.rel (whole n)) same (c.point.ensures.worth t) in
     subst (IsAtomSignal g.P.Shape (reading_of g.P.Piecewise.read_as) b c.args.node tr) (sym c.finish.ensures.value)

@@ -1,4 +1,4 @@
-use Rattle.std.proofs.Common.{rules, refl, ◌≡◌, inl, inr, ap, sym, subst, ◌∙◌, arith, to_z, of_z, to_z-of_z}
+use Rattle.std.proofs.Common.{rules, refl, ◌≡◌, ◌<◌, length, slice_get, inl, inr, ap, sym, subst, ◌∙◌, arith, to_z, of_z, to_z-of_z}
 use Rattle.std.specs.Int.{w64}
 use Rattle.std.proofs.lemmas.Bool.{true≢false}
 use Rattle.rational.specs.Rational.{FitsFloor, add, whole}
@@ -6,13 +6,15 @@ use Rattle.frac128.specs.Spans.{interval}
 use Rattle.frac128.specs.Value.{value}
 use Rattle.rational.specs.Places.{Place, begins, ends, moved_end, AtMost, Before, Same, Upto}
 use Rattle.frac128.specs.Cuts.{place}
-use Rattle.online_nodes.specs.Held.{fresh_at}
+use Rattle.online_nodes.specs.Held.{fresh_at, Edge}
 use Rattle.online_nodes.specs.Working.{HasPassed}
 use Rattle.stl_syntax.specs.declared.items.Verdict.{Verdict}
 use Rattle.frac128.specs.declared.cut.Cut.{Cut}
 use Rattle.online_nodes.proofs.JoinLemmas.{same_first}
 use Rattle.rational.proofs.PlaceLemmas.{at_most_of_not_before}
 use Rattle.rational.proofs.Lists.{on_err_anyway}
+use Rattle.std.proofs.lemmas.Option.{slice_get_within}
+use Rattle.online_nodes.proofs.GotLemmas.{got-length, got-other}
 use Rattle.online_nodes.proofs.Sweeping.{begin_alike, end_alike, fits_alike}
 use Rattle.online_nodes.proofs.SinceCounts.{IsFound}
 use Rattle.online_nodes.proofs.SinceReads.{AreBoth, found_turn, go_on_turn, not_in_run, not_in_stretch, stale_over}
@@ -112,6 +114,54 @@ shift_end-requires c =
 pub pass_first-requires-clause-inside : goal.pass_first-requires-clause-inside
 pass_first-requires-clause-inside c t h =
     let said = c.in_ok-out.ensures.said in subst (λ (q : Cut). Upto (place q) t) (sym said.end) (said.inside t h)
+
+pub pass_first-requires-clause-left : goal.pass_first-requires-clause-left
+pass_first-requires-clause-left c =
+    subst (λ n. c.args.since.window.of < n) (sym (got-length c.in_ok-out.ensures.said.got)) c.requires.left
+
+pub pass_first-requires-clause-right : goal.pass_first-requires-clause-right
+pass_first-requires-clause-right c = subst (λ n. c.args.since.right < n) (sym (got-length c.in_ok-out.ensures.said.got)) c.requires.right
+
+pub pass_first-requires-clause-own : goal.pass_first-requires-clause-own
+pass_first-requires-clause-own c =
+    let said = c.in_ok-out.ensures.said in
+    subst (λ i. i < length c.turn.new.edges.edges) (sym said.edge) (subst (λ n. c.args.course.out.edge < n) (sym (got-length said.got)) c.requires.own)
+
+pub pass_first-requires-clause-sound : goal.pass_first-requires-clause-sound
+pass_first-requires-clause-sound c = c.in_ok-out.ensures.said.sound
+
+pub pass_first-requires-clause-first_left : goal.pass_first-requires-clause-first_left
+pass_first-requires-clause-first_left c =
+    ap (λ (e : Edge). slice_get e.fresh 0) (got-other c.in_ok-out.ensures.said.got c.args.since.window.of c.requires.left_apart) ∙ c.requires.first_left
+
+pub pass_first-requires-clause-first_right : goal.pass_first-requires-clause-first_right
+pass_first-requires-clause-first_right c =
+    ap (λ (e : Edge). slice_get e.fresh 0) (got-other c.in_ok-out.ensures.said.got c.args.since.right c.requires.right_apart) ∙ c.requires.first_right
+
+pub pass_first-requires-clause-fits_right : goal.pass_first-requires-clause-fits_right
+pass_first-requires-clause-fits_right c = c.requires.fits_right
+
+pub pass-requires : goal.pass-requires
+pass-requires c = record {
+  edge = c.requires.right;
+  some = slice_get_within (fresh_at c.args.edges.now c.args.since.right) 0 c.args.w c.requires.first_right;
+}
+
+pub go_on-requires : goal.go_on-requires
+go_on-requires c = record {
+  left = c.requires.left;
+  own = c.requires.own;
+  left_apart = c.requires.left_apart;
+  sound = c.requires.sound;
+  inside = c.requires.inside;
+  first = c.requires.first_left;
+}
+
+pub rest-requires : goal.rest-requires
+rest-requires c = record { own = c.requires.own; sound = c.requires.sound; inside = c.requires.inside }
+
+pub turn-requires : goal.turn-requires
+turn-requires c = record { edge = c.requires.own; inside = c.requires.inside; sound = c.requires.sound }
 
 pub returns-in_err-turn-2-clause-memory : goal.returns-in_err-turn-2-clause-memory
 returns-in_err-turn-2-clause-memory c =

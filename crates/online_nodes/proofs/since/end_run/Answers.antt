@@ -1,13 +1,15 @@
-use Rattle.std.proofs.Common.{inl, inr, ap, sym, subst, ◌∙◌, arith}
+use Rattle.std.proofs.Common.{◌<◌, slice_get, inl, inr, ap, sym, subst, ◌∙◌, arith}
 use Rattle.frac128.specs.Spans.{interval}
 use Rattle.std.specs.Int.{w64}
 use Rattle.std.proofs.lemmas.Bool.{true≢false}
+use Rattle.std.proofs.lemmas.Option.{slice_get_within}
+use Rattle.online_nodes.specs.Held.{fresh_at, Edge}
 use Rattle.rational.specs.Rational.{Rational, FitsFloor, add, whole}
 use Rattle.rational.specs.Places.{Place, begins, ends, AtMost, Before, Upto}
 use Rattle.frac128.specs.Cuts.{place}
 use Rattle.online_nodes.specs.Working.{HasPassed}
 use Rattle.frac128.specs.declared.cut.Cut.{Cut}
-use Rattle.online_nodes.proofs.GotLemmas.{got-length}
+use Rattle.online_nodes.proofs.GotLemmas.{got-length, got-other}
 use Rattle.rational.proofs.PlaceLemmas.{at_most_of_not_before}
 use Rattle.online_nodes.proofs.SinceTurns.{IsWorking, run_over}
 use Rattle.online_nodes.proofs.SinceEnds.{ends_here, ends_later}
@@ -77,3 +79,19 @@ returns-clause-turned c =
     passed
     (subst (λ (q : Rational). FitsFloor w64 (add q (whole c.args.since.window.begin_by))) (sym (ap (λ (q : Place). q.at) v_end))
     c.requires.fits_left.1)
+
+pub turn-requires : goal.turn-requires
+turn-requires c = record { edge = c.requires.own; inside = c.requires.inside; sound = c.requires.sound }
+
+pub turn-requires-2 : goal.turn-requires-2
+turn-requires-2 c = record { edge = c.requires.own; inside = c.requires.inside; sound = c.requires.sound }
+
+pub pass-requires : goal.pass-requires
+pass-requires c =
+    let of = c.args.since.window.of in
+    let got = c.in_ok-out-2.ensures.said.got in
+    record {
+      edge = subst (λ n. of < n) (sym (got-length got)) c.requires.left;
+      some = slice_get_within (fresh_at c.turn-2.new.edges of) 0 c.args.v
+          (ap (λ (e : Edge). slice_get e.fresh 0) (got-other got of c.requires.left_apart) ∙ c.requires.first);
+    }

@@ -1,8 +1,9 @@
-use Rattle.std.proofs.Common.{slice_get, refl, ◌≡◌, ap, sym, subst, ◌∙◌, arith}
+use Rattle.std.proofs.Common.{slice_get, refl, ◌≡◌, ◌<◌, ap, sym, subst, ◌∙◌, arith}
+use Rattle.std.proofs.lemmas.Option.{slice_get_within}
 use Rattle.frac128.specs.Spans.{interval}
 use Rattle.rational.specs.Places.{Place, ends, AtMost, Before, Upto}
 use Rattle.frac128.specs.Cuts.{place}
-use Rattle.online_nodes.specs.Held.{fresh_at}
+use Rattle.online_nodes.specs.Held.{fresh_at, Edge}
 use Rattle.online_nodes.specs.Working.{HasPassed}
 use Rattle.stl_syntax.specs.declared.items.Verdict.{Verdict}
 use Rattle.frac128.specs.declared.cut.Cut.{Cut}
@@ -49,4 +50,20 @@ returns-clause-gone c =
           (λ b. let x = c.precedes.ensures.1 b in let y = c.if-precedes.false in cc)));
       reach = refl;
       run = refl;
+    }
+
+pub rest-requires : goal.rest-requires
+rest-requires c = record { own = c.requires.own; sound = c.requires.sound; inside = c.requires.inside }
+
+pub turn-requires : goal.turn-requires
+turn-requires c = record { edge = c.requires.own; inside = c.requires.inside; sound = c.requires.sound }
+
+pub pass-requires : goal.pass-requires
+pass-requires c =
+    let of = c.args.since.window.of in
+    let got = c.in_ok-out.ensures.said.got in
+    record {
+      edge = subst (λ n. of < n) (sym (got-length got)) c.requires.left;
+      some = slice_get_within (fresh_at c.turn.new.edges of) 0 c.args.v
+          (ap (λ (e : Edge). slice_get e.fresh 0) (got-other got of c.requires.left_apart) ∙ c.requires.first);
     }

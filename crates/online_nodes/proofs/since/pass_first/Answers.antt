@@ -1,6 +1,7 @@
 use Rattle.std.proofs.Common.{sym, ◌∙◌, rules, refl, ◌≡◌, inl, inr, ap, subst, to_z, of_z, to_z-of_z}
 use Rattle.std.specs.Int.{w64}
 use Rattle.std.proofs.lemmas.Bool.{true≢false}
+use Rattle.std.proofs.lemmas.Option.{slice_get_within}
 use Rattle.frac128.specs.Spans.{interval}
 use Rattle.frac128.specs.Value.{value}
 use Rattle.rational.specs.Places.{Place, ends, moved_begin, AtMost, Before, Same, Upto}
@@ -87,3 +88,18 @@ returns-clause-passed c =
             (λ b. true≢false (sym (c.precedes-2.ensures.1 b) ∙ c.if-precedes.false)))),
       ),
     )
+
+pub pass-requires : goal.pass-requires
+pass-requires c = record {
+  edge = c.requires.right;
+  some = slice_get_within (fresh_at c.args.edges.now c.args.since.right) 0 c.args.w c.requires.first_right;
+}
+
+pub rest-requires : goal.rest-requires
+rest-requires c = record { own = c.requires.own; sound = c.requires.sound; inside = c.requires.inside }
+
+pub pass-requires-2 : goal.pass-requires-2
+pass-requires-2 c = record {
+  edge = c.requires.left;
+  some = slice_get_within (fresh_at c.args.edges.now c.args.since.window.of) 0 c.args.v c.requires.first_left;
+}

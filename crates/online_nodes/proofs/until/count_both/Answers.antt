@@ -1,4 +1,4 @@
-use Rattle.std.proofs.Common.{◌∙◌, rules, inl, inr, refl, sym, ap, subst, true, false, to_z, of_z, to_z-of_z}
+use Rattle.std.proofs.Common.{◌∙◌, ◌<◌, slice_get, arith, rules, inl, inr, refl, sym, ap, subst, true, false, to_z, of_z, to_z-of_z}
 use Rattle.std.specs.Int.{w64}
 use Rattle.std.proofs.lemmas.Bool.{true≢false}
 use Rattle.rational.specs.Rational.{FitsFloor, add, whole}
@@ -7,6 +7,9 @@ use Rattle.frac128.specs.declared.cut.Cut.{Cut}
 use Rattle.rational.specs.Places.{Place, AtMost, Before, Same, Upto, moved_begin, moved_end}
 use Rattle.frac128.specs.Cuts.{place}
 use Rattle.rational.proofs.PlaceLemmas.{at_most_of_not_before}
+use Rattle.rational.proofs.Lists.{on_err_anyway}
+use Rattle.online_nodes.specs.Held.{Edge}
+use Rattle.online_nodes.proofs.GotLemmas.{got-length, got-other}
 use Rattle.online_nodes.proofs.SaidLemmas.{answered_twice}
 use Rattle.online_nodes.proofs.Sweeping.{begin_alike, end_alike, fits_alike}
 use Rattle.online_nodes.proofs.UntilTurns.{IsSaidTwice}
@@ -109,3 +112,39 @@ returns-clause-turned c =
     ∙ c.if-precedes.false)) in
     counts_now {reach = c.shift_end-reach.result} next
     (c.precedes.ensures.0 c.if-not-precedes.false) from_is said to_end reach_is c.pass_ended-2.ensures
+
+pub pass_ended-requires : goal.pass_ended-requires
+pass_ended-requires c = record {
+  left = c.requires.left;
+  right = c.requires.right;
+  apart = c.requires.apart;
+  first_left = c.requires.first_left;
+  first_right = c.requires.first_right;
+}
+
+pub upto-requires : goal.upto-requires
+upto-requires c = record { edge = c.requires.own; inside = c.requires.inside; sound = c.requires.sound }
+
+pub upto-requires-2-clause-edge : goal.upto-requires-2-clause-edge
+upto-requires-2-clause-edge c = let one = c.in_ok-found.ensures.said in omega (arith, one.edge, got-length one.got, c.requires.own)
+
+pub upto-requires-2-clause-sound : goal.upto-requires-2-clause-sound
+upto-requires-2-clause-sound c = c.in_ok-found.ensures.said.sound
+
+pub pass_ended-requires-2 : goal.pass_ended-requires-2
+pass_ended-requires-2 c =
+    let left = c.args.until.window.of in
+    let right = c.args.until.right in
+    let got = (answered_twice c.requires.own c.in_ok-found.ensures.said c.in_ok-out.ensures.said).got in
+    record {
+      left = subst (λ n. left < n) (sym (got-length got)) c.requires.left;
+      right = subst (λ n. right < n) (sym (got-length got)) c.requires.right;
+      apart = c.requires.apart;
+      first_left = ap (λ (e : Edge). slice_get e.fresh 0) (got-other got left c.requires.left_apart) ∙ c.requires.first_left;
+      first_right = ap (λ (e : Edge). slice_get e.fresh 0) (got-other got right c.requires.right_apart) ∙ c.requires.first_right;
+    }
+
+pub returns-in_err-out-clause-memory : goal.returns-in_err-out-clause-memory
+returns-in_err-out-clause-memory c =
+    let one = c.in_ok-found.ensures.said in
+    on_err_anyway c.from_residual-in_err-out.result (omega (arith, one.got.spare, one.few, c.in_err-out.ensures.memory))

@@ -1,4 +1,5 @@
 use Rattle.std.proofs.Common.{◌≡◌, inl, inr, sym, subst}
+use Rattle.std.proofs.lemmas.Option.{slice_get_within}
 use Rattle.frac128.specs.Spans.{interval}
 use Rattle.stl_syntax.specs.declared.items.Verdict.{Verdict}
 use Rattle.rational.specs.Places.{Place, ends, AtMost, Before, Upto}
@@ -50,3 +51,15 @@ returns c =
         (λ t h. subst (λ (q : Place). Upto q t) c.end.ensures (sooner t (subst (λ (q : Place). Upto q t) (sym c.end-2.ensures) h))),
       );
     }
+
+pub pass-requires : goal.pass-requires
+pass-requires c = record {
+  edge = c.requires.right;
+  some = slice_get_within (fresh_at c.args.edges.now c.args.until.right) 0 c.args.w c.requires.first_right;
+}
+
+pub pass-requires-2 : goal.pass-requires-2
+pass-requires-2 c = record {
+  edge = c.requires.left;
+  some = slice_get_within (fresh_at c.args.edges.now c.args.until.window.of) 0 c.args.v c.requires.first_left;
+}

@@ -1,4 +1,4 @@
-use Rattle.std.proofs.Common.{◌≡◌, ℕ, ◌+◌, ◌-◌, ◌≤◌, ◌^◌, length, Some, to_z, of_z, w64, lit<, subst, sym, ◌∙◌, ap, rules, arith, neg_ℤ}
+use Rattle.std.proofs.Common.{◌≡◌, ℕ, ◌+◌, ◌-◌, ◌≤◌, ◌^◌, length, Some, to_z, of_z, w64, lit<, subst, sym, ◌∙◌, ap, arith, neg_ℤ}
 use Rattle.std.proofs.lemmas.Int.{to_z-of_z}
 use Rattle.std.specs.Prelude.{FitsSigned, pos, ◌-ℤ◌, slice_get}
 use Rattle.std.specs.Int.RustNames.{unsigned_abs}
@@ -25,25 +25,25 @@ zero_of j e = omega (arith, e)
 
 pub overflow_sub-back : goal.overflow_sub-back
 overflow_sub-back g c =
-    let e : to_z w64 (of_z w64 c.args.by) ≡ c.args.by = search (rules, to_z-of_z) in
+    let e : to_z w64 (of_z w64 c.args.by) ≡ c.args.by = to_z-of_z w64 c.args.by c.ranges.by in
     subst (λ z. FitsSigned w64 (pos 0 -ℤ z)) (sym e)
     (back_fits c.args.by c.requires.from_within (within_same (2 ^ 34) (same_sym c.requires.begins) c.requires.start_within) c.ranges.by)
 
 pub shift-requires : goal.shift-requires
 shift-requires g c =
-    let e : to_z w64 (of_z w64 c.args.by) ≡ c.args.by = search (rules, to_z-of_z) in
+    let e : to_z w64 (of_z w64 c.args.by) ≡ c.args.by = to_z-of_z w64 c.args.by c.ranges.by in
     subst (λ z. unsigned_abs (g.P.Shape.base c.knot.result.point -ℤ z) ≤ 2 ^ 34) (sym e)
     (c.requires.bases c.knot.result.point (shape_at g.P.Shape c.args.s.now 0 c.knot.result c.knot.ensures))
 
 pub shift-after-requires : goal.shift-after-requires
 shift-after-requires g c =
-    let e : to_z w64 (of_z w64 c.args.by) ≡ c.args.by = search (rules, to_z-of_z) in
+    let e : to_z w64 (of_z w64 c.args.by) ≡ c.args.by = to_z-of_z w64 c.args.by c.ranges.by in
     subst (λ z. unsigned_abs (g.P.Shape.base c.knot-before.result.after -ℤ z) ≤ 2 ^ 34) (sym e)
     (c.requires.bases c.knot-before.result.after (shape_after g.P.Shape c.args.s.now (c.loop-i.i - 1) c.knot-before.result c.knot-before.ensures))
 
 pub shift-requires-in-loop-i : goal.shift-requires-in-loop-i
 shift-requires-in-loop-i g c =
-    let e : to_z w64 (of_z w64 c.args.by) ≡ c.args.by = search (rules, to_z-of_z) in
+    let e : to_z w64 (of_z w64 c.args.by) ≡ c.args.by = to_z-of_z w64 c.args.by c.ranges.by in
     let w : to_z w64 (of_z w64 (pos 0 -ℤ (to_z w64 (of_z w64 c.args.by)))) ≡ neg_ℤ (to_z w64 (of_z w64 c.args.by)) =
     to_z-of_z w64 (pos 0 -ℤ (to_z w64 (of_z w64 c.args.by)))
     (subst (λ z. FitsSigned w64 (pos 0 -ℤ z)) (sym e)
@@ -56,13 +56,13 @@ shift-requires-in-loop-i g c =
 
 pub shift-requires-in-loop-i-2 : goal.shift-requires-in-loop-i-2
 shift-requires-in-loop-i-2 g c =
-    let e : to_z w64 (of_z w64 c.args.by) ≡ c.args.by = search (rules, to_z-of_z) in
+    let e : to_z w64 (of_z w64 c.args.by) ≡ c.args.by = to_z-of_z w64 c.args.by c.ranges.by in
     subst (λ z. unsigned_abs (g.P.Shape.base c.knot-knot.result.point -ℤ z) ≤ 2 ^ 34) (sym e)
     (c.requires.bases c.knot-knot.result.point (shape_at g.P.Shape c.args.s.now c.loop-i.i c.knot-knot.result c.knot-knot.ensures))
 
 pub step-requires-clause-limited : goal.step-requires-clause-limited
 step-requires-clause-limited g c =
-    let e : to_z w64 (of_z w64 c.args.by) ≡ c.args.by = search (rules, to_z-of_z) in
+    let e : to_z w64 (of_z w64 c.args.by) ≡ c.args.by = to_z-of_z w64 c.args.by c.ranges.by in
     let place : c.loop-i.i - 1 + 1 ≡ c.loop-i.i = let low = c.loop-i.auto.i in omega arith in
     let next = subst (λ i. slice_get c.args.s.now i ≡ Some c.knot-knot.result) (sym place) c.knot-knot.ensures in
     let stops = c.loop-i.invariant.ends (c.loop-i.i - 1) c.knot-before.result place c.knot-before.ensures in
@@ -72,7 +72,7 @@ step-requires-clause-limited g c =
 
 pub step-requires-clause-later : goal.step-requires-clause-later
 step-requires-clause-later g c =
-    let e : to_z w64 (of_z w64 c.args.by) ≡ c.args.by = search (rules, to_z-of_z) in
+    let e : to_z w64 (of_z w64 c.args.by) ≡ c.args.by = to_z-of_z w64 c.args.by c.ranges.by in
     let w : to_z w64 (of_z w64 (pos 0 -ℤ (to_z w64 (of_z w64 c.args.by)))) ≡ neg_ℤ (to_z w64 (of_z w64 c.args.by)) =
     to_z-of_z w64 (pos 0 -ℤ (to_z w64 (of_z w64 c.args.by)))
     (subst (λ z. FitsSigned w64 (pos 0 -ℤ z)) (sym e)
@@ -87,7 +87,7 @@ step-requires-clause-later g c =
 
 pub loop-i-init : goal.loop-i-init
 loop-i-init g c =
-    let e : to_z w64 (of_z w64 c.args.by) ≡ c.args.by = search (rules, to_z-of_z) in
+    let e : to_z w64 (of_z w64 c.args.by) ≡ c.args.by = to_z-of_z w64 c.args.by c.ranges.by in
     let only = only_ends g.P.Shape c.in_ok-built.built c.shift.result c.args.from.now c.in_ok-built.ensures in
     let first = first_is g.P.Shape c.args.s.now c.len-count.ensures.signal.some in
     let start_is = first.2 ∙ ap (λ k. time k) (same_knot g.P.Shape c.args.s.now 0 c.knot.ensures first.1) in
@@ -108,7 +108,7 @@ loop-i-init g c =
 
 pub loop-i-preserved : goal.loop-i-preserved
 loop-i-preserved g c =
-    let e : to_z w64 (of_z w64 c.args.by) ≡ c.args.by = search (rules, to_z-of_z) in
+    let e : to_z w64 (of_z w64 c.args.by) ≡ c.args.by = to_z-of_z w64 c.args.by c.ranges.by in
     let w : to_z w64 (of_z w64 (pos 0 -ℤ (to_z w64 (of_z w64 c.args.by)))) ≡ neg_ℤ (to_z w64 (of_z w64 c.args.by)) =
     to_z-of_z w64 (pos 0 -ℤ (to_z w64 (of_z w64 c.args.by)))
     (subst (λ z. FitsSigned w64 (pos 0 -ℤ z)) (sym e)
@@ -145,7 +145,7 @@ loop-i-preserved g c =
 
 pub returns-clause-worth : goal.returns-clause-worth
 returns-clause-worth g c =
-    let e : to_z w64 (of_z w64 c.args.by) ≡ c.args.by = search (rules, to_z-of_z) in
+    let e : to_z w64 (of_z w64 c.args.by) ≡ c.args.by = to_z-of_z w64 c.args.by c.ranges.by in
     let all : c.loop-i.i ≡ length c.args.s.now = let no_more = c.loop-i-test.false in let most = c.loop-i.auto.i-end in let some =
     c.len-count.ensures.some in let value = c.len-count.ensures.value in omega arith in
     let last : (k : Knot _) × (slice_get c.args.s.now (c.loop-i.i - 1) ≡ Some k) × (stop c.args.s.now ≡ time k) =
@@ -164,6 +164,6 @@ returns-clause-worth g c =
 
 pub returns-clause-bases : goal.returns-clause-bases
 returns-clause-bases g c =
-    let e : to_z w64 (of_z w64 c.args.by) ≡ c.args.by = search (rules, to_z-of_z) in
+    let e : to_z w64 (of_z w64 c.args.by) ≡ c.args.by = to_z-of_z w64 c.args.by c.ranges.by in
     subst (λ z. BasesFrom g.P.Shape (λ b. b -ℤ z) c.args.s.now c.finish.result) e
     (subst (BasesFrom g.P.Shape (λ b. b -ℤ (to_z w64 (of_z w64 c.args.by))) c.args.s.now) (sym c.finish.ensures.value) c.loop-i.invariant.bases)

@@ -22,7 +22,7 @@ pub returns-then-stays : goal.returns-then-stays
 returns-then-stays c =
     let g = c.args.gap.now in
     let to : g.to ≡ g.from = c.stays.ensures.from c.if-stays.true in
-    let then : to_z w64 (of_z w64 c.args.next) ≡ c.args.next = search (rules, to_z-of_z) in
+    let then : to_z w64 (of_z w64 c.args.next) ≡ c.args.next = to_z-of_z w64 c.args.next c.ranges.next in
     let next : c.args.next ≡ g.from = sym then ∙ c.stays.ensures.next c.if-stays.true in
     goes_still margin_shape by_margin c.args.rel g c.args.next c.args.signal.now c.requires.signal c.requires.limited c.requires.late
     (subst (λ n. worth by_margin c.args.rel (whole g.from) ≈ᵉ worth by_margin c.args.rel (whole n)) (sym next)
@@ -48,7 +48,7 @@ returns c =
     let g = c.args.gap.now in
     let end : to_z w64 (of_z w64 c.from.result) ≡ pos g.second = search (rules, to_z-of_z) in
     let is : value c.of-end.result ≈ whole (pos g.second) = rw end at c.of-end.ensures.value in
-    let then : to_z w64 (of_z w64 c.args.next) ≡ c.args.next = search (rules, to_z-of_z) in
+    let then : to_z w64 (of_z w64 c.args.next) ≡ c.args.next = to_z-of_z w64 c.args.next c.ranges.next in
     let now : to_z w64 (of_z w64 g.from) ≡ g.from = search (rules, to_z-of_z) in
     let first : g.first < 4294967296 = omega arith in
     let second : g.second < 4294967296 = omega arith in

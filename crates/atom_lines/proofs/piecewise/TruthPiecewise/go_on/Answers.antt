@@ -1,4 +1,4 @@
-use Rattle.std.proofs.Common.{rules, ◌≡◌, ◌∙◌, sym, subst, to_z, of_z}
+use Rattle.std.proofs.Common.{◌≡◌, ◌∙◌, sym, subst, to_z, of_z}
 use Rattle.std.specs.Prelude.{OnOk}
 use Rattle.std.specs.Int.{w64}
 use Rattle.std.proofs.lemmas.Bool.{true≢false}
@@ -16,7 +16,7 @@ use Rattle.atom_lines.proofs.piecewise.TruthPiecewise.go_on.Goals as goal
 pub returns-then-keeps_sign : goal.returns-then-keeps_sign
 returns-then-keeps_sign c =
     let g = c.args.gap.now in
-    let then : to_z w64 (of_z w64 c.args.next) ≡ c.args.next = search (rules, to_z-of_z) in
+    let then : to_z w64 (of_z w64 c.args.next) ≡ c.args.next = to_z-of_z w64 c.args.next c.ranges.next in
     let one = one_sign g c.args.next c.args.rel (subst (AreOfSign g) then (c.keeps_sign.ensures c.if-keeps_sign.true)) in
     goes_still _ by_truth c.args.rel g c.args.next c.args.signal.now c.requires.signal c.requires.limited c.requires.late
     (truths_alike c.args.rel (whole g.from) (whole c.args.next) one.0)
@@ -30,12 +30,12 @@ stay_over-requires-clause-stays c = λ p. true≢false (sym (c.changes_sign.ensu
 
 pub returns-then-changes_sign : goal.returns-then-changes_sign
 returns-then-changes_sign c =
-    let then : to_z w64 (of_z w64 c.args.next) ≡ c.args.next = search (rules, to_z-of_z) in
+    let then : to_z w64 (of_z w64 c.args.next) ≡ c.args.next = to_z-of_z w64 c.args.next c.ranges.next in
     subst (λ n. OnOk c.turn_over.result (GoesAlong truth_shape by_truth c.args.rel c.args.gap.now n c.args.signal.now c.turn_over.new.signal)) then
     c.turn_over.ensures
 
 pub returns : goal.returns
 returns c =
-    let then : to_z w64 (of_z w64 c.args.next) ≡ c.args.next = search (rules, to_z-of_z) in
+    let then : to_z w64 (of_z w64 c.args.next) ≡ c.args.next = to_z-of_z w64 c.args.next c.ranges.next in
     subst (λ n. OnOk c.stay_over.result (GoesAlong truth_shape by_truth c.args.rel c.args.gap.now n c.args.signal.now c.stay_over.new.signal)) then
     c.stay_over.ensures

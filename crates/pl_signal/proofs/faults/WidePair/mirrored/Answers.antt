@@ -1,4 +1,4 @@
-use Rattle.std.proofs.Common.{◌≡◌, ◌≤◌, ◌^◌, to_z, of_z, w64, refl, sym, subst, rules}
+use Rattle.std.proofs.Common.{◌≡◌, ◌≤◌, ◌^◌, to_z, of_z, w64, refl, sym, subst}
 use Rattle.std.proofs.lemmas.Int.{to_z-of_z}
 use Rattle.std.specs.Int.RustNames.{unsigned_abs}
 use Rattle.pl_signal.specs.declared.faults.WidePair.TheVariants.{Cross, Value}
@@ -12,7 +12,7 @@ use Rattle.pl_signal.proofs.faults.WidePair.mirrored.Goals as goal
 of_cross : (g : Over) (c : In-Cross g) → let z = to_z w64 (of_z w64 c.args.about) in let w = c.in-Cross in
     (unsigned_abs z ≤ 2 ^ 34) × CanMirror g.P.Shape z (Cross w.p w.q w.from w.to w.den)
 of_cross g c =
-    let e : to_z w64 (of_z w64 c.args.about) ≡ c.args.about = search (rules, to_z-of_z) in
+    let e : to_z w64 (of_z w64 c.args.about) ≡ c.args.about = to_z-of_z w64 c.args.about c.ranges.about in
     let is : c.args.self.now ≡ Cross c.in-Cross.p c.in-Cross.q c.in-Cross.from c.in-Cross.to c.in-Cross.den = cc c.in-Cross.is in
     let can = subst (CanMirror g.P.Shape c.args.about) is c.requires.pair in (
       subst (λ z. unsigned_abs z ≤ 2 ^ 34) (sym e) c.requires.about,
@@ -22,7 +22,7 @@ of_cross g c =
 of_value : (g : Over) (c : In-Value g) → let z = to_z w64 (of_z w64 c.args.about) in let w = c.in-Value in
     (unsigned_abs z ≤ 2 ^ 34) × CanMirror g.P.Shape z (Value w.p w.at w.den)
 of_value g c =
-    let e : to_z w64 (of_z w64 c.args.about) ≡ c.args.about = search (rules, to_z-of_z) in
+    let e : to_z w64 (of_z w64 c.args.about) ≡ c.args.about = to_z-of_z w64 c.args.about c.ranges.about in
     let is : c.args.self.now ≡ Value c.in-Value.p c.in-Value.at c.in-Value.den = cc c.in-Value.is in
     let can = subst (CanMirror g.P.Shape c.args.about) is c.requires.pair in (
       subst (λ z. unsigned_abs z ≤ 2 ^ 34) (sym e) c.requires.about,
@@ -49,7 +49,7 @@ mirror-requires-in-Value-2 g c = let h = of_value g (goal.at.mirror-requires-in-
 
 pub returns-in-Cross : goal.returns-in-Cross
 returns-in-Cross g c =
-    let e : to_z w64 (of_z w64 c.args.about) ≡ c.args.about = search (rules, to_z-of_z) in
+    let e : to_z w64 (of_z w64 c.args.about) ≡ c.args.about = to_z-of_z w64 c.args.about c.ranges.about in
     let is : c.args.self.now ≡ Cross c.in-Cross.p c.in-Cross.q c.in-Cross.from c.in-Cross.to c.in-Cross.den = cc c.in-Cross.is in
     let other = Cross c.mirror.result c.mirror-in-Cross.result c.mirror-in-Cross-2.result c.mirror-in-Cross-3.result c.in-Cross.den in
     subst (λ z. IsMirroredPair g.P.Shape z c.args.self.now other) e
@@ -67,7 +67,7 @@ returns-in-Cross g c =
 
 pub returns-in-Value : goal.returns-in-Value
 returns-in-Value g c =
-    let e : to_z w64 (of_z w64 c.args.about) ≡ c.args.about = search (rules, to_z-of_z) in
+    let e : to_z w64 (of_z w64 c.args.about) ≡ c.args.about = to_z-of_z w64 c.args.about c.ranges.about in
     let is : c.args.self.now ≡ Value c.in-Value.p c.in-Value.at c.in-Value.den = cc c.in-Value.is in
     let other = Value c.mirror-in-Value.result c.mirror-in-Value-2.result c.in-Value.den in
     subst (λ z. IsMirroredPair g.P.Shape z c.args.self.now other) e

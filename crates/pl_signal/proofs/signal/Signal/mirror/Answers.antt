@@ -1,4 +1,4 @@
-use Rattle.std.proofs.Common.{◌≡◌, ◌+◌, ℕ, ◌-◌, ◌<◌, ◌≤◌, ◌^◌, List, length, get_or, Some, ◌-ℤ◌, sym, subst, arith, rules, of_z, to_z, w64, lit<}
+use Rattle.std.proofs.Common.{◌≡◌, ◌+◌, ℕ, ◌-◌, ◌<◌, ◌≤◌, ◌^◌, List, length, get_or, Some, ◌-ℤ◌, sym, subst, arith, of_z, to_z, w64, lit<}
 use Rattle.std.proofs.lemmas.Int.{to_z-of_z}
 use Rattle.std.specs.Int.RustNames.{unsigned_abs}
 use Rattle.std.specs.Prelude.{slice_get}
@@ -18,7 +18,7 @@ use Rattle.pl_signal.proofs.signal.Signal.mirror.Goals as goal
 
 pub mirror-requires : goal.mirror-requires
 mirror-requires g c =
-    let e : to_z w64 (of_z w64 c.args.about) ≡ c.args.about = search (rules, to_z-of_z) in
+    let e : to_z w64 (of_z w64 c.args.about) ≡ c.args.about = to_z-of_z w64 c.args.about c.ranges.about in
     subst (λ z. FitsFloor w64 (subtract (whole z) (value c.knot-last.result.time))) (sym e)
     (fits_of_within w64 (2 ^ 34) (lit< tt)
     (mirror_within g.P.Shape (2 ^ 34) c.args.about c.args.self.now (c.len-i.result - 1) c.knot-last.result c.len-i.ensures.signal c.knot-last.ensures
@@ -26,19 +26,19 @@ mirror-requires g c =
 
 pub mirror-requires-2 : goal.mirror-requires-2
 mirror-requires-2 g c =
-    let e : to_z w64 (of_z w64 c.args.about) ≡ c.args.about = search (rules, to_z-of_z) in
+    let e : to_z w64 (of_z w64 c.args.about) ≡ c.args.about = to_z-of_z w64 c.args.about c.ranges.about in
     subst (λ z. unsigned_abs (z -ℤ g.P.Shape.base c.knot-last.result.point) ≤ 2 ^ 34) (sym e)
     (c.requires.bases c.knot-last.result.point (shape_at g.P.Shape c.args.self.now (c.len-i.result - 1) c.knot-last.result c.knot-last.ensures))
 
 pub mirror-after-requires : goal.mirror-after-requires
 mirror-after-requires g c =
-    let e : to_z w64 (of_z w64 c.args.about) ≡ c.args.about = search (rules, to_z-of_z) in
+    let e : to_z w64 (of_z w64 c.args.about) ≡ c.args.about = to_z-of_z w64 c.args.about c.ranges.about in
     subst (λ z. unsigned_abs (z -ℤ g.P.Shape.base c.knot-knot.result.after) ≤ 2 ^ 34) (sym e)
     (c.requires.bases c.knot-knot.result.after (shape_after g.P.Shape c.args.self.now (c.loop-i.i - 1) c.knot-knot.result c.knot-knot.ensures))
 
 pub mirror-requires-in-loop-i : goal.mirror-requires-in-loop-i
 mirror-requires-in-loop-i g c =
-    let e : to_z w64 (of_z w64 c.args.about) ≡ c.args.about = search (rules, to_z-of_z) in
+    let e : to_z w64 (of_z w64 c.args.about) ≡ c.args.about = to_z-of_z w64 c.args.about c.ranges.about in
     subst (λ z. FitsFloor w64 (subtract (whole z) (value c.knot-knot.result.time))) (sym e)
     (fits_of_within w64 (2 ^ 34) (lit< tt)
     (mirror_within g.P.Shape (2 ^ 34) c.args.about c.args.self.now (c.loop-i.i - 1) c.knot-knot.result c.len-i.ensures.signal c.knot-knot.ensures
@@ -46,7 +46,7 @@ mirror-requires-in-loop-i g c =
 
 pub mirror-requires-in-loop-i-2 : goal.mirror-requires-in-loop-i-2
 mirror-requires-in-loop-i-2 g c =
-    let e : to_z w64 (of_z w64 c.args.about) ≡ c.args.about = search (rules, to_z-of_z) in
+    let e : to_z w64 (of_z w64 c.args.about) ≡ c.args.about = to_z-of_z w64 c.args.about c.ranges.about in
     subst (λ z. unsigned_abs (z -ℤ g.P.Shape.base c.knot-knot.result.point) ≤ 2 ^ 34) (sym e)
     (c.requires.bases c.knot-knot.result.point (shape_at g.P.Shape c.args.self.now (c.loop-i.i - 1) c.knot-knot.result c.knot-knot.ensures))
 
@@ -77,7 +77,7 @@ next_of xs i x some inside h = let e : i - 1 + 1 ≡ i = omega (arith, some) in
 
 pub step-requires-clause-limited : goal.step-requires-clause-limited
 step-requires-clause-limited g c =
-    let e : to_z w64 (of_z w64 c.args.about) ≡ c.args.about = search (rules, to_z-of_z) in
+    let e : to_z w64 (of_z w64 c.args.about) ≡ c.args.about = to_z-of_z w64 c.args.about c.ranges.about in
     let n = get_or c.args.self.now c.loop-i.i c.knot-knot.result in
     let here = slice_get-get_or c.args.self.now c.loop-i.i c.knot-knot.result c.loop-i.invariant.inside in
     within_same (2 ^ 34) (same_sym (subst (λ z. stop c.loop-i.built ≈ subtract (whole z) (time n)) e (c.loop-i.invariant.ends n here)))
@@ -124,7 +124,7 @@ loop-i-preserved g c =
 
 pub returns-clause-worth : goal.returns-clause-worth
 returns-clause-worth g c =
-    let e : to_z w64 (of_z w64 c.args.about) ≡ c.args.about = search (rules, to_z-of_z) in
+    let e : to_z w64 (of_z w64 c.args.about) ≡ c.args.about = to_z-of_z w64 c.args.about c.ranges.about in
     let first = first_is g.P.Shape c.args.self.now c.len-i.ensures.signal.some in
     let zero : c.loop-i.i ≡ 0 = let h = c.loop-i-test.false in omega (arith, h) in
     subst (λ z. Tells g.P.Shape (λ t v. IsWorth g.P.Shape c.args.self.now (subtract (whole z) t) v) (subtract (whole z) (stop c.args.self.now))
@@ -142,6 +142,6 @@ returns-clause-worth g c =
 
 pub returns-clause-bases : goal.returns-clause-bases
 returns-clause-bases g c =
-    let e : to_z w64 (of_z w64 c.args.about) ≡ c.args.about = search (rules, to_z-of_z) in
+    let e : to_z w64 (of_z w64 c.args.about) ≡ c.args.about = to_z-of_z w64 c.args.about c.ranges.about in
     subst (λ z. BasesFrom g.P.Shape (λ b. z -ℤ b) c.args.self.now c.finish.result) e
     (subst (BasesFrom g.P.Shape (λ b. to_z w64 (of_z w64 c.args.about) -ℤ b) c.args.self.now) (sym c.finish.ensures.value) c.loop-i.invariant.bases)

@@ -1,4 +1,4 @@
-use Rattle.std.proofs.Common.{◌≡◌, ◌≤◌, ◌^◌, to_z, of_z, w64, lit<, subst, sym, rules}
+use Rattle.std.proofs.Common.{◌≡◌, ◌≤◌, ◌^◌, to_z, of_z, w64, lit<, subst, sym}
 use Rattle.std.proofs.lemmas.Int.{to_z-of_z}
 use Rattle.std.proofs.lemmas.Result.{IfOk-weaker}
 use Rattle.std.specs.Prelude.{◌-ℤ◌}
@@ -16,7 +16,7 @@ use Rattle.pl_signal.proofs.signal.Signal.shift_clip.Goals as goal
 
 pub shift-begin-requires : goal.shift-begin-requires
 shift-begin-requires g c =
-    let e : to_z w64 (of_z w64 c.args.by) ≡ c.args.by = search (rules, to_z-of_z) in
+    let e : to_z w64 (of_z w64 c.args.by) ≡ c.args.by = to_z-of_z w64 c.args.by c.ranges.by in
     subst (λ z. FitsFloor w64 (add (value c.args.from.now) (whole z))) (sym e)
     (fits_of_within w64 (2 ^ 34) (lit< tt)
     (clip_within g.P.Shape c.args.self.now c.len.ensures.signal.some c.requires.limited c.requires.first
@@ -24,7 +24,7 @@ shift-begin-requires g c =
 
 pub shift-end-requires : goal.shift-end-requires
 shift-end-requires g c =
-    let e : to_z w64 (of_z w64 c.args.by) ≡ c.args.by = search (rules, to_z-of_z) in
+    let e : to_z w64 (of_z w64 c.args.by) ≡ c.args.by = to_z-of_z w64 c.args.by c.ranges.by in
     subst (λ z. FitsFloor w64 (add (value c.args.to.now) (whole z))) (sym e)
     (fits_of_within w64 (2 ^ 34) (lit< tt)
     (clip_within g.P.Shape c.args.self.now c.len.ensures.signal.some c.requires.limited
@@ -32,7 +32,7 @@ shift-end-requires g c =
 
 pub restrict-requires : goal.restrict-requires
 restrict-requires g c =
-    let e : to_z w64 (of_z w64 c.args.by) ≡ c.args.by = search (rules, to_z-of_z) in
+    let e : to_z w64 (of_z w64 c.args.by) ≡ c.args.by = to_z-of_z w64 c.args.by c.ranges.by in
     let begins = subst (λ z. value c.shift-begin.result ≈ add (value c.args.from.now) (whole z)) e c.shift-begin.ensures.value in
     let ends = subst (λ z. value c.shift-end.result ≈ add (value c.args.to.now) (whole z)) e c.shift-end.ensures.value in
     record {
@@ -43,7 +43,7 @@ restrict-requires g c =
 
 pub shifted-requires : goal.shifted-requires
 shifted-requires g c =
-    let e : to_z w64 (of_z w64 c.args.by) ≡ c.args.by = search (rules, to_z-of_z) in
+    let e : to_z w64 (of_z w64 c.args.by) ≡ c.args.by = to_z-of_z w64 c.args.by c.ranges.by in
     let tells = c.in_ok-part.ensures.worth in
     let begins = c.shift-begin.ensures.value in
     let ends = c.shift-end.ensures.value in record {
@@ -59,7 +59,7 @@ shifted-requires g c =
 
 pub returns-clause-worth : goal.returns-clause-worth
 returns-clause-worth g c =
-    let e : to_z w64 (of_z w64 c.args.by) ≡ c.args.by = search (rules, to_z-of_z) in
+    let e : to_z w64 (of_z w64 c.args.by) ≡ c.args.by = to_z-of_z w64 c.args.by c.ranges.by in
     let tells = c.in_ok-part.ensures.worth in
     IfOk-weaker c.shifted.result _ _
     (λ r h. subst (λ z. Tells g.P.Shape (λ t v. IsWorth g.P.Shape c.args.self.now (add t (whole z)) v) (value c.args.from.now) (value c.args.to.now) r) e
@@ -69,7 +69,7 @@ returns-clause-worth g c =
 
 pub returns-clause-bases : goal.returns-clause-bases
 returns-clause-bases g c =
-    let e : to_z w64 (of_z w64 c.args.by) ≡ c.args.by = search (rules, to_z-of_z) in
+    let e : to_z w64 (of_z w64 c.args.by) ≡ c.args.by = to_z-of_z w64 c.args.by c.ranges.by in
     let shapes = c.in_ok-part.ensures.shapes in
     IfOk-weaker c.shifted.result _ _
     (λ r h. subst (λ z. BasesFrom g.P.Shape (λ b. b -ℤ z) c.args.self.now r) e

@@ -9,7 +9,7 @@ pub invariant_of-self-2 : goal.invariant_of-self-2
 invariant_of-self-2 c =
     let a = c.self.inside in
     let r = c.args.row.now in
-    let done : is_ok c.push.result ≡ true = sym c.map_err-2.ensures.variant ∙ ap is_ok c.in_ok-map_err-2.was in
+    let done : is_ok c.push.result ≡ true = ap is_ok c.in_ok-push.was in
     let in_values : c.add_all.new.values.items ≡ a.values.items ++ r.values =
     c.add_all.ensures ∙ rw (c.try_reserve.ensures.items, c.values-values.ensures.value) refl in
     let in_times : c.push.new.self.items ≡ a.times.items ++ r.time ∷ [] =
@@ -29,7 +29,7 @@ pub returns-clause-ok : goal.returns-clause-ok
 returns-clause-ok c =
     let a = c.self.inside in
     let r = c.args.row.now in
-    let done : is_ok c.push.result ≡ true = sym c.map_err-2.ensures.variant ∙ ap is_ok c.in_ok-map_err-2.was in
+    let done : is_ok c.push.result ≡ true = ap is_ok c.in_ok-push.was in
     let in_values : c.add_all.new.values.items ≡ a.values.items ++ r.values =
     c.add_all.ensures ∙ rw (c.try_reserve.ensures.items, c.values-values.ensures.value) refl in
     let in_times : c.push.new.self.items ≡ a.times.items ++ r.time ∷ [] =
