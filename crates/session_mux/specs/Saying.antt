@@ -17,6 +17,10 @@ prefixed_texts prefix all = flat_map (λ (line : List ℕ). prefix ++ line ++ ne
 abbrev pub said_lines : List ℕ → List ℕ → List ℕ
 said_lines tag text = prefixed (tag ++ codes " ") (lines true text)
 
+-- the last eight lines are those of the other text
+abbrev pub HasLastLines : List ℕ → List ℕ → Type 0
+HasLastLines text last = (said : List (List ℕ)) → keep_last 8 (said ++ texts text) ≡ keep_last 8 (said ++ texts last)
+
 -- the lines of a text were said and kept
 pub record HasSaid (tag text : List ℕ) (old new : Buffer (List ℕ)) (before after : List ℕ) : Type 0 where
   pub added : after ≡ before ++ said_lines tag text

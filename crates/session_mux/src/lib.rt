@@ -7,12 +7,14 @@ mod known;
 pub mod laws;
 mod line;
 mod mux;
+mod near;
 mod recent;
 mod run;
 mod saying;
 mod session;
 mod stop;
 mod tag;
+mod waiting;
 
 pub use fault::MuxFault;
 pub use input::Input;

@@ -1,33 +1,23 @@
-use Rattle.std.proofs.Common.{◌++◌, sym}
-use Rattle.std.proofs.lemmas.Result.{err_from_is_err_and}
-use Rattle.std.specs.Prelude.{codes}
-use Rattle.rational.proofs.Lists.{empty_of_test}
-use Rattle.session_mux.proofs.LineTexts.{saying_begins, saying_on, saying_cut, saying_stopped, saying_all, saying_kept}
+use Rattle.std.proofs.Common.{◌≡◌, ℕ, List, [], ◌++◌, append-nil, sym, refl, ap, ◌∙◌, Result, Ok, Err}
+use Rattle.std.specs.Prelude.{MatchResult, OnOk, OnErr}
+use Rattle.circular_buffer.specs.Buffer.{Buffer, buffer, keep_last}
+use Rattle.report.specs.Appended.{GrewInPart, Is}
+use Rattle.session_mux.specs.Saying.{texts, said_lines, HasSaid, HasLastLines}
 use Rattle.session_mux.proofs.saying.say.Goals as goal
 
-pub loop-rest-init : goal.loop-rest-init
-loop-rest-init c = saying_begins (c.args.tag.now ++ codes " ") c.args.text.now c.args.out.now c.args.recent.now c.requires
+-- the lines were added or a part of them, and the last ones kept
+said_if : {T E : Type 0} (r : Result T E) (tag text last : List ℕ) (old new : Buffer (List ℕ)) (before after : List ℕ)
+    → OnOk r (after ≡ before ++ said_lines tag text) → OnErr r (GrewInPart (Is (said_lines tag text)) before after) → HasLastLines text last
+    → ((said : List (List ℕ)) → old ≡ buffer (keep_last 8 said) 8 → new ≡ buffer (keep_last 8 (said ++ texts last)) 8) → new.capacity ≡ 8
+    → MatchResult r (λ _. HasSaid tag text old new before after) (λ _. GrewInPart (Is (said_lines tag text)) before after)
+said_if (Ok x) tag text last old new before after e k h kept room =
+    record { added = e; kept = λ said f. kept said f ∙ ap (λ ts. buffer ts 8) (sym (h said)); room = room }
+said_if (Err x) tag text last old new before after e k h kept room = k
 
-pub returns-in_err-keep : goal.returns-in_err-keep
-returns-in_err-keep c =
-    let p = err_from_is_err_and c.from_residual.result c.from_residual.ensures.1 in
-    rw p.1 (saying_stopped (c.args.tag.now ++ codes " ") c.args.text.now c.args.out.now c.args.recent.now _ _ _ c.loop-rest.invariant)
-
-pub returns-in_err-put_line : goal.returns-in_err-put_line
-returns-in_err-put_line c =
-    let p = err_from_is_err_and c.from_residual-in_err-put_line.result c.from_residual-in_err-put_line.ensures.1 in
-    rw p.1 (saying_cut (c.args.tag.now ++ codes " ") c.args.text.now c.args.out.now c.args.recent.now _ _ _ c.loop-rest.invariant
-    c.first_line.result.0.now c.first_line.result.1.now c.first_line.ensures.line _ c.in_err-put_line.ensures.err)
-
-pub loop-rest-preserved : goal.loop-rest-preserved
-loop-rest-preserved c =
-    saying_on (c.args.tag.now ++ codes " ") c.args.text.now c.args.out.now c.args.recent.now _ _ _ c.loop-rest.invariant
-    c.first_line.result.0.now c.first_line.result.1.now c.first_line.ensures.line _ _ c.in_ok-keep.ensures c.in_ok-put_line.ensures.ok
+pub returns-in_err-keep_lines : goal.returns-in_err-keep_lines
+returns-in_err-keep_lines c = ?
 
 pub returns : goal.returns
 returns c =
-    let none = empty_of_test c.loop-rest.rest.now (sym c.loop-rest-test.ensures) in record {
-      added = saying_all (c.args.tag.now ++ codes " ") c.args.text.now c.args.out.now c.args.recent.now _ _ _ c.loop-rest.invariant none;
-      kept = saying_kept (c.args.tag.now ++ codes " ") c.args.text.now c.args.out.now c.args.recent.now _ _ _ c.loop-rest.invariant none;
-      room = c.loop-rest.invariant.capacity;
-    }
+    said_if c.put_lines.result c.args.tag.now c.args.text.now c.last_lines.result.now c.args.recent.now c.keep_lines.new.recent c.args.out.now
+    c.put_lines.new.out c.put_lines.ensures.ok c.put_lines.ensures.err c.last_lines.ensures c.in_ok-keep_lines.ensures.kept c.in_ok-keep_lines.ensures.room
