@@ -49,7 +49,7 @@ fn add_open(buf: &mut [u8], at: usize, holds: bool) -> usize
 
 /// Puts what a line has after its two times.
 #[inline(always)]
-fn add_ending(buf: &mut [u8], at: usize, v: &Verdict) -> usize
+pub(crate) fn add_ending(buf: &mut [u8], at: usize, v: &Verdict) -> usize
     requires { at + 8 ≤ length buf.old }
     ensures { IsAdded (line_end v.now) buf.old at buf.new result }
 {
