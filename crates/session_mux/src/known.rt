@@ -103,7 +103,8 @@ impl Known {
 
     /// Begins the session of a new tag, and answers its place.
     fn begin(&mut self, tag: &[u8], number: u128) -> Result<usize, MuxFault>
-        requires { length self.old.sessions.items ≤ 1024 }
+        requires tag { IsTag tag.now }
+        requires few { length self.old.sessions.items ≤ 1024 }
         ensures begun { MatchResult result (λ i. HasBegun tag.now number i self.old self.new) (IsNotBegun self.old self.new) }
         ensures unbegun { OnErr result (self.new.sessions.items ≡ self.old.sessions.items) }
         ensures few { length self.new.sessions.items ≤ 1024 }

@@ -7,7 +7,7 @@ ghost use Rattle.report.specs.After.{IsAdded};
 ghost use Rattle.session_mux.specs.Near.{IsNoFeed, IsNextFeed};
 
 use memchr::memchr;
-use report::add_part;
+use crate::after::add_part;
 use std::simd::prelude::*;
 
 /// How many bytes are looked at.

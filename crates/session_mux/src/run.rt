@@ -11,7 +11,7 @@ use crate::near::{NEAR, first_feed, put_front};
 use crate::session::{asks, stops};
 use crate::tag::{LONGEST, tag_len};
 use frac128::Memory;
-use report::add_byte;
+use crate::after::add_byte;
 
 /// The most bytes of a line.
 const MOST_BYTES: usize = 4_113;
@@ -104,13 +104,14 @@ pub(crate) fn front_tag(piece: &[u8]) -> Option<&[u8]>
 ///
 /// # Errors
 /// Want of memory.
-fn make_room(room: &mut Vec<u8>, len: usize) -> Result<(), Memory>
-    ensures { OnOk result (len + 32 ≤ length room.new.items) }
+fn make_room(room: &mut Vec<u8>, piece: &[u8]) -> Result<(), Memory>
+    ensures { OnOk result (length piece.now + 32 ≤ length room.new.items) }
 {
-    if room.len() >= len + NEAR {
+    let wanted = piece.len() + NEAR;
+    if room.len() >= wanted {
         return Ok(());
     }
-    room.resize(len + NEAR, 0)?;
+    room.resize(wanted, 0)?;
     Ok(())
 }
 
@@ -141,7 +142,7 @@ pub(crate) fn gather(
     ensures gathered { IfOk result (λ r. HasGathered tag.now piece.now most r.bytes r.lines (take r.used room.new.items)) }
     ensures within { IfOk result (λ r. r.used ≤ length room.new.items) }
 {
-    make_room(room, piece.len())?;
+    make_room(room, piece)?;
     let mut bytes = 0;
     let mut lines = 0;
     let mut used = 0;

@@ -1,5 +1,5 @@
 //! One session: its trace as it comes, and the last lines that were said to it.
-ghost use Rattle.std.specs.Prelude.{◌≡◌, ◌<◌, ◌++◌, ◌∷◌, bytes_eq, length, ℕ, IsTrue, List, [], false, true, None, IfOk, MatchResult};
+ghost use Rattle.std.specs.Prelude.{◌≡◌, ◌<◌, ◌≤◌, ◌++◌, ◌∷◌, bytes_eq, length, ℕ, IsTrue, List, [], false, true, None, IfOk, MatchResult};
 ghost use Rattle.report.specs.Appended.{GrewInPart, Is};
 ghost use Rattle.report.specs.FaultTexts.{fault_text};
 ghost use Rattle.stl_syntax.specs.Formula.{Formula as Parsed};
@@ -176,6 +176,7 @@ impl Session {
     /// # Errors
     /// Want of memory.
     pub(crate) fn new(alloc: Global, formula: &Formula, tag: &[u8]) -> Result<Session, Memory>
+        requires { length tag.now ≤ 16 }
         ensures tag { IfOk result (λ s. s.tag ≡ tag.now) }
         ensures said { IfOk result (λ s. HasSaidSoFar formula.now (record { bytes = []; stopped = false }) [] s) }
     {

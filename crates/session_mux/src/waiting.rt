@@ -5,7 +5,7 @@ ghost use Rattle.stl_syntax.specs.Texts.{newline};
 use crate::near::put_front;
 use crate::tag::Tag;
 use frac128::Memory;
-use report::add_byte;
+use crate::after::add_byte;
 use std::marker::Model;
 use stl_syntax::Text;
 

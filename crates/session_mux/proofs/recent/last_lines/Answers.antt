@@ -1,5 +1,7 @@
-use Rattle.std.proofs.Common.{refl, arith}
-use Rattle.session_mux.proofs.LastLines.{last_none, last_more, last_eight_are}
+use Rattle.std.proofs.Common.{◌≡◌, ℕ, List, sym, subst, refl, arith}
+use Rattle.rational.proofs.Lists.{take_rest}
+use Rattle.session_mux.specs.Saying.{HasLastLines}
+use Rattle.session_mux.proofs.LastLines.{AreLast, last_none, last_more, last_eight_are}
 use Rattle.session_mux.proofs.recent.last_lines.Goals as goal
 
 pub loop-_line-init : goal.loop-_line-init
@@ -11,4 +13,9 @@ loop-_line-preserved c =
     c.last_begins.ensures.ends c.last_begins.ensures.line
 
 pub returns : goal.returns
-returns c = ?
+returns c =
+    let text = c.args.text.now in
+    let from = c.loop-_line.from in
+    let eight : c.loop-_line._line ≡ 8 = omega (arith, c.loop-_line-test.false, c.loop-_line.auto._line-end) in
+    subst (λ (w : List ℕ). HasLastLines text w) (sym (take_rest text from))
+    (last_eight_are text from (subst (λ n. AreLast text from n) eight c.loop-_line.invariant))

@@ -22,5 +22,8 @@ not_one (c ∷ d ∷ xs) m ne = by_test (c == m) refl
     by_test true k = rw k refl
     by_test false k = rw k refl
 
+pub returns-then-content-ne1 : goal.returns-then-content-ne1
+returns-then-content-ne1 c = not_one c.args.content.now c.args.mark c.if-content-ne1.true
+
 pub returns : goal.returns
-returns c = ?
+returns c = one_byte c.args.content.now c.args.mark c.if-content-ne1.false
