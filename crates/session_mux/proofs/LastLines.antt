@@ -12,8 +12,8 @@ use Rattle.trace_reader.specs.Feeds.{HasNoFeed}
 use Rattle.trace_reader.specs.TraceText.{Line, lines}
 use Rattle.trace_reader.proofs.FeedLemmas.{none-free}
 use Rattle.trace_reader.proofs.LineLemmas.{done, rest, lines-nil, lines-rest}
-use Rattle.session_mux.specs.Saying.{texts, HasLastLines}
-use Rattle.session_mux.proofs.TextLemmas.{EndsInFeed, texts_joined}
+use Rattle.session_mux.specs.Saying.{texts, EndsInFeed, HasLastLines}
+use Rattle.session_mux.proofs.TextLemmas.{texts_joined}
 use Rattle.session_mux.proofs.PlainTexts.{one_line}
 
 -- behind the last LF there is none

@@ -2,7 +2,7 @@
 use Rattle.std.proofs.Common.{◌≡◌, ◌≢◌, ◌⊎◌, inl, inr, refl, sym, ap, subst, ◌∙◌, ℕ, suc, ◌+◌, ◌-◌, ◌*◌, ◌<◌, ◌≤◌, Bool, true, false}
 use Rattle.std.proofs.Common.{List, [], ◌∷◌, ◌++◌, append_assoc, append-nil, length, take, drop}
 use Rattle.std.proofs.Common.{arith, length-append, take-append-drop, take-add, length-drop, get_or}
-use Rattle.std.specs.Prelude.{All, ◌&&◌, ◌||◌, ◌==◌, if◌then◌else◌, map, Ok, Err}
+use Rattle.std.specs.Prelude.{All, reverse, ◌&&◌, ◌||◌, ◌==◌, if◌then◌else◌, map, Ok, Err}
 use Rattle.std.proofs.lemmas.Bool.{false≢true, eqb-true, and_parts}
 use Rattle.std.proofs.lemmas.Grind.{flat_map-append}
 use Rattle.std.proofs.lemmas.List.{drop_more, length-take-le, length_push, take_all, reverse-append, reverse-reverse}
@@ -294,7 +294,7 @@ snoc : (ys : List ℕ) → (ys ≡ []) ⊎ ((w : List ℕ) × (c : ℕ) × (ys �
 snoc [] = inl refl
 snoc (y ∷ ys) = elim (snoc ys) [
   | inl e ↦ inr ([], y, ap (λ z. y ∷ z) e)
-  | inr h ↦ inr (y ∷ h.0, h.1.0, ap (λ z. y ∷ z) h.1.1)
+  | inr h ↦ inr (y ∷ h.0, h.1, ap (λ z. y ∷ z) h.2)
 ]
 
 -- the content of a line that ends in this byte
@@ -303,7 +303,7 @@ content_at w c = by_test (c == 13) refl
   where
     by_test : (b : Bool) → (c == 13) ≡ b → content_of (ended_line (w ++ c ∷ [])) ≡ (if b then w else w ++ c ∷ [])
     by_test true e = rw (reverse-append w (c ∷ []), e) (reverse-reverse w)
-    by_test false e = rw (reverse-append w (c ∷ []), e) (ap (λ v. v ++ c ∷ []) (reverse-reverse w))
+    by_test false e = rw (reverse-append w (c ∷ []), e) (reverse-append (c ∷ []) (reverse w) ∙ ap (λ v. v ++ c ∷ []) (reverse-reverse w))
 
 -- the content of what follows some bytes and a space follows them too
 content_behind : (xs ys : List ℕ) → content_of (ended_line (xs ++ 32 ∷ ys)) ≡ xs ++ 32 ∷ content_of (ended_line ys)

@@ -1,8 +1,7 @@
 //! The last lines that were said to a session.
 ghost use Rattle.std.specs.Prelude.{◌≡◌, ◌<◌, ◌++◌, ◌∷◌, [], ℕ, List, length, take, OnOk, IfOk};
 ghost use Rattle.circular_buffer.specs.Buffer.{buffer, keep_last};
-ghost use Rattle.session_mux.proofs.TextLemmas.{EndsInFeed};
-ghost use Rattle.session_mux.specs.Saying.{texts, HasLastLines};
+ghost use Rattle.session_mux.specs.Saying.{texts, EndsInFeed, HasLastLines};
 
 use circular_buffer::HeapCircularBuffer;
 use frac128::Memory;

@@ -3,8 +3,8 @@ use Rattle.std.proofs.lemmas.List.{take-take, take_all}
 use Rattle.report.proofs.Adding.{add_as}
 use Rattle.session_mux.proofs.near.put_front.Goals as goal
 
-pub returns-then-word : goal.returns-then-word
-returns-then-word c =
+pub returns-then-text-ge-NEAR : goal.returns-then-text-ge-NEAR
+returns-then-text-ge-NEAR c =
     add_as (take-take (length c.args.word.now) 32 c.args.text.now (omega arith) ∙ sym c.requires.front) c.add_part.ensures
 
 pub returns : goal.returns

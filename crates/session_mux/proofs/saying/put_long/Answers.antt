@@ -17,29 +17,48 @@ returns-in_err-hand_over-clause-begins c = ([], c.in_err-hand_over.ensures.err.0
 
 pub returns-in_err-hand_over-clause-err : goal.returns-in_err-hand_over-clause-err
 returns-in_err-hand_over-clause-err c =
+    let out = c.args.out.now in
     let line = (c.args.tag.now ++ codes " ") ++ c.args.line.now ++ newline in
-    on_err_anyway _ (
+    let all : (rest : List ℕ) × (c.hand_over.new.out ++ rest ≡ (out ++ c.args.waiting.now) ++ line) = (
       c.args.waiting.now ++ line,
-      ap (λ w. w ++ (c.args.waiting.now ++ line)) c.in_err-hand_over.ensures.err.0 ∙ sym (append_assoc c.args.out.now c.args.waiting.now line),
-    )
+      ap (λ w. w ++ (c.args.waiting.now ++ line)) c.in_err-hand_over.ensures.err.0 ∙ sym (append_assoc out c.args.waiting.now line),
+    ) in
+    on_err_anyway _ all
+
+-- a line was added behind those that wait
+module _ {T E : Type 0} (r : Result T E) (out waiting mid new tag bytes line : List ℕ) (handed : mid ≡ out ++ waiting) (same : bytes ≡ tag) where
+  abbrev line_of : List ℕ → List ℕ
+  line_of t = (t ++ codes " ") ++ line ++ newline
+
+  added : (left : List ℕ) → left ≡ [] → OnOk r (new ≡ mid ++ line_of bytes) → OnOk r (new ++ left ≡ (out ++ waiting) ++ line_of tag)
+  added left none ok =
+      on_ok_weaker r (λ e. ap (λ w. new ++ w) none ∙ append-nil new ∙ e ∙ ap (λ w. w ++ line_of bytes) handed
+      ∙ ap (λ t. (out ++ waiting) ++ line_of t) same) ok
+
+  begun : OnOk r (new ≡ mid ++ line_of bytes) → OnErr r (GrewInPart (Is (line_of bytes)) mid new) → (front : List ℕ) × (new ≡ out ++ front)
+  begun ok err =
+      let (front, e) = goes_on r (line_of bytes) mid new ok err in
+      (waiting ++ front, e ∙ ap (λ w. w ++ front) handed ∙ append_assoc out waiting front)
+
+  cut : OnErr r (GrewInPart (Is (line_of bytes)) mid new) → OnErr r ((rest : List ℕ) × (new ++ rest ≡ (out ++ waiting) ++ line_of tag))
+  cut err =
+      on_err_weaker r (λ (a, b, whole, k). (
+        b,
+        ap (λ w. w ++ b) k ∙ append_assoc mid a b ∙ ap (λ w. mid ++ w) whole ∙ ap (λ w. w ++ line_of bytes) handed
+            ∙ ap (λ t. (out ++ waiting) ++ line_of t) same,
+      )) err
 
 pub returns-clause-ok : goal.returns-clause-ok
 returns-clause-ok c =
-    let line = (c.args.tag.now ++ codes " ") ++ c.args.line.now ++ newline in
-    let out = c.put_line.new.out in
-    on_ok_weaker c.put_line.result
-    (λ e. ap (λ w. out ++ w) c.in_ok-hand_over.ensures.none ∙ append-nil out ∙ e ∙ ap (λ w. w ++ line) c.in_ok-hand_over.ensures.text) c.put_line.ensures.ok
+    added c.put_line.result c.args.out.now c.args.waiting.now c.hand_over.new.out c.put_line.new.out c.args.tag.now c.bytes.result.now c.args.line.now
+    c.in_ok-hand_over.ensures.text c.bytes.ensures _ c.in_ok-hand_over.ensures.none c.put_line.ensures.ok
 
 pub returns-clause-begins : goal.returns-clause-begins
 returns-clause-begins c =
-    let line = (c.args.tag.now ++ codes " ") ++ c.args.line.now ++ newline in
-    let (front, e) = goes_on c.put_line.result line c.hand_over.new.out c.put_line.new.out c.put_line.ensures.ok c.put_line.ensures.err in
-    (c.args.waiting.now ++ front, e ∙ ap (λ w. w ++ front) c.in_ok-hand_over.ensures.text ∙ append_assoc c.args.out.now c.args.waiting.now front)
+    begun c.put_line.result c.args.out.now c.args.waiting.now c.hand_over.new.out c.put_line.new.out c.args.tag.now c.bytes.result.now c.args.line.now
+    c.in_ok-hand_over.ensures.text c.bytes.ensures c.put_line.ensures.ok c.put_line.ensures.err
 
 pub returns-clause-err : goal.returns-clause-err
 returns-clause-err c =
-    on_err_weaker c.put_line.result (λ (a, b, whole, k). (
-      b,
-      ap (λ w. w ++ b) k ∙ append_assoc c.hand_over.new.out a b ∙ ap (λ w. c.hand_over.new.out ++ w) whole
-          ∙ ap (λ w. w ++ ((c.args.tag.now ++ codes " ") ++ c.args.line.now ++ newline)) c.in_ok-hand_over.ensures.text,
-    )) c.put_line.ensures.err
+    cut c.put_line.result c.args.out.now c.args.waiting.now c.hand_over.new.out c.put_line.new.out c.args.tag.now c.bytes.result.now c.args.line.now
+    c.in_ok-hand_over.ensures.text c.bytes.ensures c.put_line.ensures.err

@@ -7,8 +7,8 @@ pub answer-requires-clause-some : goal.answer-requires-clause-some
 answer-requires-clause-some c =
     let n = ap length (c.bytes.ensures ∙ c.in-Ok.ensures) in omega (arith, n, length-append c.args.content.now newline)
 
-pub returns-in-default-clause-answered : goal.returns-in-default-clause-answered
-returns-in-default-clause-answered c = λ f seen x k same. record { first = []; added = sym (append-nil c.args.out.now); begins = λ reply r. (reply, refl) }
+pub returns-in_default-clause-answered : goal.returns-in_default-clause-answered
+returns-in_default-clause-answered c = λ f seen x k same. record { first = []; added = sym (append-nil c.args.out.now); begins = λ reply r. (reply, refl) }
 
 pub returns-clause-answered : goal.returns-clause-answered
 returns-clause-answered c = λ f seen x k same.

@@ -7,8 +7,8 @@ use Rattle.session_mux.proofs.MuxLemmas.{tags_unless_taken, goes_on_after, line_
 use Rattle.session_mux.proofs.RunInputs.{tag_not_blank}
 use Rattle.session_mux.proofs.mux.Mux.take.Goals as goal
 
-pub answer-requires-clause-some : goal.answer-requires-clause-some
-answer-requires-clause-some c =
+pub answer-outcome-requires-clause-some : goal.answer-outcome-requires-clause-some
+answer-outcome-requires-clause-some c =
     let (content, e) = c.requires.feed in
     let n = ap length e in omega (arith, n, length-append content newline)
 

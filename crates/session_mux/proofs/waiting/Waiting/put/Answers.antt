@@ -1,4 +1,4 @@
-use Rattle.std.proofs.Common.{◌++◌, codes, length, take, append_assoc, sym, ap, ◌∙◌}
+use Rattle.std.proofs.Common.{◌++◌, codes, ap, ◌∙◌}
 use Rattle.stl_syntax.specs.Texts.{newline}
 use Rattle.report.proofs.Adding.{add_then}
 use Rattle.session_mux.proofs.waiting.Waiting.put.Goals as goal
@@ -8,4 +8,3 @@ returns c =
     let prefix = c.args.tag.now ++ codes " " in
     let all = add_then (add_then c.put-begin.ensures.added c.put_front-end.ensures) c.add_byte-self-inside.ensures in
     all.added ∙ ap (λ w. w ++ ((prefix ++ c.args.line.now) ++ newline)) c.self.view_is
-    ∙ ap (λ w. c.args.self.now ++ w) (append_assoc prefix c.args.line.now newline)
