@@ -9,9 +9,9 @@ use Rattle.circular_buffer.specs.Buffer.{keep_last}
 use Rattle.memchr.specs.Find.{is_byte, Nowhere, NoneAfter, Passes}
 use Rattle.stl_syntax.specs.Texts.{newline}
 use Rattle.trace_reader.specs.Feeds.{HasNoFeed}
-use Rattle.trace_reader.specs.TraceText.{Line, lines}
+use Rattle.trace_reader.specs.TraceText.{Line}
 use Rattle.trace_reader.proofs.FeedLemmas.{none-free}
-use Rattle.trace_reader.proofs.LineLemmas.{done, rest, lines-nil, lines-rest}
+use Rattle.trace_reader.proofs.LineLemmas.{rest, lines-nil, lines-rest}
 use Rattle.session_mux.specs.Saying.{texts, EndsInFeed, HasLastLines}
 use Rattle.session_mux.proofs.TextLemmas.{texts_joined}
 use Rattle.session_mux.proofs.PlainTexts.{one_line}

@@ -171,12 +171,7 @@ impl Known {
     /// # Errors
     /// - `TooManySessions`: the tag is new, and there are 1,024. Nothing changed.
     /// - `Memory`: there was too little memory. A first part of the answer was added. A session that was begun for the line is gone.
-    pub(crate) fn answer(
-        &mut self,
-        tag: &[u8],
-        line: &[u8],
-        out: &mut Text,
-    ) -> Result<(), MuxFault>
+    pub(crate) fn answer(&mut self, tag: &[u8], line: &[u8], out: &mut Text) -> Result<(), MuxFault>
         requires tag { IsTag tag.now }
         requires known { HasKnown (shown self.old) }
         requires few { length self.old.sessions.items ≤ 1024 }

@@ -118,12 +118,7 @@ impl Mux {
 
     /// Takes a line of the input by its tag and its content with an LF, as `line` takes it whole. The content may be that of several lines,
     /// with an LF after each.
-    pub(crate) fn take(
-        &mut self,
-        tag: &[u8],
-        line: &[u8],
-        out: &mut Text,
-    ) -> Result<(), MuxFault>
+    pub(crate) fn take(&mut self, tag: &[u8], line: &[u8], out: &mut Text) -> Result<(), MuxFault>
         requires tag { IsTag tag.now }
         requires feed { IsWithFeed line.now }
         ensures taken { (p : Past) (content : List ℕ) → StandsFor p self.old → line.now ≡ content ++ newline

@@ -6,8 +6,8 @@ ghost use Rattle.memchr.specs.Lanes.{HasLanes};
 ghost use Rattle.report.specs.After.{IsAdded};
 ghost use Rattle.session_mux.specs.Near.{IsNoFeed, IsNextFeed};
 
-use memchr::memchr;
 use crate::after::add_part;
+use memchr::memchr;
 use std::simd::prelude::*;
 
 /// How many bytes are looked at.

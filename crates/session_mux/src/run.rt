@@ -7,11 +7,11 @@ ghost use Rattle.report.specs.After.{IsAdded};
 ghost use Rattle.session_mux.specs.Taking.{ended_line};
 ghost use Rattle.session_mux.specs.Running.{IsOwnLine, HasGathered};
 
+use crate::after::add_byte;
 use crate::near::{NEAR, first_feed, put_front};
 use crate::session::{asks, stops};
 use crate::tag::{LONGEST, tag_len};
 use frac128::Memory;
-use crate::after::add_byte;
 
 /// The most bytes of a line.
 const MOST_BYTES: usize = 4_113;
@@ -132,12 +132,7 @@ fn put_line(room: &mut [u8], at: usize, line: &OwnLine) -> usize
 ///
 /// # Errors
 /// Want of memory.
-pub(crate) fn gather(
-    room: &mut Vec<u8>,
-    tag: &[u8],
-    piece: &[u8],
-    most: u64,
-) -> Result<Run, Memory>
+pub(crate) fn gather(room: &mut Vec<u8>, tag: &[u8], piece: &[u8], most: u64) -> Result<Run, Memory>
     requires { IsTag tag.now }
     ensures gathered { IfOk result (λ r. HasGathered tag.now piece.now most r.bytes r.lines (take r.used room.new.items)) }
     ensures within { IfOk result (λ r. r.used ≤ length room.new.items) }

@@ -207,14 +207,7 @@ impl Session {
             (λ _. IsCutShort (IsGrowth f self.old.tag o (next_line o content)) out.old out.new) }
     {
         let goes_on = match &mut self.stream {
-            Some(live) => take_with(
-                live,
-                self.alloc,
-                &self.tag,
-                &mut self.recent,
-                line,
-                out,
-            )?,
+            Some(live) => take_with(live, self.alloc, &self.tag, &mut self.recent, line, out)?,
             None => return Ok(()),
         };
         if !goes_on {

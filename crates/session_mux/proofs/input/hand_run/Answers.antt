@@ -3,7 +3,6 @@ use Rattle.std.specs.Prelude.{Err}
 use Rattle.session_mux.specs.Muxes.{IsLineCall}
 use Rattle.session_mux.specs.Running.{IsRunRefused}
 use Rattle.session_mux.specs.declared.fault.MuxFault.{MuxFault}
-use Rattle.session_mux.specs.declared.fault.MuxFault.TheVariants as fault
 use Rattle.session_mux.specs.declared.stop.InputStop.{InputStop}
 use Rattle.session_mux.proofs.RunInputs.{run_handed, run_turned_away}
 use Rattle.session_mux.proofs.input.hand_run.Goals as goal

@@ -1,4 +1,4 @@
-use Rattle.std.proofs.Common.{inl, refl, arith}
+use Rattle.std.proofs.Common.{inl, refl}
 use Rattle.session_mux.proofs.LastLines.{behind_ends, behind_line, whole_line}
 use Rattle.session_mux.proofs.recent.last_begins.Goals as goal
 

@@ -1,4 +1,4 @@
-use Rattle.std.proofs.Common.{◌≡◌, ℕ, List, sym, subst, refl, arith}
+use Rattle.std.proofs.Common.{◌≡◌, ℕ, List, sym, subst, arith}
 use Rattle.rational.proofs.Lists.{take_rest}
 use Rattle.session_mux.specs.Saying.{HasLastLines}
 use Rattle.session_mux.proofs.LastLines.{AreLast, last_none, last_more, last_eight_are}

@@ -1,4 +1,4 @@
-use Rattle.std.proofs.Common.{take, length, refl, sym, ◌∙◌, arith}
+use Rattle.std.proofs.Common.{length, refl, sym, ◌∙◌, arith}
 use Rattle.std.proofs.lemmas.List.{take-take, length-take-le}
 use Rattle.session_mux.proofs.RunInputs.{own_front}
 use Rattle.session_mux.proofs.run.own_line.Goals as goal

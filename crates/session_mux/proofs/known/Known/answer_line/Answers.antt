@@ -1,4 +1,4 @@
-use Rattle.std.proofs.Common.{◌≡◌, sym, ap, ◌∙◌, ◌++◌, [], append-nil, refl, length, length-append, arith}
+use Rattle.std.proofs.Common.{sym, ap, ◌∙◌, ◌++◌, [], append-nil, refl, length, length-append, arith}
 use Rattle.stl_syntax.specs.Texts.{newline}
 use Rattle.session_mux.specs.Sessions.{Tagged}
 use Rattle.session_mux.proofs.known.Known.answer_line.Goals as goal

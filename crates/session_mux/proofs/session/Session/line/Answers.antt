@@ -1,4 +1,4 @@
-use Rattle.std.proofs.Common.{◌≡◌, sym, ap, ◌∙◌}
+use Rattle.std.proofs.Common.{sym, ap, ◌∙◌}
 use Rattle.session_mux.specs.Owning.{asks, stops, stopped_now, next_line, with_content}
 use Rattle.session_mux.specs.Standing.{IsGrowth, IsReply}
 use Rattle.session_mux.proofs.SessionLemmas.{either_way, replied_as, cut_as, reply_of, growth_of, is_shown, content_stops, content_goes_on}

@@ -1,5 +1,5 @@
-use Rattle.std.proofs.Common.{◌≡◌, ℕ, ◌+◌, ◌≤◌, List, ◌++◌, [], length, take, codes, arith, sym, ap, ◌∙◌}
-use Rattle.std.proofs.lemmas.List.{take-take, take_all, take-append-le, length-take-le}
+use Rattle.std.proofs.Common.{◌≡◌, ℕ, ◌+◌, ◌≤◌, List, ◌++◌, length, take, codes, arith, sym, ap, ◌∙◌}
+use Rattle.std.proofs.lemmas.List.{take-take, take_all, take-append-le}
 use Rattle.report.specs.After.{IsAdded}
 use Rattle.session_mux.proofs.tag.Tag.of.Goals as goal
 
