@@ -14,11 +14,10 @@ use Rattle.session_mux.specs.Tags.{number_of}
 use Rattle.session_mux.specs.Saying.{said_lines}
 use Rattle.session_mux.specs.Owning.{Own, own_of, asks, with_content, stopped_now}
 use Rattle.session_mux.specs.Standing.{IsOwnText, HasSaidSoFar, IsGrowth, IsReply, HasReplied, IsCutShort}
-use Rattle.session_mux.specs.Knowing.{Register, place_in, tags_of, tag_list, EachHasSaid, EachHasEnded, AreFound, IsLastFound}
+use Rattle.session_mux.specs.Knowing.{Register, place_in, tags_of, tag_list, EachHasSaid, EachHasEnded, AreFound}
 use Rattle.session_mux.specs.Knowing.{IsReady, IsTurnedAway, HasAnswered, IsUnanswered, HasEnded}
 use Rattle.session_mux.specs.declared.fault.MuxFault.{MuxFault}
 use Rattle.session_mux.specs.declared.fault.MuxFault.TheVariants as fault
-use Rattle.session_mux.specs.declared.known.Found.{Found}
 use Rattle.session_mux.specs.declared.known.Known.{Known}
 use Rattle.session_mux.specs.declared.session.Session.{Session}
 use Rattle.session_mux.proofs.OwnLemmas.{own_grows, own_stays}
@@ -116,14 +115,13 @@ module _ (f : Formula) (seen : List Tagged) (x : Tagged) (i : ℕ) (mid : Regist
 
     -- with the session put back in its place the line is answered
     pub has_answered : (new : Register) → new.formula ≡ mid.formula → new.sessions ≡ set mid.sessions i s
-        → new.places ≡ mid.places → new.last ≡ mid.last → HasAnswered f seen x new before after
-    has_answered new e1 e2 e3 e4 = record {
+        → new.places ≡ mid.places → HasAnswered f seen x new before after
+    has_answered new e1 e2 e3 = record {
       knows = record {
         formula = e1 ∙ r.formula;
         tags = ap tag_list e2 ∙ tags_of_set mid.sessions i r.session s r.at h.tag ∙ r.tags;
         said = subst (λ ss. EachHasSaid f (seen ++ x ∷ []) ss) (sym e2) each_said;
         found = subst (λ ss. AreFound ss new.places) (sym e2) (subst (λ (p : List (ℕ × ℕ)). AreFound (set mid.sessions i s) p) (sym e3) are_found);
-        last = subst (λ (p : List (ℕ × ℕ)). IsLastFound p new.last) (sym e3) (subst (λ (l : Found). IsLastFound mid.places l) (sym e4) r.last);
       };
       room = r.room;
       answer = h.reply;

@@ -14,7 +14,7 @@ use Rattle.session_mux.specs.Sessions.{Tagged, IsTag}
 use Rattle.session_mux.specs.Tags.{number_of}
 use Rattle.session_mux.specs.Owning.{Own, own_of}
 use Rattle.session_mux.specs.Standing.{HasSaidSoFar}
-use Rattle.session_mux.specs.Knowing.{Register, shown, place_in, tags_of, tag_list, EachHasSaid, AreFound, Knows, HasBegun, IsNotBegun, IsTurnedAway, IsReady}
+use Rattle.session_mux.specs.Knowing.{Register, shown, place_in, tags_of, tag_list, EachHasSaid, AreFound, IsSessionAt, Knows, HasBegun, IsNotBegun, IsTurnedAway, IsReady}
 use Rattle.session_mux.specs.declared.fault.MuxFault.{MuxFault}
 use Rattle.session_mux.specs.declared.fault.MuxFault.TheVariants as fault
 use Rattle.session_mux.specs.declared.known.Known.{Known}
@@ -120,25 +120,22 @@ not_found sessions places t found e = by_test (is_among t (tag_list sessions)) r
 
 -- ---- a line of a known tag
 
--- a tag that has its place leads to its session
-pub ready_known : (f : Formula) (seen : List Tagged) (x : Tagged) (i : ℕ) (old new : Register) → Knows f seen old → IsTag x.tag
-    → place_in old.places (number_of x.tag) ≡ Some i
-    → new ≡ record old { last = record { number = number_of x.tag; place = i } } → IsReady f seen x i new
-ready_known f seen x i old new k is e n =
-    let (s, at, same) = found_is f seen old.sessions old.places x.tag i k.said k.found is e in
+-- the session with its tag
+pub ready_known : (f : Formula) (seen : List Tagged) (x : Tagged) (i : ℕ) (r : Register) → Knows f seen r → IsSessionAt r.sessions i x.tag
+    → IsReady f seen x i r
+ready_known f seen x i r k (s, at, same) =
     let among : is_among x.tag (tags_of seen) ≡ true =
-    subst (λ ts. is_among x.tag ts ≡ true) k.tags (subst (λ w. is_among w (tag_list old.sessions) ≡ true) same (among_at old.sessions i s at)) in
-    subst (λ (m : Register). IsReady f seen x i m) (sym n) (record {
+    subst (λ ts. is_among x.tag ts ≡ true) k.tags (subst (λ w. is_among w (tag_list r.sessions) ≡ true) same (among_at r.sessions i s at)) in
+    record {
       formula = k.formula;
       tags = k.tags ∙ sym (tags_grow [] seen x ∙ ap (λ b. tags_of seen ++ (if b then [] else x.tag ∷ [])) among ∙ append-nil (tags_of seen));
       said = k.said;
       found = k.found;
-      last = inr e;
       session = s;
       at = at;
       tag = same;
       room = inl among;
-    })
+    }
 
 -- ---- a line of a new tag
 
@@ -205,21 +202,20 @@ module _ (f : Formula) (seen : List Tagged) (x : Tagged) (i : ℕ) (old mid : Kn
           (subst (λ m. place_in mid.places.entries m ≡ Some j) same e) at_number ∙ b.at
 
   -- a session that was begun for a new tag is ready for its line
-  pub ready_new : (new : Register) → new ≡ record (shown mid) { last = record { number = number_of x.tag; place = i } } → IsReady f seen x i new
-  ready_new new n = subst (λ (m : Register). IsReady f seen x i m) (sym n) (record {
+  pub ready_new : IsReady f seen x i (shown mid)
+  ready_new = record {
     formula = b.formula ∙ k.formula;
     tags = ap tag_list b.sessions ∙ map-append (λ (s : Session). s.tag) old.sessions.items (b.session ∷ [])
         ∙ ap (λ ts. ts ++ b.session.tag ∷ []) k.tags ∙ ap (λ t. tags_of seen ++ t ∷ []) b.tag
         ∙ sym (tags_grow [] seen x ∙ ap (λ b. tags_of seen ++ (if b then [] else x.tag ∷ [])) is_new);
     said = each_said;
     found = are_found;
-    last = inr at_number;
     session = b.session;
     at = subst (λ ss. slice_get ss i ≡ Some b.session) (sym b.sessions)
         (subst (λ m. slice_get (old.sessions.items ++ b.session ∷ []) m ≡ Some b.session) (sym b.at) (slice_get-append_here old.sessions.items b.session []));
     tag = b.tag;
     room = inr (omega (arith, b.room, ap length k.tags, tag_count old.sessions.items));
-  })
+  }
 
 -- ---- what begins a session, or does not
 

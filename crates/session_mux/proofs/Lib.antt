@@ -20,3 +20,5 @@ pub mod FrontFaults
 pub mod FrontTexts
 pub mod RunLemmas
 pub mod RunInputs
+pub mod NearLemmas
+mod LastLines

@@ -1,7 +1,7 @@
 -- The first line of a text, and the lines of one line after another.
 use Rattle.std.proofs.Common.{◌≡◌, refl, sym, ap, ◌∙◌, ℕ, ◌+◌, ◌<◌, true, List, [], ◌∷◌, ◌++◌, length, take, drop, append_assoc, arith}
 use Rattle.std.specs.Prelude.{map}
-use Rattle.std.proofs.lemmas.List.{append-nil, take-append-drop, map-append}
+use Rattle.std.proofs.lemmas.List.{append-nil, append_cancel_left, take-append-drop, map-append}
 use Rattle.std.proofs.lemmas.Grind.{flat_map-append}
 use Rattle.circular_buffer.specs.Buffer.{Buffer, buffer, keep_last}
 use Rattle.memchr.specs.Find.{is_byte, Nowhere, NoneBefore, Passes}
@@ -30,30 +30,27 @@ line_alone (c ∷ text) some none = lines-rest true (c ∷ text) (none-free (c �
 
 -- ---- said so far
 
--- some of the lines were said, and the others are those of the rest
-pub record Saying (prefix text before : List ℕ) (first : Buffer (List ℕ)) (rest after : List ℕ) (now : Buffer (List ℕ)) : Type 0 where
+-- some of the lines were said, and the others are those of the rest; some of the bytes may wait
+pub record Putting (prefix text before rest after waiting : List ℕ) : Type 0 where
   -- the lines that were said
   pub front : List Line
   -- with the rest they are the lines of the text
   pub split : lines true text ≡ front ++ lines true rest
   -- each was put, behind the prefix
-  pub added : after ≡ before ++ prefixed prefix front
-  -- the last eight lines have room
-  pub capacity : now.capacity ≡ 8
-  -- and are the last of those before and these
-  pub kept : (said : List (List ℕ)) → first ≡ buffer (keep_last 8 said) 8 → now ≡ buffer (keep_last 8 (said ++ map (λ (line : Line). line.bytes) front)) 8
+  pub added : after ++ waiting ≡ before ++ prefixed prefix front
+  -- what was added goes on from what there was
+  pub begins : (first : List ℕ) × (after ≡ before ++ first)
 
 -- before the first line nothing was said
-pub saying_begins : (prefix text before : List ℕ) (first : Buffer (List ℕ)) → first.capacity ≡ 8 → Saying prefix text before first text before first
-saying_begins prefix text before first room = record {
+pub putting_begins : (prefix text before waiting : List ℕ) → waiting ≡ [] → Putting prefix text before text before waiting
+putting_begins prefix text before waiting none = record {
   front = [];
   split = refl;
-  added = sym (append-nil before);
-  capacity = room;
-  kept = λ said e. e ∙ ap (λ ts. buffer (keep_last 8 ts) 8) (sym (append-nil said));
+  added = ap (λ w. before ++ w) none;
+  begins = ([], sym (append-nil before));
 }
 
-module _ (prefix text before : List ℕ) (first : Buffer (List ℕ)) (rest mid : List ℕ) (now : Buffer (List ℕ)) (t : Saying prefix text before first rest mid now)
+module _ (prefix text before rest mid now : List ℕ) (t : Putting prefix text before rest mid now)
     (line others : List ℕ) (is : lines true rest ≡ done line ∷ lines true others) where
   all : lines true text ≡ (t.front ++ done line ∷ []) ++ lines true others
   all = t.split ∙ ap (λ ls. t.front ++ ls) is ∙ sym (append_assoc t.front (done line ∷ []) (lines true others))
@@ -61,58 +58,98 @@ module _ (prefix text before : List ℕ) (first : Buffer (List ℕ)) (rest mid :
   one : prefixed prefix (done line ∷ []) ≡ prefix ++ line ++ newline
   one = append-nil (prefix ++ line ++ newline)
 
+  -- what was said, and the line
+  all_said : (w : List ℕ) → w ≡ (mid ++ now) ++ (prefix ++ line ++ newline) → w ≡ before ++ prefixed prefix (t.front ++ done line ∷ [])
+  all_said w e =
+      e ∙ ap (λ v. v ++ (prefix ++ line ++ newline)) t.added ∙ append_assoc before (prefixed prefix t.front) (prefix ++ line ++ newline)
+      ∙ ap (λ v. before ++ v) (ap (λ v. prefixed prefix t.front ++ v) (sym one)
+      ∙ sym (flat_map-append (λ (l : Line). prefix ++ l.bytes ++ newline) t.front (done line ∷ [])))
+
+  -- what was added, and more
+  on_from : (after : List ℕ) → (first : List ℕ) × (after ≡ mid ++ first) → (first : List ℕ) × (after ≡ before ++ first)
+  on_from after (more, e) = (t.begins.0 ++ more, e ∙ ap (λ w. w ++ more) t.begins.1 ∙ append_assoc before t.begins.0 more)
+
   -- one line more
-  pub saying_on : (next : Buffer (List ℕ)) (after : List ℕ) → next ≡ buffer (keep_last 8 (now.items ++ line ∷ [])) 8
-      → after ≡ mid ++ (prefix ++ line ++ newline)
-      → Saying prefix text before first others after next
-  saying_on next after e k = record {
-    front = t.front ++ done line ∷ [];
-    split = all;
-    added = k ∙ ap (λ w. w ++ (prefix ++ line ++ newline)) t.added ∙ append_assoc before (prefixed prefix t.front) (prefix ++ line ++ newline)
-        ∙ ap (λ w. before ++ w) (ap (λ w. prefixed prefix t.front ++ w) (sym one)
-        ∙ sym (flat_map-append (λ (l : Line). prefix ++ l.bytes ++ newline) t.front (done line ∷ [])));
-    capacity = ap (λ (b : Buffer (List ℕ)). b.capacity) e;
-    kept = λ said f. e
-        ∙ ap (λ (b : Buffer (List ℕ)). buffer (keep_last 8 (b.items ++ line ∷ [])) 8) (t.kept said f)
-        ∙ ap (λ ts. buffer ts 8) (kept_again 8 (said ++ map (λ (l : Line). l.bytes) t.front) (line ∷ []))
-        ∙ ap (λ ts. buffer (keep_last 8 ts) 8) (append_assoc said (map (λ (l : Line). l.bytes) t.front) (line ∷ [])
-        ∙ ap (λ ts. said ++ ts) (sym (map-append (λ (l : Line). l.bytes) t.front (done line ∷ []))));
-  }
+  pub putting_on : (after next : List ℕ) → after ++ next ≡ (mid ++ now) ++ (prefix ++ line ++ newline) → (first : List ℕ) × (after ≡ mid ++ first)
+      → Putting prefix text before others after next
+  putting_on after next e more = record { front = t.front ++ done line ∷ []; split = all; added = all_said (after ++ next) e; begins = on_from after more }
 
   -- a part of one more
-  pub saying_cut : (after : List ℕ) → GrewInPart (Is (prefix ++ line ++ newline)) mid after → GrewInPart (Is (prefixed prefix (lines true text))) before after
-  saying_cut after (a, b, whole, k) = (
-    prefixed prefix t.front ++ a,
-    b ++ prefixed prefix (lines true others),
-    append_assoc (prefixed prefix t.front) a (b ++ prefixed prefix (lines true others))
-        ∙ ap (λ w. prefixed prefix t.front ++ w)
-        (sym (append_assoc a b (prefixed prefix (lines true others))) ∙ ap (λ w. w ++ prefixed prefix (lines true others)) whole)
-        ∙ sym (ap (λ ls. prefixed prefix ls) (t.split ∙ ap (λ ls. t.front ++ ls) is)
-        ∙ flat_map-append (λ (l : Line). prefix ++ l.bytes ++ newline) t.front (done line ∷ lines true others)),
-    k ∙ ap (λ w. w ++ a) t.added ∙ append_assoc before (prefixed prefix t.front) a,
-  )
-
--- no more than some lines
-pub saying_stopped : (prefix text before : List ℕ) (first : Buffer (List ℕ)) (rest after : List ℕ) (now : Buffer (List ℕ))
-    → Saying prefix text before first rest after now
-    → GrewInPart (Is (prefixed prefix (lines true text))) before after
-saying_stopped prefix text before first rest after now t = (
-  prefixed prefix t.front,
-  prefixed prefix (lines true rest),
-  sym (ap (λ ls. prefixed prefix ls) t.split ∙ flat_map-append (λ (l : Line). prefix ++ l.bytes ++ newline) t.front (lines true rest)),
-  t.added,
-)
+  pub putting_cut : (after : List ℕ) → (left : List ℕ) × (after ++ left ≡ (mid ++ now) ++ (prefix ++ line ++ newline)) → (first : List ℕ) × (after ≡ mid ++ first)
+      → GrewInPart (Is (prefixed prefix (lines true text))) before after
+  putting_cut after (left, e) more =
+      let (first, k) = on_from after more in
+      let whole : first ++ left ≡ prefixed prefix (t.front ++ done line ∷ []) =
+      append_cancel_left before (first ++ left) (prefixed prefix (t.front ++ done line ∷ []))
+      (sym (append_assoc before first left) ∙ ap (λ w. w ++ left) (sym k) ∙ all_said (after ++ left) e) in (
+        first,
+        left ++ prefixed prefix (lines true others),
+        sym (append_assoc first left (prefixed prefix (lines true others))) ∙ ap (λ w. w ++ prefixed prefix (lines true others)) whole
+            ∙ sym (ap (λ ls. prefixed prefix ls) all
+            ∙ flat_map-append (λ (l : Line). prefix ++ l.bytes ++ newline) (t.front ++ done line ∷ []) (lines true others)),
+        k,
+      )
 
 -- all lines
-module _ (prefix text before : List ℕ) (first : Buffer (List ℕ)) (rest after : List ℕ) (now : Buffer (List ℕ))
-    (t : Saying prefix text before first rest after now) (none : rest ≡ []) where
+module _ (prefix text before rest mid now : List ℕ) (t : Putting prefix text before rest mid now) (none : rest ≡ []) where
   every : t.front ≡ lines true text
   every = sym (t.split ∙ ap (λ ls. t.front ++ ls) (ap (λ w. lines true w) none ∙ lines-nil true) ∙ append-nil t.front)
 
   -- once the text is used up all of its lines were put
-  pub saying_all : after ≡ before ++ prefixed prefix (lines true text)
-  saying_all = t.added ∙ ap (λ ls. before ++ prefixed prefix ls) every
+  pub putting_all : (after : List ℕ) → after ≡ mid ++ now → after ≡ before ++ prefixed prefix (lines true text)
+  putting_all after e = e ∙ t.added ∙ ap (λ ls. before ++ prefixed prefix ls) every
 
-  -- once the text is used up the last eight lines are those of all that was said
-  pub saying_kept : (said : List (List ℕ)) → first ≡ buffer (keep_last 8 said) 8 → now ≡ buffer (keep_last 8 (said ++ texts text)) 8
-  saying_kept said e = t.kept said e ∙ ap (λ ls. buffer (keep_last 8 (said ++ map (λ (l : Line). l.bytes) ls)) 8) every
+  -- or some, where those that wait could not be added
+  pub putting_left : (after : List ℕ) → after ≡ mid → GrewInPart (Is (prefixed prefix (lines true text))) before after
+  putting_left after e =
+      let (first, k) = t.begins in (
+        first,
+        now,
+        append_cancel_left before (first ++ now) (prefixed prefix (lines true text))
+            (sym (append_assoc before first now) ∙ ap (λ w. w ++ now) (sym k) ∙ putting_all (mid ++ now) refl),
+        e ∙ k,
+      )
+
+-- ---- kept so far
+
+-- some of the lines were kept, and the others are those of the rest
+pub record Keeping (text : List ℕ) (first : Buffer (List ℕ)) (rest : List ℕ) (now : Buffer (List ℕ)) : Type 0 where
+  -- the lines that were kept
+  pub front : List Line
+  -- with the rest they are the lines of the text
+  pub split : lines true text ≡ front ++ lines true rest
+  -- the last eight lines have room
+  pub capacity : now.capacity ≡ 8
+  -- and are the last of those before and these
+  pub kept : (said : List (List ℕ)) → first ≡ buffer (keep_last 8 said) 8 → now ≡ buffer (keep_last 8 (said ++ map (λ (line : Line). line.bytes) front)) 8
+
+-- before the first line none was kept
+pub keeping_begins : (text : List ℕ) (first : Buffer (List ℕ)) → first.capacity ≡ 8 → Keeping text first text first
+keeping_begins text first room = record {
+  front = [];
+  split = refl;
+  capacity = room;
+  kept = λ said e. e ∙ ap (λ ts. buffer (keep_last 8 ts) 8) (sym (append-nil said));
+}
+
+-- one line more
+pub keeping_on : (text : List ℕ) (first : Buffer (List ℕ)) (rest : List ℕ) (now : Buffer (List ℕ)) → (t : Keeping text first rest now)
+    → (line others : List ℕ) → lines true rest ≡ done line ∷ lines true others
+    → (next : Buffer (List ℕ)) → next ≡ buffer (keep_last 8 (now.items ++ line ∷ [])) 8 → Keeping text first others next
+keeping_on text first rest now t line others is next e = record {
+  front = t.front ++ done line ∷ [];
+  split = t.split ∙ ap (λ ls. t.front ++ ls) is ∙ sym (append_assoc t.front (done line ∷ []) (lines true others));
+  capacity = ap (λ (b : Buffer (List ℕ)). b.capacity) e;
+  kept = λ said f. e
+      ∙ ap (λ (b : Buffer (List ℕ)). buffer (keep_last 8 (b.items ++ line ∷ [])) 8) (t.kept said f)
+      ∙ ap (λ ts. buffer ts 8) (kept_again 8 (said ++ map (λ (l : Line). l.bytes) t.front) (line ∷ []))
+      ∙ ap (λ ts. buffer (keep_last 8 ts) 8) (append_assoc said (map (λ (l : Line). l.bytes) t.front) (line ∷ [])
+      ∙ ap (λ ts. said ++ ts) (sym (map-append (λ (l : Line). l.bytes) t.front (done line ∷ []))));
+}
+
+-- once the text is used up the last eight lines are those of all that was said
+pub keeping_all : (text : List ℕ) (first : Buffer (List ℕ)) (rest : List ℕ) (now : Buffer (List ℕ)) → (t : Keeping text first rest now) → rest ≡ []
+    → (said : List (List ℕ)) → first ≡ buffer (keep_last 8 said) 8 → now ≡ buffer (keep_last 8 (said ++ texts text)) 8
+keeping_all text first rest now t none said e =
+    t.kept said e ∙ ap (λ ls. buffer (keep_last 8 (said ++ map (λ (l : Line). l.bytes) ls)) 8)
+    (sym (t.split ∙ ap (λ ls. t.front ++ ls) (ap (λ w. lines true w) none ∙ lines-nil true) ∙ append-nil t.front))

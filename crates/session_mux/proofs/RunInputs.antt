@@ -1,14 +1,15 @@
 -- Lines of one session that follow one another in an input: what it stands for once their session took them together.
-use Rattle.std.proofs.Common.{◌≡◌, inl, inr, refl, sym, ap, subst, ◌∙◌, ℕ, suc, ◌+◌, ◌-◌, ◌*◌, ◌<◌, ◌≤◌, Bool, true, false}
+use Rattle.std.proofs.Common.{◌≡◌, ◌≢◌, ◌⊎◌, inl, inr, refl, sym, ap, subst, ◌∙◌, ℕ, suc, ◌+◌, ◌-◌, ◌*◌, ◌<◌, ◌≤◌, Bool, true, false}
 use Rattle.std.proofs.Common.{List, [], ◌∷◌, ◌++◌, append_assoc, append-nil, length, take, drop}
 use Rattle.std.proofs.Common.{arith, length-append, take-append-drop, take-add, length-drop, get_or}
-use Rattle.std.specs.Prelude.{All, ◌&&◌, ◌||◌, ◌==◌, map, Ok, Err}
+use Rattle.std.specs.Prelude.{All, reverse, ◌&&◌, ◌||◌, ◌==◌, if◌then◌else◌, map, Ok, Err}
 use Rattle.std.proofs.lemmas.Bool.{false≢true, eqb-true, and_parts}
 use Rattle.std.proofs.lemmas.Grind.{flat_map-append}
-use Rattle.std.proofs.lemmas.List.{drop_more, length-take-le, length_push}
+use Rattle.std.proofs.lemmas.List.{drop_more, length-take-le, length_push, take_all, reverse-append, reverse-reverse}
 use Rattle.std.proofs.lemmas.List.Elements.{All-head, All-tail, All-nil, All-cons, All-append}
 use Rattle.std.proofs.Math.Seq.{take-append_seam}
 use Rattle.rational.proofs.Lists.{take_rest}
+use Rattle.report.proofs.Adding.{take_past}
 use Rattle.memchr.specs.Find.{is_byte, NoneBefore, Passes}
 use Rattle.std.proofs.lemmas.Slice.Eq.{bytes_eq-Decides}
 use Rattle.stl_syntax.specs.Characters.{is_space, all, is_among}
@@ -20,7 +21,7 @@ use Rattle.trace_reader.proofs.FeedLemmas.{at-free, at-taken}
 use Rattle.trace_reader.proofs.LineLemmas.{lines-append, lines-line}
 use Rattle.trace_stream.proofs.FaultPlaces.{at_false}
 use Rattle.session_mux.specs.Sessions.{Tagged, IsTag, tag, IsTagged, followed, is_tag_byte, AreAnswers}
-use Rattle.session_mux.specs.Owning.{Own, asks, stops}
+use Rattle.session_mux.specs.Owning.{Own, IsWithFeed, asks, stops}
 use Rattle.session_mux.specs.Standing.{HasSaidSoFar}
 use Rattle.session_mux.specs.Knowing.{EachHasSaid, IsRoomFor, tags_of}
 use Rattle.session_mux.specs.Muxes.{Muxed, Past, StandsFor, HasTaken, IsLineCall, IsTakenLine}
@@ -155,7 +156,6 @@ module _ (f : Formula) (seen : List Tagged) (t : List ℕ) (l : RunLine) (ls : L
       tags = h.knows.tags ∙ tags_as_one t seen c l ls;
       said = each_as_one m.known.sessions h.knows.said;
       found = h.knows.found;
-      last = h.knows.last;
     };
   }
 
@@ -277,23 +277,79 @@ gathered_on {t} {piece} {n = n} {content = content} {m = m} g less own with_cont
           ∙ sym (flat_map-append (λ (k : RunLine). k.content ++ newline) g.lines (l ∷ []));
     }
 
--- the line at the front of a piece
-pub own_front : (t piece whole content : List ℕ) (at : ℕ) → NoneBefore (Passes (is_byte 10) piece) 0 (length piece) at → Passes (is_byte 10) piece at
-    → at ≤ 4113 → whole ≡ content_of (ended_line (take at piece)) → whole ≡ t ++ 32 ∷ content → asks content ≡ false → stops content ≡ false
-    → IsOwnLine t piece content (at + 1)
-own_front t piece whole content at h is few e k no_query no_stop = record {
-  bytes = take at piece;
-  is = record {
-    free = at-free piece at h is;
-    short = omega (arith, few, length-take-le at piece (omega (arith, h.high)));
-    is = sym e ∙ k;
-    no_query = no_query;
-    no_stop = no_stop;
-  };
-  taken = at-taken piece at h is;
-  within = omega (arith, h.high);
-  some = omega arith;
-}
+-- a tag has no LF
+tag_free : (t : List ℕ) → IsTag t → HasNoFeed t
+tag_free t (tag {c = c} {rest = rest} bytes few) = bytes_free (c ∷ rest) bytes
+  where
+    byte_no_feed : (d : ℕ) → is_tag_byte d ≡ true → d ≢ 10
+    byte_no_feed d is e = absurd (false≢true (subst (λ x. is_tag_byte x ≡ true) e is))
+
+    bytes_free : (xs : List ℕ) → all is_tag_byte xs ≡ true → HasNoFeed xs
+    bytes_free [] h = All-nil (λ d. d ≢ 10)
+    bytes_free (x ∷ xs) h =
+        let both = and_parts (is_tag_byte x) (all is_tag_byte xs) h in All-cons (λ d. d ≢ 10) x xs (byte_no_feed x both.0) (bytes_free xs both.1)
+
+-- a list is empty, or has a last item
+snoc : (ys : List ℕ) → (ys ≡ []) ⊎ ((w : List ℕ) × (c : ℕ) × (ys ≡ w ++ c ∷ []))
+snoc [] = inl refl
+snoc (y ∷ ys) = elim (snoc ys) [
+  | inl e ↦ inr ([], y, ap (λ z. y ∷ z) e)
+  | inr h ↦ inr (y ∷ h.0, h.1, ap (λ z. y ∷ z) h.2)
+]
+
+-- the content of a line that ends in this byte
+content_at : (w : List ℕ) (c : ℕ) → content_of (ended_line (w ++ c ∷ [])) ≡ (if c == 13 then w else w ++ c ∷ [])
+content_at w c = by_test (c == 13) refl
+  where
+    by_test : (b : Bool) → (c == 13) ≡ b → content_of (ended_line (w ++ c ∷ [])) ≡ (if b then w else w ++ c ∷ [])
+    by_test true e = rw (reverse-append w (c ∷ []), e) (reverse-reverse w)
+    by_test false e = rw (reverse-append w (c ∷ []), e) (reverse-append (c ∷ []) (reverse w) ∙ ap (λ v. v ++ c ∷ []) (reverse-reverse w))
+
+-- the content of what follows some bytes and a space follows them too
+content_behind : (xs ys : List ℕ) → content_of (ended_line (xs ++ 32 ∷ ys)) ≡ xs ++ 32 ∷ content_of (ended_line ys)
+content_behind xs ys = by_end (snoc ys)
+  where
+    by_end : (ys ≡ []) ⊎ ((w : List ℕ) × (c : ℕ) × (ys ≡ w ++ c ∷ [])) → content_of (ended_line (xs ++ 32 ∷ ys)) ≡ xs ++ 32 ∷ content_of (ended_line ys)
+    by_end (inl e) = subst (λ zs. content_of (ended_line (xs ++ 32 ∷ zs)) ≡ xs ++ 32 ∷ content_of (ended_line zs)) (sym e) (content_at xs 32)
+    by_end (inr (w, c, e)) =
+        subst (λ zs. content_of (ended_line (xs ++ 32 ∷ zs)) ≡ xs ++ 32 ∷ content_of (ended_line zs)) (sym e)
+        (ap (λ zs. content_of (ended_line zs)) (sym (append_assoc xs (32 ∷ w) (c ∷ []))) ∙ content_at (xs ++ 32 ∷ w) c ∙ by_test (c == 13)
+        ∙ ap (λ zs. xs ++ 32 ∷ zs) (sym (content_at w c)))
+      where
+        by_test : (b : Bool) → (if b then xs ++ 32 ∷ w else (xs ++ 32 ∷ w) ++ c ∷ []) ≡ xs ++ 32 ∷ (if b then w else w ++ c ∷ [])
+        by_test true = refl
+        by_test false = append_assoc xs (32 ∷ w) (c ∷ [])
+
+-- the line at the front of a piece, by what follows its tag and a space
+pub own_front : (t piece rest content : List ℕ) (at end : ℕ) → IsTag t → piece ≡ t ++ 32 ∷ rest
+    → NoneBefore (Passes (is_byte 10) rest) 0 (length rest) at → Passes (is_byte 10) rest at
+    → end ≡ length piece - length rest + at → end ≤ 4113 → content ≡ content_of (ended_line (take at rest)) → asks content ≡ false → stops content ≡ false
+    → IsOwnLine t piece content (end + 1)
+own_front t piece rest content at end is split h feed e few k no_query no_stop =
+    let bytes : List ℕ = t ++ 32 ∷ take at rest in
+    let front : List ℕ = t ++ 32 ∷ [] in
+    let front_all : take (length front) front ≡ front = take_all (length front) front (omega arith) in
+    let front_is : piece ≡ take (length front) front ++ rest =
+    split ∙ sym (append_assoc t (32 ∷ []) rest) ∙ ap (λ w. w ++ rest) (sym front_all) in
+    let n : length piece - length rest ≡ length t + 1 = omega (arith, ap length split, length-append t (32 ∷ rest)) in
+    let some : at < length rest = h.high in
+    record {
+      bytes = bytes;
+      is = record {
+        free = All-append (λ d. d ≢ 10) t (32 ∷ take at rest) (tag_free t is)
+            (All-cons (λ d. d ≢ 10) 32 (take at rest) (λ z. omega (arith, z)) (at-free rest at h feed));
+        short = omega (arith, few, e, n, length-append t (32 ∷ take at rest), length-take-le at rest (omega (arith, some)));
+        is = content_behind t (take at rest) ∙ ap (λ w. t ++ 32 ∷ w) (sym k);
+        no_query = no_query;
+        no_stop = no_stop;
+      };
+      taken = ap (take (end + 1)) front_is ∙ ap (λ m. take m (take (length front) front ++ rest)) (omega (arith, e, n, length-append t (32 ∷ [])))
+          ∙ take_past (length front) (at + 1) front rest (omega arith) ∙ ap (λ w. w ++ take (at + 1) rest) front_all
+          ∙ ap (λ w. front ++ w) (at-taken rest at h feed) ∙ sym (append_assoc front (take at rest) newline)
+          ∙ ap (λ w. w ++ newline) (append_assoc t (32 ∷ []) (take at rest));
+      within = omega (arith, e, n, some, ap length split, length-append t (32 ∷ rest));
+      some = omega arith;
+    }
 
 -- a line by the tag, a space and the content
 pub line_parts : (t line : List ℕ) → length t < length line → take (length t) line ≡ t → get_or line (length t) 0 ≡ 32
@@ -328,14 +384,12 @@ run_turned_away p t c old new before after n is (blank, (x, tagged, other), full
 
 -- some lines have contents
 pub gathered_some : (t piece : List ℕ) (most n count : ℕ) (contents : List ℕ) → HasGathered t piece most n count contents → (count ≡ 0 → ⊥)
-    → 0 < length contents
+    → IsWithFeed contents
 gathered_some t piece most n count contents g some = by_lines g.lines g.are g.contents_are
   where
-    by_lines : (ls : List RunLine) → count ≡ length ls → contents ≡ contents_of ls → 0 < length contents
+    by_lines : (ls : List RunLine) → count ≡ length ls → contents ≡ contents_of ls → IsWithFeed contents
     by_lines [] e k = absurd (some e)
-    by_lines (l ∷ ls) e k =
-        let (c, ends) = contents_end l ls in
-        omega (arith, ap length (k ∙ ends), length-append c newline)
+    by_lines (l ∷ ls) e k = let (c, ends) = contents_end l ls in (c, k ∙ ends)
 
 module _ (f : Formula) (i : Input) (bytes written piece : List ℕ) (k : IsTaking f i bytes written) (t : List ℕ) (is_tag : IsTag t) (n count : ℕ)
     (contents : List ℕ) (g : HasGathered t piece (8589934592 - i.whole) n count contents) (empty : i.part ≡ []) (some : count ≡ 0 → ⊥) where

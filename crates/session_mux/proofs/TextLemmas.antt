@@ -1,5 +1,5 @@
 -- The texts of sessions are made of whole lines, and what a session writes alone goes on as its bytes do.
-use Rattle.std.proofs.Common.{◌≡◌, ◌⊎◌, inl, inr, refl, sym, ap, subst, ◌∙◌, ℕ, ℤ, Bool, true, false, List, [], ◌∷◌, ◌++◌, append_assoc}
+use Rattle.std.proofs.Common.{◌≡◌, inl, inr, refl, sym, ap, subst, ◌∙◌, ℕ, ℤ, Bool, true, false, List, [], ◌∷◌, ◌++◌, append_assoc}
 use Rattle.std.specs.Prelude.{codes, decimal, int_lt, map, MatchBool, Option, Some, None}
 use Rattle.std.proofs.lemmas.List.{append-nil, map-append}
 use Rattle.stl_syntax.specs.Formula.{Formula, Subformula, root}
@@ -23,12 +23,9 @@ use Rattle.trace_stream.specs.Streams.{verdicts, StreamOf}
 use Rattle.trace_stream.specs.Following.{IsTextOf}
 use Rattle.trace_stream.proofs.RowsBefore.{rows_stay, fault_stays}
 use Rattle.session_mux.specs.Sessions.{IsRowsStream, Alone}
+pub use Rattle.session_mux.specs.Saying.{EndsInFeed}
 use Rattle.session_mux.specs.Saying.{texts}
 use Rattle.session_mux.specs.Standing.{HasFault}
-
--- nothing, or lines that are whole
-abbrev pub EndsInFeed : List ℕ → Type 0
-EndsInFeed text = (text ≡ []) ⊎ ((x : List ℕ) × (text ≡ x ++ newline))
 
 ends_joined : (a b text : List ℕ) → EndsInFeed a → EndsInFeed b → text ≡ a ++ b → EndsInFeed text
 ends_joined a b text p (inl e) k = subst (λ t. EndsInFeed t) (sym (k ∙ ap (λ t. a ++ t) e ∙ append-nil a)) p

@@ -11,20 +11,18 @@ use Rattle.session_mux.specs.Owning.{own_of, stopped_now}
 use Rattle.session_mux.specs.Standing.{HasSaidSoFar, IsCutShort}
 use Rattle.session_mux.specs.declared.fault.MuxFault.{MuxFault}
 use Rattle.session_mux.specs.declared.fault.MuxFault.TheVariants as fault
-use Rattle.session_mux.specs.declared.known.Found.{Found}
 use Rattle.session_mux.specs.declared.known.Known.{Known}
 use Rattle.session_mux.specs.declared.session.Session.{Session}
 
--- what is known of the sessions of an input: they themselves, in the order of their first lines, the numbers of their tags with their
--- places, and what was found last
+-- what is known of the sessions of an input: they themselves, in the order of their first lines, and the numbers of their tags with their
+-- places
 pub record Register : Type 0 where
   pub formula : Formula
   pub sessions : List Session
   pub places : List (ℕ × ℕ)
-  pub last : Found
 
 abbrev pub shown : Known → Register
-shown k = record { formula = k.formula; sessions = k.sessions.items; places = k.places.entries; last = k.last }
+shown k = record { formula = k.formula; sessions = k.sessions.items; places = k.places.entries }
 
 -- the place of a number
 abbrev pub place_in : List (ℕ × ℕ) → ℕ → Option ℕ
@@ -48,9 +46,9 @@ pub record AreFound (sessions : List Session) (places : List (ℕ × ℕ)) : Typ
   pub at : (i : ℕ) (s : Session) → slice_get sessions i ≡ Some s → place_in places (number_of s.tag) ≡ Some i
   pub only : (n i : ℕ) → place_in places n ≡ Some i → (s : Session) × (slice_get sessions i ≡ Some s) × (number_of s.tag ≡ n)
 
--- what was found last is so still
-abbrev pub IsLastFound : List (ℕ × ℕ) → Found → Type 0
-IsLastFound places last = (last.number ≡ 0) ⊎ (place_in places last.number ≡ Some last.place)
+-- a session with this tag stands at place i
+abbrev pub IsSessionAt : List Session → ℕ → List ℕ → Type 0
+IsSessionAt sessions i tag = (s : Session) × (slice_get sessions i ≡ Some s) × (s.tag ≡ tag)
 
 -- there is a session for each tag of the lines, which stands for its own lines, and is found by its tag
 pub record Knows (f : Formula) (seen : List Tagged) (k : Register) : Type 0 where
@@ -58,7 +56,6 @@ pub record Knows (f : Formula) (seen : List Tagged) (k : Register) : Type 0 wher
   pub tags : tag_list k.sessions ≡ tags_of seen
   pub said : EachHasSaid f seen k.sessions
   pub found : AreFound k.sessions k.places
-  pub last : IsLastFound k.places k.last
 
 -- each session is over, and stands for its own lines and their end
 abbrev pub EachHasEnded : Formula → List Tagged → List Session → Type 0
@@ -86,7 +83,6 @@ pub record HasBegun (t : List ℕ) (n i : ℕ) (old new : Known) : Type 0 where
   pub sessions : new.sessions.items ≡ old.sessions.items ++ session ∷ []
   pub places : Updates nat_cmp old.places new.places n (Some i)
   pub formula : new.formula ≡ old.formula
-  pub last : new.last ≡ old.last
 
 -- why there is no session more
 abbrev pub IsNotBegun : Known → Known → MuxFault → Type 0
@@ -106,7 +102,6 @@ pub record IsReady (f : Formula) (seen : List Tagged) (x : Tagged) (i : ℕ) (k 
   pub tags : tag_list k.sessions ≡ tags_of (seen ++ x ∷ [])
   pub said : EachHasSaid f seen k.sessions
   pub found : AreFound k.sessions k.places
-  pub last : IsLastFound k.places k.last
   pub session : Session
   pub at : slice_get k.sessions i ≡ Some session
   pub tag : session.tag ≡ x.tag

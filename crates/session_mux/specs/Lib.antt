@@ -10,3 +10,4 @@ pub mod Inputs
 pub mod Taking
 pub mod Hearing
 pub mod Running
+pub mod Near

@@ -1,5 +1,5 @@
 -- What a session has got by its own lines, one after the other.
-use Rattle.std.specs.Prelude.{ℕ, ◌||◌, Bool, true, List, ◌++◌, codes, bytes_eq, if◌then◌else◌}
+use Rattle.std.specs.Prelude.{◌≡◌, ℕ, ◌||◌, Bool, true, List, ◌++◌, codes, bytes_eq, if◌then◌else◌}
 use Rattle.stl_syntax.specs.Texts.{newline}
 use Rattle.session_mux.specs.Sessions.{Tagged, own, is_stopped}
 
@@ -18,6 +18,10 @@ asks content = bytes_eq content (codes "?")
 
 abbrev pub stops : List ℕ → Bool
 stops content = bytes_eq content (codes ".")
+
+-- it ends in an LF: a content with its LF, or several
+abbrev pub IsWithFeed : List ℕ → Type 0
+IsWithFeed line = (content : List ℕ) × (line ≡ content ++ newline)
 
 -- with one line of its trace more, unless it was stopped
 abbrev pub next_line : Own → List ℕ → Own

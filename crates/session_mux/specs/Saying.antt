@@ -1,5 +1,5 @@
 -- The lines that are said to a session: words of private contracts.
-use Rattle.std.specs.Prelude.{◌≡◌, ℕ, List, ◌++◌, map, flat_map, true, codes}
+use Rattle.std.specs.Prelude.{◌≡◌, ◌⊎◌, ℕ, List, [], ◌++◌, map, flat_map, true, codes}
 use Rattle.circular_buffer.specs.Buffer.{Buffer, buffer, keep_last}
 use Rattle.stl_syntax.specs.Texts.{newline}
 use Rattle.trace_reader.specs.TraceText.{Line, lines}
@@ -16,6 +16,14 @@ prefixed_texts prefix all = flat_map (λ (line : List ℕ). prefix ++ line ++ ne
 -- the lines of a text, each after a tag and a space
 abbrev pub said_lines : List ℕ → List ℕ → List ℕ
 said_lines tag text = prefixed (tag ++ codes " ") (lines true text)
+
+-- nothing, or lines that are whole
+abbrev pub EndsInFeed : List ℕ → Type 0
+EndsInFeed text = (text ≡ []) ⊎ ((x : List ℕ) × (text ≡ x ++ newline))
+
+-- the last eight lines are those of the other text
+abbrev pub HasLastLines : List ℕ → List ℕ → Type 0
+HasLastLines text last = (said : List (List ℕ)) → keep_last 8 (said ++ texts text) ≡ keep_last 8 (said ++ texts last)
 
 -- the lines of a text were said and kept
 pub record HasSaid (tag text : List ℕ) (old new : Buffer (List ℕ)) (before after : List ℕ) : Type 0 where

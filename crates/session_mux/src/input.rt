@@ -5,6 +5,7 @@ ghost use Rattle.trace_reader.specs.Feeds.{HasNoFeed};
 ghost use Rattle.trace_reader.proofs.LineLemmas.{rest};
 ghost use Rattle.stl_syntax.specs.Texts.{newline};
 ghost use Rattle.session_mux.specs.Sessions.{IsTag};
+ghost use Rattle.session_mux.specs.Owning.{IsWithFeed};
 ghost use Rattle.session_mux.specs.Muxes.{Past, StandsFor, HasTaken};
 ghost use Rattle.session_mux.specs.Running.{IsRunRefused};
 ghost use Rattle.session_mux.specs.Taking.{ended_line, IsSized, HasLines, IsTaking, HasTakenSome, IsInputStop};
@@ -36,7 +37,7 @@ const LONGEST: usize = 4_113;
 pub struct Input {
     mux: Mux,
     part: Text,
-    run: Text,
+    run: Vec<u8>,
     whole: u64,
     text: Text,
 }
@@ -85,12 +86,12 @@ fn hand_run(
 ) -> Result<(), InputStop>
     requires stands { (p : Past) × StandsFor p mux.old }
     requires tag { IsTag tag.now }
-    requires some { 0 < length contents.now }
+    requires feed { IsWithFeed contents.now }
     ensures { (p : Past) (content : List ℕ) → StandsFor p mux.old → contents.now ≡ content ++ newline → MatchResult result
         (λ _. HasTaken p (record { tag = tag.now; content = content }) mux.new text.old text.new)
         (IsRunRefused p number tag.now text.old text.new) }
 {
-    match mux.take(tag, &contents[..contents.len() - 1], text) {
+    match mux.take(tag, contents, text) {
         Ok(()) => Ok(()),
         Err(MuxFault::TooManySessions) => Err(refused(number, LineKind::TooManySessions)),
         Err(MuxFault::BadTag | MuxFault::Stopped | MuxFault::Ended | MuxFault::Memory) => {
@@ -108,7 +109,7 @@ impl Input {
         Input {
             mux: Mux::new(alloc, formula),
             part: Text::new(alloc),
-            run: Text::new(alloc),
+            run: Vec::new(alloc),
             whole: 0,
             text: Text::new(alloc),
         }
@@ -171,7 +172,7 @@ impl Input {
             &mut self.mux,
             self.whole + 1,
             tag,
-            self.run.bytes(),
+            &self.run[..run.used],
             &mut self.text,
         )?;
         self.whole += run.lines;

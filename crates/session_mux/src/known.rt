@@ -1,9 +1,10 @@
 //! The sessions of an input, found by their tags.
-ghost use Rattle.std.specs.Prelude.{◌≡◌, ◌<◌, ◌≤◌, ℕ, List, [], length, take, OnOk, OnErr, MatchResult};
+ghost use Rattle.std.specs.Prelude.{◌≡◌, ◌<◌, ◌≤◌, ◌++◌, ℕ, List, [], length, take, IsTrue, IfSome, OnOk, OnErr, MatchResult};
 ghost use Rattle.stl_syntax.specs.Formula.{Formula as Parsed};
+ghost use Rattle.stl_syntax.specs.Texts.{newline};
 ghost use Rattle.session_mux.specs.Sessions.{Tagged, IsTag, AreEnds};
 ghost use Rattle.session_mux.specs.Standing.{IsCutShort};
-ghost use Rattle.session_mux.specs.Knowing.{shown, place_in, Knows, KnowsAll, HasKnown, IsLastFound, HasBegun, IsNotBegun, IsReady};
+ghost use Rattle.session_mux.specs.Knowing.{shown, place_in, Knows, KnowsAll, HasKnown, IsSessionAt, HasBegun, IsNotBegun, IsReady};
 ghost use Rattle.session_mux.specs.Knowing.{IsTurnedAway, HasAnswered, IsUnanswered, HasEnded, tags_of, tag_list};
 
 use crate::fault::MuxFault;
@@ -17,23 +18,27 @@ use stl_syntax::{Formula, Text};
 /// The most sessions of an input.
 const MOST: usize = 1024;
 
-/// A tag's number and the place of its session; the number 0, which no tag has, where there is none yet.
-#[derive(Clone, Copy)]
-pub(crate) struct Found {
-    number: u128,
-    place: usize,
-}
-
-/// The sessions in the order of their first lines, and the place of each by its tag's number. The tag of the line before is tried
-/// first, since benches send many lines at once. `room` is room for a line and its LF.
+/// The sessions in the order of their first lines, and the place of each by its tag's number. Two places are tried first: the one behind that
+/// of the line before, since benches take turns, and that one again, since they send many lines at once.
 #[derive(Drop)]
 pub(crate) struct Known {
     alloc: Global,
     formula: Formula,
     sessions: Vec<Session>,
     places: BTreeMap<u128, usize>,
-    last: Found,
-    room: Text,
+    last: usize,
+}
+
+/// Puts a content and an LF into the room.
+///
+/// # Errors
+/// Want of memory.
+fn put_line(room: &mut Text, content: &[u8]) -> Result<(), Memory>
+    ensures { OnOk result (room.new ≡ content.now ++ newline) }
+{
+    room.clear();
+    room.push(content)?;
+    room.push(b"\n")
 }
 
 impl Known {
@@ -47,11 +52,7 @@ impl Known {
             formula,
             sessions: Vec::new(alloc),
             places: BTreeMap::new(alloc),
-            last: Found {
-                number: 0,
-                place: 0,
-            },
-            room: Text::new(alloc),
+            last: 0,
         }
     }
 
@@ -65,19 +66,45 @@ impl Known {
 
     /// The place of the session of the tag with this number.
     fn place_of(&self, number: u128) -> Option<usize>
-        requires some { 0 < number }
-        requires last { IsLastFound self.now.places.entries self.now.last }
         ensures { result ≡ place_in self.now.places.entries number }
     {
-        if number == self.last.number {
-            return Some(self.last.place);
-        }
         self.places.get(&number).copied()
+    }
+
+    /// Whether the session at a place has the tag.
+    fn is_at(&self, place: usize, tag: &[u8]) -> bool
+        ensures { IsTrue result → IsSessionAt self.now.sessions.items place tag.now }
+    {
+        if place >= self.sessions.len() {
+            return false;
+        }
+        self.sessions[place].has_tag(tag)
+    }
+
+    /// The place behind that of the line before; the first one behind the last.
+    fn next_place(&self) -> usize {
+        let next = self.last.saturating_add(1);
+        if next < self.sessions.len() { next } else { 0 }
+    }
+
+    /// The place of the session of the tag, where it is found at once.
+    fn likely_place(&self, tag: &[u8]) -> Option<usize>
+        ensures { IfSome result (λ i. IsSessionAt self.now.sessions.items i tag.now) }
+    {
+        let next = self.next_place();
+        if self.is_at(next, tag) {
+            return Some(next);
+        }
+        if self.is_at(self.last, tag) {
+            return Some(self.last);
+        }
+        None
     }
 
     /// Begins the session of a new tag, and answers its place.
     fn begin(&mut self, tag: &[u8], number: u128) -> Result<usize, MuxFault>
-        requires { length self.old.sessions.items ≤ 1024 }
+        requires tag { IsTag tag.now }
+        requires few { length self.old.sessions.items ≤ 1024 }
         ensures begun { MatchResult result (λ i. HasBegun tag.now number i self.old self.new) (IsNotBegun self.old self.new) }
         ensures unbegun { OnErr result (self.new.sessions.items ≡ self.old.sessions.items) }
         ensures few { length self.new.sessions.items ≤ 1024 }
@@ -98,8 +125,8 @@ impl Known {
         Ok(place)
     }
 
-    /// The place of the session of a tag, which is begun where the tag is new.
-    fn place_for(&mut self, tag: &[u8]) -> Result<usize, MuxFault>
+    /// The place of the session of a tag by its number; the session is begun where the tag is new.
+    fn find(&mut self, tag: &[u8]) -> Result<usize, MuxFault>
         requires tag { IsTag tag.now }
         requires known { HasKnown (shown self.old) }
         requires few { length self.old.sessions.items ≤ 1024 }
@@ -112,23 +139,70 @@ impl Known {
     {
         let number = number_of(tag);
         if let Some(place) = self.place_of(number) {
-            self.last = Found { number, place };
             return Ok(place);
         }
         let place = self.begin(tag, number)?;
-        self.last = Found { number, place };
         Ok(place)
     }
 
-    /// Hands the content of a line to the session of its tag, and adds the answer.
+    /// The place of the session of a tag, which is begun where the tag is new.
+    fn place_for(&mut self, tag: &[u8]) -> Result<usize, MuxFault>
+        requires tag { IsTag tag.now }
+        requires known { HasKnown (shown self.old) }
+        requires few { length self.old.sessions.items ≤ 1024 }
+        ensures ready { (f : Parsed) (seen : List Tagged) (x : Tagged) → Knows f seen (shown self.old) → x.tag ≡ tag.now → MatchResult result
+            (λ i. IsReady f seen x i (shown self.new))
+            (IsTurnedAway seen x self.old self.new) }
+        ensures kept { OnOk result (take (length self.old.sessions.items) self.new.sessions.items ≡ self.old.sessions.items) }
+        ensures unbegun { OnErr result (self.new.sessions.items ≡ self.old.sessions.items) }
+        ensures few { length self.new.sessions.items ≤ 1024 }
+    {
+        if let Some(place) = self.likely_place(tag) {
+            self.last = place;
+            return Ok(place);
+        }
+        let place = self.find(tag)?;
+        self.last = place;
+        Ok(place)
+    }
+
+    /// Hands the content of a line, with its LF, to the session of its tag, and adds the answer.
     ///
     /// # Errors
     /// - `TooManySessions`: the tag is new, and there are 1,024. Nothing changed.
     /// - `Memory`: there was too little memory. A first part of the answer was added. A session that was begun for the line is gone.
-    pub(crate) fn answer(
+    pub(crate) fn answer(&mut self, tag: &[u8], line: &[u8], out: &mut Text) -> Result<(), MuxFault>
+        requires tag { IsTag tag.now }
+        requires known { HasKnown (shown self.old) }
+        requires few { length self.old.sessions.items ≤ 1024 }
+        requires some { 0 < length line.now }
+        ensures answered { (f : Parsed) (seen : List Tagged) (x : Tagged) → Knows f seen (shown self.old)
+            → x.tag ≡ tag.now → line.now ≡ x.content ++ newline → MatchResult result
+            (λ _. HasAnswered f seen x (shown self.new) out.old out.new)
+            (IsUnanswered f seen x self.old self.new out.old out.new) }
+        ensures untaken { OnErr result (tag_list self.new.sessions.items ≡ tag_list self.old.sessions.items) }
+        ensures few { length self.new.sessions.items ≤ 1024 }
+    {
+        let held = self.sessions.len();
+        let place = self.place_for(tag)?;
+        match self.sessions[place].line(line, out) {
+            Ok(()) => Ok(()),
+            Err(_) => {
+                self.sessions.truncate(held);
+                Err(MuxFault::Memory)
+            }
+        }
+    }
+
+    /// Hands the content of a line to the session of its tag, and adds the answer. `room` is room for it and its LF.
+    ///
+    /// # Errors
+    /// As `answer`.
+    pub(crate) fn answer_line(
         &mut self,
         tag: &[u8],
         content: &[u8],
+        room: &mut Text,
         out: &mut Text,
     ) -> Result<(), MuxFault>
         requires tag { IsTag tag.now }
@@ -141,15 +215,10 @@ impl Known {
         ensures untaken { OnErr result (tag_list self.new.sessions.items ≡ tag_list self.old.sessions.items) }
         ensures few { length self.new.sessions.items ≤ 1024 }
     {
-        let held = self.sessions.len();
-        let place = self.place_for(tag)?;
-        match self.sessions[place].line(content, &mut self.room, out) {
-            Ok(()) => Ok(()),
-            Err(_) => {
-                self.sessions.truncate(held);
-                Err(MuxFault::Memory)
-            }
-        }
+        let Ok(()) = put_line(room, content) else {
+            return Err(MuxFault::Memory);
+        };
+        self.answer(tag, room.bytes(), out)
     }
 
     /// Ends the sessions that are not over, in the order of their first lines, and adds what they say.

@@ -1,6 +1,8 @@
 //! Sessions in one input.
-ghost use Rattle.std.specs.Prelude.{◌≡◌, ◌++◌, ◌∷◌, [], length, MatchResult, OnErr};
+ghost use Rattle.std.specs.Prelude.{◌≡◌, ◌++◌, ◌∷◌, ℕ, List, [], length, MatchResult, OnErr};
+ghost use Rattle.stl_syntax.specs.Texts.{newline};
 ghost use Rattle.session_mux.specs.Sessions.{IsTag};
+ghost use Rattle.session_mux.specs.Owning.{IsWithFeed};
 ghost use Rattle.session_mux.specs.Knowing.{tags_of};
 ghost use Rattle.session_mux.specs.Muxes.{Past, StandsFor, HasTags, IsLineCall, IsEndCall, Moves, IsLate, IsAllowed, phase_after};
 
@@ -24,11 +26,14 @@ pub(crate) enum Phase {
 
 /// Several traces in one input, each line with the tag of its session: each session is told what it would be told alone.
 ///
+/// `room` is room for a content and its LF.
+///
 /// Contracts see it as `Muxed`. `StandsFor` says when it stands for the lines that were taken.
 #[derive(Drop)]
 pub struct Mux {
     known: Known,
     phase: Phase,
+    room: Text,
 }
 
 impl Model for Mux {
@@ -71,6 +76,7 @@ impl Mux {
         Mux {
             known: Known::new(alloc, formula),
             phase: Phase::Taking,
+            room: Text::new(alloc),
         }
     }
 
@@ -103,27 +109,26 @@ impl Mux {
         let Some(line) = cut(content) else {
             return Err(MuxFault::BadTag);
         };
-        let outcome = self.known.answer(line.tag, line.content, out);
+        let outcome = self
+            .known
+            .answer_line(line.tag, line.content, &mut self.room, out);
         self.phase = after_line(self.phase, outcome);
         outcome
     }
 
-    /// Takes a line of the input by its tag and its content, as `line` takes it whole. The content may be that of several lines, with an LF
-    /// after each but the last.
-    pub(crate) fn take(
-        &mut self,
-        tag: &[u8],
-        content: &[u8],
-        out: &mut Text,
-    ) -> Result<(), MuxFault>
-        requires { IsTag tag.now }
-        ensures taken { (p : Past) → StandsFor p self.old → IsLineCall p (tag.now ++ 32 ∷ content.now) self.old self.new out.old out.new result }
+    /// Takes a line of the input by its tag and its content with an LF, as `line` takes it whole. The content may be that of several lines,
+    /// with an LF after each.
+    pub(crate) fn take(&mut self, tag: &[u8], line: &[u8], out: &mut Text) -> Result<(), MuxFault>
+        requires tag { IsTag tag.now }
+        requires feed { IsWithFeed line.now }
+        ensures taken { (p : Past) (content : List ℕ) → StandsFor p self.old → line.now ≡ content ++ newline
+            → IsLineCall p (tag.now ++ 32 ∷ content) self.old self.new out.old out.new result }
         ensures untaken { (p : Past) → HasTags p self.old → OnErr result (HasTags p self.new) }
         ensures phase { Moves Phase.Taking self.old self.new result }
         ensures late { IsLate result → out.new ≡ out.old }
     {
         allow(self.phase)?;
-        let outcome = self.known.answer(tag, content, out);
+        let outcome = self.known.answer(tag, line, out);
         self.phase = after_line(self.phase, outcome);
         outcome
     }

@@ -1,11 +1,11 @@
 //! The last lines that were said to a session.
-ghost use Rattle.std.specs.Prelude.{◌≡◌, ◌++◌, ◌∷◌, [], ℕ, List, OnOk, IfOk};
+ghost use Rattle.std.specs.Prelude.{◌≡◌, ◌<◌, ◌++◌, ◌∷◌, [], ℕ, List, length, take, OnOk, IfOk};
 ghost use Rattle.circular_buffer.specs.Buffer.{buffer, keep_last};
-ghost use Rattle.session_mux.specs.Saying.{prefixed_texts};
-ghost use Rattle.report.specs.Appended.{GrewInPart, Is};
+ghost use Rattle.session_mux.specs.Saying.{texts, EndsInFeed, HasLastLines};
 
 use circular_buffer::HeapCircularBuffer;
 use frac128::Memory;
+use memchr::memrchr;
 use std::alloc::Global;
 use stl_syntax::Text;
 
@@ -55,4 +55,37 @@ pub(crate) fn keep(recent: &mut Recent, alloc: Global, line: &[u8]) -> Result<()
     text.push(line)?;
     let _ = recent.push_back(text);
     Ok(())
+}
+
+/// Where a text has more bytes, it is looked where its last lines begin.
+const FEW: usize = 256;
+
+/// Where the last line of a text begins.
+fn last_begins(text: &[u8]) -> usize
+    requires { 0 < length text.now }
+    ensures less { result < length text.now }
+    ensures ends { EndsInFeed (take result text.now) }
+    ensures line { (line : List ℕ) × (texts text.now ≡ texts (take result text.now) ++ line ∷ []) }
+{
+    match memrchr(b'\n', &text[..text.len() - 1]) {
+        Some(at) => at + 1,
+        None => 0,
+    }
+}
+
+/// The last eight lines of a text, or more of them.
+pub(crate) fn last_lines(text: &[u8]) -> &[u8]
+    ensures { HasLastLines text.now result.now }
+{
+    if text.len() <= FEW {
+        return text;
+    }
+    let mut from = text.len();
+    for _line in 0..KEPT {
+        if from == 0 {
+            return text;
+        }
+        from = last_begins(&text[..from]);
+    }
+    &text[from..]
 }

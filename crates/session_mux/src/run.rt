@@ -1,37 +1,42 @@
 //! The lines at the front of a piece that one session takes together.
-ghost use Rattle.std.specs.Prelude.{◌≡◌, ◌++◌, ◌∷◌, false, IfOk, MatchOption};
+ghost use Rattle.std.specs.Prelude.{◌≡◌, ◌≤◌, ◌+◌, ◌++◌, ◌∷◌, length, take, IfOk, OnOk, MatchOption};
+ghost use Rattle.stl_syntax.specs.Texts.{newline};
 ghost use Rattle.trace_reader.specs.TraceText.{content};
 ghost use Rattle.session_mux.specs.Sessions.{IsTag};
-ghost use Rattle.session_mux.specs.Owning.{asks as is_query, stops as is_stop};
+ghost use Rattle.report.specs.After.{IsAdded};
 ghost use Rattle.session_mux.specs.Taking.{ended_line};
 ghost use Rattle.session_mux.specs.Running.{IsOwnLine, HasGathered};
 
+use crate::after::add_byte;
+use crate::near::{NEAR, first_feed, put_front};
 use crate::session::{asks, stops};
 use crate::tag::{LONGEST, tag_len};
 use frac128::Memory;
-use memchr::memchr;
-use stl_syntax::Text;
 
 /// The most bytes of a line.
 const MOST_BYTES: usize = 4_113;
 
-/// A line of a trace: its content, and how many bytes it has with its tag and its LF.
+/// A line of a trace: its content, what follows its tag and a space, and how many bytes it has with its tag and its LF.
 #[derive(Clone, Copy)]
 struct OwnLine<'a> {
     content: &'a [u8],
+    rest: &'a [u8],
     bytes: usize,
 }
 
-/// How many lines were gathered, and how many bytes they have.
+/// How many lines were gathered, how many bytes they have, and how many their contents.
 #[derive(Clone, Copy)]
 pub(crate) struct Run {
     pub(crate) bytes: usize,
     pub(crate) lines: u64,
+    pub(crate) used: usize,
 }
 
 /// A line's bytes without one CR at the end.
 pub(crate) fn content_of(line: &[u8]) -> &[u8]
-    ensures { result.now ≡ content (ended_line line.now) }
+    ensures value { result.now ≡ content (ended_line line.now) }
+    ensures front { result.now ≡ take (length result.now) line.now }
+    ensures within { length result.now ≤ length line.now }
 {
     let Some((last, others)) = line.split_last() else {
         return line;
@@ -42,49 +47,46 @@ pub(crate) fn content_of(line: &[u8]) -> &[u8]
     line
 }
 
-/// What follows the tag and a space, where a line begins with them.
-fn after_tag<'a>(tag: &[u8], line: &'a [u8]) -> Option<&'a [u8]>
-    ensures { MatchOption result (Unit {0}) (λ r. line.now ≡ tag.now ++ 32 ∷ r.now) }
+/// What follows the tag and a space, where a piece begins with them.
+#[inline(always)]
+fn after_tag<'a>(tag: &[u8], piece: &'a [u8]) -> Option<&'a [u8]>
+    ensures { MatchOption result (Unit {0}) (λ r. piece.now ≡ tag.now ++ 32 ∷ r.now) }
 {
-    if line.len() <= tag.len() {
+    if piece.len() <= tag.len() {
         return None;
     }
-    if line[tag.len()] == b' ' && &line[..tag.len()] == tag {
-        return Some(&line[tag.len() + 1..]);
+    if piece[tag.len()] == b' ' && &piece[..tag.len()] == tag {
+        return Some(&piece[tag.len() + 1..]);
     }
     None
 }
 
-/// The content of a line with the tag, where it goes to the trace of its session.
-fn content_after<'a>(tag: &[u8], line: &'a [u8]) -> Option<&'a [u8]>
-    ensures { MatchOption result (Unit {0}) (λ r. (line.now ≡ tag.now ++ 32 ∷ r.now) × (is_query r.now ≡ false) × (is_stop r.now ≡ false)) }
+/// The line at the front of a piece, where it has the tag, goes to the trace of its session, and is not too long.
+#[inline(always)]
+fn own_line<'a>(tag: &[u8], piece: &'a [u8]) -> Option<OwnLine<'a>>
+    requires { IsTag tag.now }
+    ensures { MatchOption result (Unit {0}) (λ l. (l.content.now ≡ take (length l.content.now) l.rest.now) × (length l.content.now + 1 ≤ l.bytes)
+        × IsOwnLine tag.now piece.now l.content.now l.bytes) }
 {
-    let Some(content) = after_tag(tag, line) else {
+    let Some(rest) = after_tag(tag, piece) else {
         return None;
     };
+    let Some(at) = first_feed(rest) else {
+        return None;
+    };
+    let end = piece.len() - rest.len() + at;
+    if end > MOST_BYTES {
+        return None;
+    }
+    let content = content_of(&rest[..at]);
     if asks(content) || stops(content) {
         return None;
     }
-    Some(content)
-}
-
-/// The line at the front of a piece, where it has the tag, goes to the trace of its session, and is not too long.
-fn own_line<'a>(tag: &[u8], piece: &'a [u8]) -> Option<OwnLine<'a>>
-    ensures { MatchOption result (Unit {0}) (λ l. IsOwnLine tag.now piece.now l.content.now l.bytes) }
-{
-    let Some(at) = memchr(b'\n', piece) else {
-        return None;
-    };
-    if at > MOST_BYTES {
-        return None;
-    }
-    match content_after(tag, content_of(&piece[..at])) {
-        Some(content) => Some(OwnLine {
-            content,
-            bytes: at + 1,
-        }),
-        None => None,
-    }
+    Some(OwnLine {
+        content,
+        rest,
+        bytes: end + 1,
+    })
 }
 
 /// The tag at the front of a piece, where a space follows it.
@@ -98,24 +100,54 @@ pub(crate) fn front_tag(piece: &[u8]) -> Option<&[u8]>
     Some(&piece[..len])
 }
 
-/// Puts the contents of the lines at the front of a piece that have this tag, at most so many, one after the other, each with its LF.
+/// Makes a room longer than a piece by a few bytes at least.
 ///
 /// # Errors
 /// Want of memory.
-pub(crate) fn gather(run: &mut Text, tag: &[u8], piece: &[u8], most: u64) -> Result<Run, Memory>
-    ensures { IfOk result (λ r. HasGathered tag.now piece.now most r.bytes r.lines run.new) }
+fn make_room(room: &mut Vec<u8>, piece: &[u8]) -> Result<(), Memory>
+    ensures { OnOk result (length piece.now + 32 ≤ length room.new.items) }
 {
-    run.clear();
+    let wanted = piece.len() + NEAR;
+    if room.len() >= wanted {
+        return Ok(());
+    }
+    room.resize(wanted, 0)?;
+    Ok(())
+}
+
+/// Puts the content of a line and an LF into the room, and answers where they end.
+#[inline(always)]
+fn put_line(room: &mut [u8], at: usize, line: &OwnLine) -> usize
+    requires front { line.now.content.now ≡ take (length line.now.content.now) line.now.rest.now }
+    requires room { at + 32 ≤ length room.old }
+    requires whole { at + length line.now.content.now + 1 ≤ length room.old }
+    ensures { IsAdded (line.now.content.now ++ newline) room.old at room.new result }
+{
+    let end = put_front(room, at, line.content, line.rest);
+    add_byte(room, end, b'\n')
+}
+
+/// Puts the contents of the lines at the front of a piece that have this tag, at most so many, one after the other, each with its LF, to the
+/// front of the room.
+///
+/// # Errors
+/// Want of memory.
+pub(crate) fn gather(room: &mut Vec<u8>, tag: &[u8], piece: &[u8], most: u64) -> Result<Run, Memory>
+    requires { IsTag tag.now }
+    ensures gathered { IfOk result (λ r. HasGathered tag.now piece.now most r.bytes r.lines (take r.used room.new.items)) }
+    ensures within { IfOk result (λ r. r.used ≤ length room.new.items) }
+{
+    make_room(room, piece)?;
     let mut bytes = 0;
     let mut lines = 0;
+    let mut used = 0;
     while lines < most {
         let Some(line) = own_line(tag, &piece[bytes..]) else {
-            return Ok(Run { bytes, lines });
+            return Ok(Run { bytes, lines, used });
         };
-        run.push(line.content)?;
-        run.push(b"\n")?;
+        used = put_line(room, used, &line);
         bytes += line.bytes;
         lines += 1;
     }
-    Ok(Run { bytes, lines })
+    Ok(Run { bytes, lines, used })
 }

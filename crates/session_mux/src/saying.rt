@@ -1,23 +1,31 @@
 //! Lines of a session, said to its bench after its tag.
-ghost use Rattle.std.specs.Prelude.{◌≡◌, ◌<◌, ◌++◌, ◌∷◌, true, codes, length, OnOk, OnErr, MatchResult};
+ghost use Rattle.std.specs.Prelude.{◌≡◌, ◌<◌, ◌≤◌, ◌++◌, ◌∷◌, ℕ, List, [], true, codes, length, take, OnOk, OnErr, MatchResult};
 ghost use Rattle.stl_syntax.specs.Texts.{newline};
 ghost use Rattle.trace_reader.specs.TraceText.{lines};
 ghost use Rattle.report.specs.Appended.{GrewInPart, Is};
-ghost use Rattle.session_mux.specs.Saying.{prefixed_texts, said_lines, HasSaid};
+ghost use Rattle.circular_buffer.specs.Buffer.{buffer, keep_last};
+ghost use Rattle.session_mux.specs.Saying.{texts, prefixed_texts, said_lines, HasSaid};
 
-use crate::recent::{Recent, keep};
+use crate::near::first_feed;
+use crate::recent::{Recent, keep, last_lines};
+use crate::tag::Tag;
+use crate::waiting::Waiting;
 use frac128::Memory;
-use memchr::memchr;
 use std::alloc::Global;
 use stl_syntax::Text;
 
+/// The longest line that waits.
+const LONG: usize = 128;
+
 /// The first line of a text, without its LF, and the text after it.
-fn first_line(text: &[u8]) -> (&[u8], &[u8])
+#[inline(always)]
+pub(crate) fn first_line(text: &[u8]) -> (&[u8], &[u8])
     requires { 0 < length text.now }
     ensures line { lines true text.now ≡ record { bytes = result.0.now; whole = true } ∷ lines true result.1.now }
+    ensures front { result.0.now ≡ take (length result.0.now) text.now }
     ensures shorter { length result.1.now < length text.now }
 {
-    match memchr(b'\n', text) {
+    match first_feed(text) {
         Some(at) => (&text[..at], &text[at + 1..]),
         None => (text, &text[text.len()..]),
     }
@@ -37,13 +45,89 @@ fn put_line(out: &mut Text, tag: &[u8], mark: &[u8], line: &[u8]) -> Result<(), 
     out.push(b"\n")
 }
 
+/// Adds a line that is too long to wait, behind those that wait.
+///
+/// # Errors
+/// Want of memory. A first part of all of them was added.
+#[inline(never)]
+fn put_long(waiting: &mut Waiting, tag: &Tag, line: &[u8], out: &mut Text) -> Result<(), Memory>
+    ensures ok { OnOk result (out.new ++ waiting.new ≡ (out.old ++ waiting.old) ++ ((tag.now ++ codes " ") ++ line.now ++ newline)) }
+    ensures begins { (front : List ℕ) × (out.new ≡ out.old ++ front) }
+    ensures err { OnErr result ((rest : List ℕ) × (out.new ++ rest ≡ (out.old ++ waiting.old) ++ ((tag.now ++ codes " ") ++ line.now ++ newline))) }
+{
+    waiting.hand_over(out)?;
+    put_line(out, tag.bytes(), b" ", line)
+}
+
+/// Says a line, which stands at the front of a text, after the tag and a space. It may wait; those before it are added where there is no room.
+///
+/// # Errors
+/// Want of memory. A first part of all of them was added.
+#[inline(always)]
+fn put_said(
+    waiting: &mut Waiting,
+    tag: &Tag,
+    line: &[u8],
+    text: &[u8],
+    out: &mut Text,
+) -> Result<(), Memory>
+    requires { line.now ≡ take (length line.now) text.now }
+    ensures ok { OnOk result (out.new ++ waiting.new ≡ (out.old ++ waiting.old) ++ ((tag.now ++ codes " ") ++ line.now ++ newline)) }
+    ensures begins { (front : List ℕ) × (out.new ≡ out.old ++ front) }
+    ensures err { OnErr result ((rest : List ℕ) × (out.new ++ rest ≡ (out.old ++ waiting.old) ++ ((tag.now ++ codes " ") ++ line.now ++ newline))) }
+{
+    if line.len() > LONG {
+        return put_long(waiting, tag, line, out);
+    }
+    waiting.make_room(out)?;
+    waiting.put(tag, line, text);
+    Ok(())
+}
+
+/// Adds the lines of a text, each after the tag and a space.
+///
+/// # Errors
+/// Want of memory. A first part of these lines was added.
+fn put_lines(tag: &Tag, text: &[u8], out: &mut Text) -> Result<(), Memory>
+    ensures ok { OnOk result (out.new ≡ out.old ++ said_lines tag.now text.now) }
+    ensures err { OnErr result (GrewInPart (Is (said_lines tag.now text.now)) out.old out.new) }
+{
+    let mut waiting = Waiting::new();
+    let mut rest = text;
+    while !rest.is_empty() {
+        let (line, others) = first_line(rest);
+        put_said(&mut waiting, tag, line, rest, out)?;
+        rest = others;
+    }
+    waiting.hand_over(out)
+}
+
+/// Keeps the lines of a text among the last ones.
+///
+/// # Errors
+/// Want of memory.
+fn keep_lines(alloc: Global, recent: &mut Recent, text: &[u8]) -> Result<(), Memory>
+    requires { recent.old.capacity ≡ 8 }
+    ensures room { OnOk result (recent.new.capacity ≡ 8) }
+    ensures kept { OnOk result ((said : List (List ℕ)) → recent.old ≡ buffer (keep_last 8 said) 8
+        → recent.new ≡ buffer (keep_last 8 (said ++ texts text.now)) 8) }
+{
+    let mut rest = text;
+    while !rest.is_empty() {
+        let (line, others) = first_line(rest);
+        keep(recent, alloc, line)?;
+        rest = others;
+    }
+    Ok(())
+}
+
 /// Adds the lines of a text, each after the tag and a space, and keeps them among the last ones.
 ///
 /// # Errors
 /// Want of memory. A first part of these lines was added.
 pub(crate) fn say(
     alloc: Global,
-    tag: &[u8],
+    tag: &Tag,
     recent: &mut Recent,
     text: &[u8],
     out: &mut Text,
@@ -53,21 +137,18 @@ pub(crate) fn say(
         (λ _. HasSaid tag.now text.now recent.old recent.new out.old out.new)
         (λ _. GrewInPart (Is (said_lines tag.now text.now)) out.old out.new) }
 {
-    let mut rest = text;
-    while !rest.is_empty() {
-        let (line, others) = first_line(rest);
-        keep(recent, alloc, line)?;
-        put_line(out, tag, b" ", line)?;
-        rest = others;
+    if text.is_empty() {
+        return Ok(());
     }
-    Ok(())
+    keep_lines(alloc, recent, last_lines(text))?;
+    put_lines(tag, text, out)
 }
 
 /// Adds the lines that are kept, each after the tag and the mark of a query.
 ///
 /// # Errors
 /// Want of memory. A first part of these lines was added.
-pub(crate) fn show(tag: &[u8], recent: &Recent, out: &mut Text) -> Result<(), Memory>
+pub(crate) fn show(tag: &Tag, recent: &Recent, out: &mut Text) -> Result<(), Memory>
     ensures ok { OnOk result (out.new ≡ out.old ++ prefixed_texts (tag.now ++ codes " ? ") recent.now.items) }
     ensures err { OnErr result (GrewInPart (Is (prefixed_texts (tag.now ++ codes " ? ") recent.now.items)) out.old out.new) }
 {
@@ -75,7 +156,7 @@ pub(crate) fn show(tag: &[u8], recent: &Recent, out: &mut Text) -> Result<(), Me
         let Some(line) = recent.get(place) else {
             unreachable!()
         };
-        put_line(out, tag, b" ? ", line.bytes())?;
+        put_line(out, tag.bytes(), b" ? ", line.bytes())?;
     }
     Ok(())
 }

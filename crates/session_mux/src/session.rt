@@ -1,12 +1,12 @@
 //! One session: its trace as it comes, and the last lines that were said to it.
-ghost use Rattle.std.specs.Prelude.{◌≡◌, ◌++◌, ℕ, List, [], false, true, None, IfOk, MatchResult};
+ghost use Rattle.std.specs.Prelude.{◌≡◌, ◌<◌, ◌≤◌, ◌++◌, ◌∷◌, bytes_eq, length, ℕ, IsTrue, List, [], false, true, None, IfOk, MatchResult};
 ghost use Rattle.report.specs.Appended.{GrewInPart, Is};
 ghost use Rattle.report.specs.FaultTexts.{fault_text};
 ghost use Rattle.stl_syntax.specs.Formula.{Formula as Parsed};
 ghost use Rattle.stl_syntax.specs.Texts.{newline};
 ghost use Rattle.trace_reader.specs.InputFaults.{Fault as FirstFault};
 ghost use Rattle.trace_stream.specs.Cases.{IsFault};
-ghost use Rattle.trace_stream.specs.Following.{HasLived, IsLive, IsLiveStop};
+ghost use Rattle.trace_stream.specs.Following.{HasLived};
 ghost use Rattle.trace_stream.specs.Streams.{verdicts};
 ghost use Rattle.session_mux.specs.Owning.{Own, asks as is_query, stops as is_stop, next_line, stopped_now, with_content};
 ghost use Rattle.session_mux.specs.Saying.{said_lines, HasSaid};
@@ -16,6 +16,7 @@ ghost use Rattle.session_mux.specs.Standing.{HasSaidSome, IsGrowth, IsReply, Has
 
 use crate::recent::{Recent, no_lines};
 use crate::saying::{say, show};
+use crate::tag::Tag;
 use frac128::Memory;
 use report::put_line;
 use std::alloc::Global;
@@ -36,57 +37,42 @@ const LIMITS: Limits = Limits {
 #[derive(Drop)]
 pub(crate) struct Session {
     alloc: Global,
-    tag: Text,
+    tag: Tag,
     stream: Option<Live<Verdicts>>,
     recent: Recent,
 }
 
-/// The tag's bytes.
-fn named(alloc: Global, tag: &[u8]) -> Result<Text, Memory>
-    ensures { IfOk result (λ t. t ≡ tag.now) }
+/// Whether the content is this byte alone.
+#[inline(always)]
+fn is_mark(content: &[u8], mark: u8) -> bool
+    ensures { result ≡ bytes_eq content.now (mark ∷ []) }
 {
-    let mut name = Text::new(alloc);
-    name.push(tag)?;
-    Ok(name)
+    if content.len() != 1 {
+        return false;
+    }
+    content[0] == mark
 }
 
 /// Whether the content asks for the last lines.
+#[inline(always)]
 pub(crate) fn asks(content: &[u8]) -> bool
     ensures { result ≡ is_query content.now }
 {
-    content == b"?".as_slice()
+    is_mark(content, b'?')
 }
 
 /// Whether the content ends its session.
+#[inline(always)]
 pub(crate) fn stops(content: &[u8]) -> bool
     ensures { result ≡ is_stop content.now }
 {
-    content == b".".as_slice()
-}
-
-/// Hands a line of a trace, with its LF, to the reader: both at once, so that it takes the line in one step. `room` is room for them.
-fn feed_line(live: &mut Live<Verdicts>, content: &[u8], room: &mut Text) -> Result<(), StreamStop>
-    requires { HasLived WatchesRows verdicts live.old }
-    ensures taken { (bytes written : List ℕ) → IsLive WatchesRows verdicts live.old bytes written → MatchResult result
-        (λ _. IsLive WatchesRows verdicts live.new (bytes ++ (content.now ++ newline)) written)
-        (λ e. IsLiveStop verdicts live.old.rows.limits live.old.formula false (bytes ++ (content.now ++ newline)) (written ++ live.new.text) e) }
-    ensures limits { live.new.rows.limits ≡ live.old.rows.limits }
-    ensures formula { live.new.formula ≡ live.old.formula }
-{
-    room.clear();
-    let Ok(()) = room.push(content) else {
-        return Err(StreamStop::NoMemory);
-    };
-    let Ok(()) = room.push(b"\n") else {
-        return Err(StreamStop::NoMemory);
-    };
-    live.feed(room.bytes())
+    is_mark(content, b'.')
 }
 
 /// Says the line of a trace's first fault.
 fn say_fault(
     alloc: Global,
-    tag: &[u8],
+    tag: &Tag,
     recent: &mut Recent,
     formula: &Formula,
     fault: TraceFault,
@@ -106,7 +92,7 @@ fn say_fault(
 /// Says what a reader said before it stopped, and why it did.
 fn say_stop(
     alloc: Global,
-    tag: &[u8],
+    tag: &Tag,
     recent: &mut Recent,
     live: &Live<Verdicts>,
     stop: StreamStop,
@@ -127,25 +113,24 @@ fn say_stop(
     say_fault(alloc, tag, recent, live.formula(), fault, out)
 }
 
-/// Takes a line of a trace, says what it answers, and answers whether the reader goes on.
+/// Takes a line of a trace with its LF, says what it answers, and answers whether the reader goes on.
 fn take_with(
     live: &mut Live<Verdicts>,
     alloc: Global,
-    tag: &[u8],
+    tag: &Tag,
     recent: &mut Recent,
-    content: &[u8],
-    room: &mut Text,
+    line: &[u8],
     out: &mut Text,
 ) -> Result<bool, Memory>
     requires room { recent.old.capacity ≡ 8 }
     requires stands { (f : Parsed) × (bytes said : List ℕ) × IsOpen f bytes said live.old }
-    ensures { (f : Parsed) (o : Own) (said : List ℕ) → IsOwnText f o said → recent.old ≡ recent_of said → o.stopped ≡ false
-        → IsOpen f o.bytes said live.old → MatchResult result
-        (λ goes_on. HasGrown f tag.now (next_line o content.now) said recent.new out.old out.new
-        (IsAfterLine f (next_line o content.now).bytes goes_on live.new))
-        (λ _. IsCutShort (IsGrowth f tag.now o (next_line o content.now)) out.old out.new) }
+    ensures { (f : Parsed) (o : Own) (said content : List ℕ) → IsOwnText f o said → recent.old ≡ recent_of said → o.stopped ≡ false
+        → IsOpen f o.bytes said live.old → line.now ≡ content ++ newline → MatchResult result
+        (λ goes_on. HasGrown f tag.now (next_line o content) said recent.new out.old out.new
+        (IsAfterLine f (next_line o content).bytes goes_on live.new))
+        (λ _. IsCutShort (IsGrowth f tag.now o (next_line o content)) out.old out.new) }
 {
-    match feed_line(live, content, room) {
+    match live.feed(line) {
         Ok(()) => {
             say(alloc, tag, recent, live.text(), out)?;
             live.clear();
@@ -162,7 +147,7 @@ fn take_with(
 fn end_with(
     live: &mut Live<Verdicts>,
     alloc: Global,
-    tag: &[u8],
+    tag: &Tag,
     recent: &mut Recent,
     out: &mut Text,
 ) -> Result<(), Memory>
@@ -191,38 +176,38 @@ impl Session {
     /// # Errors
     /// Want of memory.
     pub(crate) fn new(alloc: Global, formula: &Formula, tag: &[u8]) -> Result<Session, Memory>
+        requires { length tag.now ≤ 16 }
         ensures tag { IfOk result (λ s. s.tag ≡ tag.now) }
         ensures said { IfOk result (λ s. HasSaidSoFar formula.now (record { bytes = []; stopped = false }) [] s) }
     {
-        let tag = named(alloc, tag)?;
         let live = Live::new(alloc, formula.copied()?, LIMITS)?;
         let recent = no_lines(alloc)?;
         Ok(Session {
             alloc,
-            tag,
+            tag: Tag::of(tag),
             stream: Some(live),
             recent,
         })
     }
 
-    /// Takes a line of the trace, and says what it answers.
-    fn take(&mut self, content: &[u8], room: &mut Text, out: &mut Text) -> Result<(), Memory>
+    /// Whether it is the session of this tag.
+    pub(crate) fn has_tag(&self, tag: &[u8]) -> bool
+        ensures { IsTrue result → self.now.tag ≡ tag.now }
+    {
+        self.tag.bytes() == tag
+    }
+
+    /// Takes a line of the trace with its LF, and says what it answers.
+    fn take(&mut self, line: &[u8], out: &mut Text) -> Result<(), Memory>
         requires { HasSaidSome self.old }
         ensures tag { self.new.tag ≡ self.old.tag }
-        ensures replied { (f : Parsed) (o : Own) (said : List ℕ) → HasSaidSoFar f o said self.old → MatchResult result
-            (λ _. HasReplied f (next_line o content.now) self.old self.new (IsGrowth f self.old.tag o (next_line o content.now)) out.old out.new)
-            (λ _. IsCutShort (IsGrowth f self.old.tag o (next_line o content.now)) out.old out.new) }
+        ensures replied { (f : Parsed) (o : Own) (said content : List ℕ) → HasSaidSoFar f o said self.old → line.now ≡ content ++ newline
+            → MatchResult result
+            (λ _. HasReplied f (next_line o content) self.old self.new (IsGrowth f self.old.tag o (next_line o content)) out.old out.new)
+            (λ _. IsCutShort (IsGrowth f self.old.tag o (next_line o content)) out.old out.new) }
     {
         let goes_on = match &mut self.stream {
-            Some(live) => take_with(
-                live,
-                self.alloc,
-                self.tag.bytes(),
-                &mut self.recent,
-                content,
-                room,
-                out,
-            )?,
+            Some(live) => take_with(live, self.alloc, &self.tag, &mut self.recent, line, out)?,
             None => return Ok(()),
         };
         if !goes_on {
@@ -243,36 +228,33 @@ impl Session {
             (λ _. IsCutShort (IsGrowth f self.old.tag o (stopped_now o)) out.old out.new) }
     {
         match &mut self.stream {
-            Some(live) => end_with(live, self.alloc, self.tag.bytes(), &mut self.recent, out)?,
+            Some(live) => end_with(live, self.alloc, &self.tag, &mut self.recent, out)?,
             None => return Ok(()),
         }
         let_go(&mut self.stream);
         Ok(())
     }
 
-    /// Takes the content of a line, and says what it answers. The content may be that of several lines, with an LF after each but the last.
-    /// `room` is room for it and its LF.
+    /// Takes the content of a line with its LF, and says what it answers. It may be those of several lines.
     ///
     /// # Errors
     /// Want of memory. A first part of the answer was added.
-    pub(crate) fn line(
-        &mut self,
-        content: &[u8],
-        room: &mut Text,
-        out: &mut Text,
-    ) -> Result<(), Memory>
-        requires { HasSaidSome self.old }
+    pub(crate) fn line(&mut self, line: &[u8], out: &mut Text) -> Result<(), Memory>
+        requires said { HasSaidSome self.old }
+        requires some { 0 < length line.now }
         ensures tag { self.new.tag ≡ self.old.tag }
-        ensures replied { (f : Parsed) (o : Own) (said : List ℕ) → HasSaidSoFar f o said self.old → MatchResult result
-            (λ _. HasReplied f (with_content o content.now) self.old self.new (IsReply f self.old.tag o content.now) out.old out.new)
-            (λ _. IsCutShort (IsReply f self.old.tag o content.now) out.old out.new) }
+        ensures replied { (f : Parsed) (o : Own) (said content : List ℕ) → HasSaidSoFar f o said self.old → line.now ≡ content ++ newline
+            → MatchResult result
+            (λ _. HasReplied f (with_content o content) self.old self.new (IsReply f self.old.tag o content) out.old out.new)
+            (λ _. IsCutShort (IsReply f self.old.tag o content) out.old out.new) }
     {
+        let content = &line[..line.len() - 1];
         if asks(content) {
-            return show(self.tag.bytes(), &self.recent, out);
+            return show(&self.tag, &self.recent, out);
         }
         if stops(content) {
             return self.end(out);
         }
-        self.take(content, room, out)
+        self.take(line, out)
     }
 }

@@ -1,8 +1,12 @@
 //! The tag that a line begins with.
-ghost use Rattle.std.specs.Prelude.{◌≡◌, ◌<◌, ◌≤◌, ◌^◌, length, take, drop, true, MatchOption};
+ghost use Rattle.std.specs.Prelude.{◌≡◌, ◌<◌, ◌≤◌, ◌^◌, ◌+◌, ◌++◌, codes, length, take, drop, true, MatchOption};
 ghost use Rattle.stl_syntax.specs.Characters.{is_space as is_spacing, all, StopsAt};
 ghost use Rattle.session_mux.specs.Sessions.{is_tag_byte as is_of_tag, Tagged, IsTag, IsTagged};
+ghost use Rattle.report.specs.After.{IsAdded};
 ghost use Rattle.session_mux.specs.Tags.{number_of as number};
+
+use crate::after::{add_byte, add_part};
+use std::marker::Model;
 
 /// The most bytes of a tag.
 pub(crate) const LONGEST: usize = 16;
@@ -41,6 +45,56 @@ pub(crate) fn tag_len(line: &[u8]) -> usize
         }
     }
     line.len()
+}
+
+/// Room for a tag and a space, and what else is copied with them.
+const ROOM: usize = 32;
+
+/// A tag that is kept, with a space behind it. Contracts see the tag.
+#[derive(Drop)]
+pub(crate) struct Tag {
+    bytes: [u8; ROOM],
+    len: usize,
+}
+
+impl Model for Tag {
+    ghost use Rattle.std.specs.Prelude.{ℕ, List, ◌≡◌, ◌≤◌, ◌+◌, ◌++◌, codes, take};
+
+    ghost Value = { List ℕ };
+
+    ghost view = { λ t. take t.len t.bytes };
+
+    ghost invariant = { λ t. (t.len ≤ 16) × (take (t.len + 1) t.bytes ≡ take t.len t.bytes ++ codes " ") };
+}
+
+impl Tag {
+    /// A tag to be kept.
+    pub(crate) fn of(tag: &[u8]) -> Tag
+        requires { length tag.now ≤ 16 }
+        ensures { result ≡ tag.now }
+    {
+        let mut bytes = [0; ROOM];
+        let len = add_part(&mut bytes, 0, tag, tag.len());
+        add_byte(&mut bytes, len, b' ');
+        Tag { bytes, len }
+    }
+
+    /// The tag.
+    pub(crate) fn bytes(&self) -> &[u8]
+        ensures { result.now ≡ self.now }
+    {
+        &self.bytes[..self.len]
+    }
+
+    /// Puts the tag and a space behind what stands before `at`, and answers where they end.
+    #[inline(always)]
+    pub(crate) fn put(&self, buf: &mut [u8], at: usize) -> usize
+        requires { at + 32 ≤ length buf.old }
+        ensures added { IsAdded (self.now ++ codes " ") buf.old at buf.new result }
+        ensures few { result ≤ at + 17 }
+    {
+        add_part(buf, at, &self.bytes, self.len + 1)
+    }
 }
 
 /// A line that is cut after its tag.

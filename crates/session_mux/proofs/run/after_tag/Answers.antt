@@ -7,6 +7,6 @@ use Rattle.session_mux.proofs.run.after_tag.Goals as goal
 pub returns-then-eq : goal.returns-then-eq
 returns-then-eq c =
     let t = c.args.tag.now in
-    let line = c.args.line.now in
-    line_parts t line (omega (arith, c.if-line-tag.false)) ((bytes_eq-Decides (take (length t) line) t).0 (sym c.eq.ensures ∙ c.if-eq.true))
-    c.if-line-tag-eq32.true ∙ ap (λ w. t ++ 32 ∷ w) (sym (take_rest line (length t + 1)))
+    let line = c.args.piece.now in
+    line_parts t line (omega (arith, c.if-piece-tag.false)) ((bytes_eq-Decides (take (length t) line) t).0 (sym c.eq.ensures ∙ c.if-eq.true))
+    c.if-piece-tag-eq32.true ∙ ap (λ w. t ++ 32 ∷ w) (sym (take_rest line (length t + 1)))

@@ -1,10 +1,16 @@
-use Rattle.std.proofs.Common.{arith}
+use Rattle.std.proofs.Common.{length, refl, sym, ◌∙◌, arith}
+use Rattle.std.proofs.lemmas.List.{take-take, length-take-le}
 use Rattle.session_mux.proofs.RunInputs.{own_front}
 use Rattle.session_mux.proofs.run.own_line.Goals as goal
 
-pub returns-in-Some-content_after : goal.returns-in-Some-content_after
-returns-in-Some-content_after c =
-    let h = c.in-Some.ensures in
-    let k = c.in-Some-content_after.ensures in
-    own_front c.args.tag.now c.args.piece.now c.content_of.result.now c.in-Some-content_after.content.now c.in-Some.at h.0 h.1
-    (omega (arith, c.if-at-gt-MOST_BYTES.false)) c.content_of.ensures k.0 k.1 k.2
+pub returns : goal.returns
+returns c =
+    let h = c.in-Some-first_feed.ensures in
+    let rest = c.in-Some.rest.now in
+    let k = c.content_of-content.ensures in
+    let short = length-take-le c.in-Some-first_feed.at rest (omega (arith, h.0.high)) in (
+      k.front ∙ take-take (length c.content_of-content.result.now) c.in-Some-first_feed.at rest (omega (arith, k.within, short)),
+      omega (arith, k.within, short),
+      own_front c.args.tag.now c.args.piece.now rest c.content_of-content.result.now c.in-Some-first_feed.at _ c.requires c.in-Some.ensures h.0 h.1
+          refl (omega arith) k.value (sym c.asks.ensures ∙ c.if-asks.false) (sym c.stops.ensures ∙ c.if-stops.false),
+    )

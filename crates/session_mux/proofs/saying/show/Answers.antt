@@ -1,4 +1,4 @@
-use Rattle.std.proofs.Common.{◌≡◌, ℕ, ◌+◌, ◌++◌, ◌∷◌, [], List, take, drop, sym, ap, ◌∙◌, append_assoc, add-one, Some}
+use Rattle.std.proofs.Common.{◌≡◌, ℕ, ◌+◌, ◌++◌, ◌∷◌, [], List, take, drop, sym, ap, subst, ◌∙◌, append_assoc, add-one, Some}
 use Rattle.std.specs.Prelude.{codes, slice_get}
 use Rattle.std.proofs.lemmas.List.{append-nil, take-append-drop}
 use Rattle.std.proofs.lemmas.Grind.{flat_map-append}
@@ -33,10 +33,14 @@ module _ (prefix before mid : List ℕ) (all : List (List ℕ)) (i : ℕ) (line 
 
 pub returns-in_err-put_line-clause-err : goal.returns-in_err-put_line-clause-err
 returns-in_err-put_line-clause-err c =
-    on_err_anyway _ (shown_cut (c.args.tag.now ++ codes " ? ") c.args.out.now _ c.args.recent.now.items c.loop-place.place _
-    (sym c.in-Some.ensures ∙ ap Some (sym c.bytes.ensures)) c.loop-place.invariant _ c.in_err-put_line.ensures.err)
+    on_err_anyway _ (shown_cut (c.args.tag.now ++ codes " ? ") c.args.out.now _ c.args.recent.now.items c.loop-place.place c.bytes-in-loop-place.result.now
+    (sym c.in-Some.ensures ∙ ap Some (sym c.bytes-in-loop-place.ensures)) c.loop-place.invariant c.put_line.new.out
+    (subst (λ (t : List ℕ). GrewInPart (Is ((t ++ codes " ? ") ++ c.bytes-in-loop-place.result.now ++ newline)) c.loop-place.out c.put_line.new.out) c.bytes.ensures
+    c.in_err-put_line.ensures.err))
 
 pub loop-place-preserved : goal.loop-place-preserved
 loop-place-preserved c =
-    shown_on (c.args.tag.now ++ codes " ? ") c.args.out.now _ c.args.recent.now.items c.loop-place.place _
-    (sym c.in-Some.ensures ∙ ap Some (sym c.bytes.ensures)) c.loop-place.invariant _ c.in_ok-put_line.ensures.ok
+    shown_on (c.args.tag.now ++ codes " ? ") c.args.out.now _ c.args.recent.now.items c.loop-place.place c.bytes-in-loop-place.result.now
+    (sym c.in-Some.ensures ∙ ap Some (sym c.bytes-in-loop-place.ensures)) c.loop-place.invariant c.put_line.new.out
+    (subst (λ (t : List ℕ). c.put_line.new.out ≡ c.loop-place.out ++ ((t ++ codes " ? ") ++ c.bytes-in-loop-place.result.now ++ newline)) c.bytes.ensures
+    c.in_ok-put_line.ensures.ok)

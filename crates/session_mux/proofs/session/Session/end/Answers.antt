@@ -16,5 +16,5 @@ pub returns-clause-replied : goal.returns-clause-replied
 returns-clause-replied c = λ f o said h.
     let on = subst (λ (s : Option (Live Verdicts)). GoesOnWith f o said s) c.in-Some.is h.goes_on in
     let g = c.in_ok-end_with-in-Some.ensures f o said h.alone h.recent on.1 in
-    grew_under o c.args.self.now _ c.bytes.ensures refl h.alone g
+    grew_under o c.args.self.now _ refl refl h.alone g
     (subst (λ (s : Option (Live Verdicts)). GoesOnWith f (stopped_now o) (said ++ g.grown) s) (sym c.let_go.ensures) (inl refl))

@@ -1,10 +1,10 @@
 use Rattle.std.proofs.Common.{length, ◌++◌}
 use Rattle.std.specs.Prelude.{codes}
-use Rattle.session_mux.proofs.LineTexts.{Saying}
-use Rattle.session_mux.proofs.saying.say.Given as goal
+use Rattle.session_mux.proofs.LineTexts.{Putting}
+use Rattle.session_mux.proofs.saying.put_lines.Given as goal
 
 abbrev pub invariant-loop-rest : goal.invariant-loop-rest
-invariant-loop-rest l = Saying (l.tag ++ codes " ") l.text l.fn.out l.fn.recent l.rest l.out l.recent
+invariant-loop-rest l = Putting (l.tag ++ codes " ") l.text l.fn.out l.rest l.out l.waiting
 
 abbrev pub decreases-loop-rest : goal.decreases-loop-rest
 decreases-loop-rest l = length l.rest

@@ -1,0 +1,62 @@
+-- The first LF among 32 bytes, by the marks of a vector.
+use Rattle.std.proofs.Common.{◌≡◌, ◌↔◌, inl, inr, ℕ, ◌+◌, ◌<◌, ◌≤◌, List, Bool, true, false, length, arith, refl, sym, ap, ◌∙◌}
+use Rattle.std.specs.Prelude.{◌==◌, slice_index, if◌then◌else◌}
+use Rattle.std.specs.Int.{bit_at}
+use Rattle.std.proofs.lemmas.Bool.{eqb-true, eq-eqb, cases_lt}
+use Rattle.std.proofs.lemmas.List.{get_or_past}
+use Rattle.std.proofs.lemmas.Nat.Bits.{bit_at-zero}
+use Rattle.memchr.specs.Find.{is_byte, NoneBefore, Passes}
+use Rattle.memchr.specs.Lanes.{HasLanes}
+use Rattle.session_mux.specs.Near.{IsNoFeed, IsNextFeed}
+
+-- whether a byte is an LF, by its lane
+by_lane : (c l : ℕ) → l ≡ (if c == 10 then 255 else 0) → 128 ≤ l → c ≡ 10
+by_lane c l e high = by_test (c == 10) refl
+  where
+    by_test : (b : Bool) → (c == 10) ≡ b → c ≡ 10
+    by_test true k = eqb-true c 10 k
+    by_test false k = absurd (omega (arith, high, e ∙ ap (λ b. if b then 255 else 0) k))
+
+module _ (text : List ℕ) (at m : ℕ) (bytes lanes : List ℕ) (loaded : HasLanes bytes (λ k. slice_index text (at + k)))
+    (tested : HasLanes lanes (λ k. if slice_index bytes k == 10 then 255 else 0)) (bits : (k : ℕ) → (bit_at m k ≡ 1) ↔ (128 ≤ slice_index lanes k)) where
+  lane : (k : ℕ) → k < 32 → slice_index lanes k ≡ (if slice_index text (at + k) == 10 then 255 else 0)
+  lane k near = tested.each k near ∙ ap (λ b. if b == 10 then 255 else 0) (loaded.each k near)
+
+  -- the bit of an LF is set
+  set_at : (k : ℕ) → k < 32 → slice_index text (at + k) ≡ 10 → bit_at m k ≡ 1
+  set_at k near is = (bits k).1 (omega (arith, lane k near ∙ ap (λ b. if b == 10 then 255 else 0) is))
+
+  -- no bit beyond the lanes is
+  near_set : (k : ℕ) → bit_at m k ≡ 1 → k < 32
+  near_set k set = elim (cases_lt k 32) [
+    | inl near ↦ near
+    | inr far ↦ absurd (omega (arith, (bits k).0 set, get_or_past lanes k 0 (omega (arith, tested.long, far))))
+  ]
+
+  -- no mark: no LF
+  pub none_near : m ≡ 0 → IsNoFeed text at
+  none_near none k near is = absurd (omega (arith, sym (set_at k near is) ∙ ap (λ n. bit_at n k) none ∙ bit_at-zero k))
+
+  -- the lowest mark: the first LF
+  pub next_near : (n : ℕ) → bit_at m n ≡ 1 → ((k : ℕ) → k < n → bit_at m k ≡ 0) → IsNextFeed text at n
+  next_near n set below =
+      let near = near_set n set in
+      record {
+        near = near;
+        is = by_lane (slice_index text (at + n)) (slice_index lanes n) (lane n near) ((bits n).0 set);
+        before = λ k less is. absurd (omega (arith, sym (set_at k (omega (arith, less, near)) is) ∙ below k less));
+      }
+
+-- the first LF that is near is the first of all
+pub near_is_first : (text : List ℕ) (n : ℕ) → IsNextFeed text 0 n → 32 ≤ length text
+    → NoneBefore (Passes (is_byte 10) text) 0 (length text) n × Passes (is_byte 10) text n
+near_is_first text n h long =
+    let at : (k : ℕ) → 0 + k ≡ k = λ k. omega arith in
+    let near = h.near in (
+      record {
+        low = omega arith;
+        high = omega (arith, near, long);
+        before = λ k low less is. h.before k less (ap (slice_index text) (at k) ∙ eqb-true (slice_index text k) 10 is);
+      },
+      eq-eqb (slice_index text n) 10 (ap (slice_index text) (sym (at n)) ∙ h.is),
+    )

@@ -1,0 +1,32 @@
+use Rattle.std.proofs.Common.{◌++◌, sym}
+use Rattle.std.proofs.lemmas.Result.{on_ok_weaker, on_err_weaker}
+use Rattle.std.specs.Prelude.{codes}
+use Rattle.rational.proofs.Lists.{empty_of_test, on_err_anyway}
+use Rattle.session_mux.proofs.LineTexts.{putting_begins, putting_on, putting_cut, putting_all, putting_left}
+use Rattle.session_mux.proofs.saying.put_lines.Goals as goal
+
+pub loop-rest-init : goal.loop-rest-init
+loop-rest-init c = putting_begins (c.args.tag.now ++ codes " ") c.args.text.now c.args.out.now _ c.new-waiting.ensures
+
+pub returns-in_err-put_said-clause-err : goal.returns-in_err-put_said-clause-err
+returns-in_err-put_said-clause-err c =
+    on_err_anyway _ (putting_cut (c.args.tag.now ++ codes " ") c.args.text.now c.args.out.now _ _ _ c.loop-rest.invariant
+    c.first_line.result.0.now c.first_line.result.1.now c.first_line.ensures.line _ c.in_err-put_said.ensures.err c.put_said.ensures.begins)
+
+pub loop-rest-preserved : goal.loop-rest-preserved
+loop-rest-preserved c =
+    putting_on (c.args.tag.now ++ codes " ") c.args.text.now c.args.out.now _ _ _ c.loop-rest.invariant
+    c.first_line.result.0.now c.first_line.result.1.now c.first_line.ensures.line _ _ c.in_ok-put_said.ensures.ok c.put_said.ensures.begins
+
+pub returns-clause-ok : goal.returns-clause-ok
+returns-clause-ok c =
+    let none = empty_of_test c.loop-rest.rest.now (sym c.loop-rest-test.ensures) in
+    on_ok_weaker c.hand_over.result
+    (putting_all (c.args.tag.now ++ codes " ") c.args.text.now c.args.out.now _ _ _ c.loop-rest.invariant none c.hand_over.new.out) c.hand_over.ensures.text
+
+pub returns-clause-err : goal.returns-clause-err
+returns-clause-err c =
+    let none = empty_of_test c.loop-rest.rest.now (sym c.loop-rest-test.ensures) in
+    on_err_weaker c.hand_over.result
+    (λ same. putting_left (c.args.tag.now ++ codes " ") c.args.text.now c.args.out.now _ _ _ c.loop-rest.invariant none c.hand_over.new.out same.0)
+    c.hand_over.ensures.err

@@ -1,0 +1,93 @@
+//! The first LF of a text, which is near in most, and the copy of a few bytes before it.
+ghost use Rattle.std.specs.Prelude.{◌≡◌, ◌≢◌, ◌↔◌, ◌==◌, ◌<◌, ◌≤◌, ◌+◌, ℕ, length, take, slice_index, if◌then◌else◌, MatchOption};
+ghost use Rattle.std.specs.Int.{bit_at};
+ghost use Rattle.memchr.specs.Find.{is_byte, IsFirstByte};
+ghost use Rattle.memchr.specs.Lanes.{HasLanes};
+ghost use Rattle.report.specs.After.{IsAdded};
+ghost use Rattle.session_mux.specs.Near.{IsNoFeed, IsNextFeed};
+
+use crate::after::add_part;
+use memchr::memchr;
+use std::simd::prelude::*;
+
+/// How many bytes are looked at.
+pub(crate) const NEAR: usize = 32;
+
+/// The bytes from a place on.
+#[inline(always)]
+fn bytes_at(text: &[u8], at: usize) -> u8x32
+    requires { at + 32 ≤ length text.now }
+    ensures { HasLanes result (λ k. slice_index text.now (at + k)) }
+{
+    u8x32::from_slice(&text[at..])
+}
+
+/// All bits where a byte is an LF, and none where it is another.
+#[inline(always)]
+fn feeds(bytes: u8x32) -> u8x32
+    ensures { HasLanes result (λ k. if slice_index bytes k == 10 then 255 else 0) }
+{
+    bytes
+        .simd_eq(u8x32::splat(b'\n'))
+        .select(u8x32::splat(255), u8x32::splat(0))
+}
+
+/// The top bits of the bytes.
+#[inline(always)]
+fn top_bits(bytes: u8x32) -> u64
+    ensures { (k : ℕ) → (bit_at result k ≡ 1) ↔ (128 ≤ slice_index bytes k) }
+{
+    bytes.simd_ge(u8x32::splat(128)).to_bitmask()
+}
+
+/// The lowest bit that is set.
+#[inline(always)]
+fn lowest(marks: u64) -> usize
+    requires { marks ≢ 0 }
+    ensures set { bit_at marks result ≡ 1 }
+    ensures below { (k : ℕ) → k < result → bit_at marks k ≡ 0 }
+{
+    marks.trailing_zeros() as usize
+}
+
+/// Where the first LF stands among the 32 bytes from a place on, counted from there.
+#[inline(always)]
+pub(crate) fn near_feed(text: &[u8], at: usize) -> Option<usize>
+    requires { at + 32 ≤ length text.now }
+    ensures { MatchOption result (IsNoFeed text.now at) (IsNextFeed text.now at) }
+{
+    let marks = top_bits(feeds(bytes_at(text, at)));
+    if marks == 0 {
+        return None;
+    }
+    Some(lowest(marks))
+}
+
+/// Where the first LF stands.
+#[inline(always)]
+pub(crate) fn first_feed(text: &[u8]) -> Option<usize>
+    ensures { IsFirstByte (is_byte 10) text.now result }
+{
+    if text.len() < NEAR {
+        return memchr(b'\n', text);
+    }
+    match near_feed(text, 0) {
+        Some(at) => Some(at),
+        None => memchr(b'\n', text),
+    }
+}
+
+/// Puts some bytes behind what stands before `at`, and answers where they end. A few are copied as 32, where the text at whose front they
+/// stand has as many.
+#[inline(always)]
+pub(crate) fn put_front(buf: &mut [u8], at: usize, word: &[u8], text: &[u8]) -> usize
+    requires front { word.now ≡ take (length word.now) text.now }
+    requires room { at + 32 ≤ length buf.old }
+    requires whole { at + length word.now ≤ length buf.old }
+    ensures { IsAdded word.now buf.old at buf.new result }
+{
+    if word.len() <= NEAR && text.len() >= NEAR {
+        return add_part(buf, at, &text[..NEAR], word.len());
+    }
+    add_part(buf, at, word, word.len())
+}
