@@ -7,7 +7,7 @@ use Rattle.stl_syntax.specs.Trace.{Trace}
 use Rattle.stl_syntax.specs.Stream.{IsStreamText}
 use Rattle.stl_syntax.specs.declared.scale.UnitFault.TheVariants as unit_fault
 use Rattle.trace_reader.specs.declared.refusal.Limits.{Limits}
-use Rattle.workbench.specs.Answers.{HoldsAtStart}
+use Rattle.trace_stream.specs.Streams.{HoldsAtStart}
 use Rattle.workbench.specs.Ended.{TellsTruth}
 use Rattle.trace_stream.specs.Cases.{IsFault}
 use Rattle.workbench.specs.InputFaults.{Fault, of_trace, unknown, unit, IsInputFault}

@@ -4,7 +4,7 @@ use Rattle.std.specs.Io.KnownBytes.{Appends}
 use Rattle.trace_stream.specs.declared.fault.StreamStop.{StreamStop}
 use Rattle.trace_stream.specs.declared.fault.StreamStop.TheVariants as stream
 use Rattle.workbench.specs.Stopping.{outcome_of}
-use Rattle.workbench.specs.Writing.{IsPartWritten}
+use Rattle.command_line.specs.Writing.{IsPartWritten}
 use Rattle.workbench.specs.declared.fault.Stop.{Stop}
 use Rattle.workbench.specs.declared.fault.Stop.TheVariants.{Unwritten, NoMemory}
 

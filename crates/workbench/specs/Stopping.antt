@@ -1,9 +1,11 @@
--- The reasons of a stream to stop, among those of a command.
+-- The reasons of a stream to stop, and of no answer over a whole trace, among those of a command.
 use Rattle.std.specs.Prelude.{Result, Ok, Err}
 use Rattle.trace_stream.specs.declared.fault.StreamStop.{StreamStop}
 use Rattle.trace_stream.specs.declared.fault.StreamStop.TheVariants as stream
+use Rattle.whole_answers.specs.declared.no_answer.NoAnswer.{NoAnswer}
+use Rattle.whole_answers.specs.declared.no_answer.NoAnswer.TheVariants as answer
 use Rattle.workbench.specs.declared.fault.Stop.{Stop}
-use Rattle.workbench.specs.declared.fault.Stop.TheVariants.{Fault, NoMemory, Wide}
+use Rattle.workbench.specs.declared.fault.Stop.TheVariants.{Fault, Unread, NoMemory, Wide, TooMany}
 
 -- the reason to stop that a stream's is
 abbrev pub stop_of : StreamStop → Stop
@@ -15,3 +17,11 @@ stop_of (stream.Wide node den) = Wide node den
 abbrev pub outcome_of : {T : Type 0} → Result T StreamStop → Result T Stop
 outcome_of (Ok x) = Ok x
 outcome_of (Err stop) = Err (stop_of stop)
+
+-- the reason to stop that one for no answer is
+abbrev pub stop_for : NoAnswer → Stop
+stop_for (answer.Fault fault) = Fault fault
+stop_for answer.Unread = Unread
+stop_for answer.NoMemory = NoMemory
+stop_for (answer.Wide node den) = Wide node den
+stop_for (answer.TooMany count) = TooMany count

@@ -7,7 +7,7 @@ use Rattle.stl_syntax.specs.Stream.{IsStreamText}
 use Rattle.stl_syntax.specs.declared.scale.UnitFault.TheVariants as unit_fault
 use Rattle.trace_reader.specs.declared.refusal.Limits.{Limits}
 use Rattle.report.specs.Report.{nodes_for}
-use Rattle.workbench.specs.Answers.{HoldsAtStart}
+use Rattle.trace_stream.specs.Streams.{HoldsAtStart}
 use Rattle.trace_stream.specs.Cases.{IsNamed}
 use Rattle.workbench.specs.InputFaults.{Fault, of_trace, unknown, unit, IsInputFault}
 use Rattle.trace_stream.specs.CaseReader.{IsSound, IsWhole}

@@ -1,9 +1,10 @@
 //! Why a command stops before its answer.
 ghost use Rattle.std.specs.Prelude.{◌≡◌};
-ghost use Rattle.workbench.specs.Stopping.{stop_of, outcome_of};
+ghost use Rattle.workbench.specs.Stopping.{stop_of, stop_for as stop_of_answer, outcome_of};
 
 use session_mux::LineFault;
 use trace_stream::{StreamStop, TraceFault};
+use whole_answers::NoAnswer;
 
 /// Why there is no answer, or not all of it was written.
 #[derive(Clone, Copy)]
@@ -42,5 +43,18 @@ pub(crate) fn outcome_from<T: Copy>(outcome: Result<T, StreamStop>) -> Result<T,
     match outcome {
         Ok(x) => Ok(x),
         Err(stop) => Err(stop_from(stop)),
+    }
+}
+
+/// The reason to stop that one for no answer is.
+pub(crate) fn stop_for(reason: NoAnswer) -> Stop
+    ensures { result ≡ stop_of_answer reason }
+{
+    match reason {
+        NoAnswer::Fault(fault) => Stop::Fault(fault),
+        NoAnswer::Unread => Stop::Unread,
+        NoAnswer::NoMemory => Stop::NoMemory,
+        NoAnswer::Wide { node, den } => Stop::Wide { node, den },
+        NoAnswer::TooMany { count } => Stop::TooMany { count },
     }
 }

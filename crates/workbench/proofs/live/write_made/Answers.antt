@@ -1,7 +1,7 @@
 use Rattle.std.proofs.Common.{subst, sym, ◌∙◌}
 use Rattle.std.specs.Io.KnownBytes.{Appends}
 use Rattle.workbench.specs.MadeWritten.{IsMadeWritten, made_whole, made_in_part}
-use Rattle.workbench.specs.Writing.{IsPartWritten}
+use Rattle.command_line.specs.Writing.{IsPartWritten}
 use Rattle.workbench.proofs.AtRest.{starved_made, not_unwritten}
 use Rattle.workbench.proofs.live.write_made.Goals as goal
 

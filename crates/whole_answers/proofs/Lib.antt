@@ -1,0 +1,5 @@
+pub mod Progress
+pub mod CaseSignals
+mod Measured
+mod Summaries
+mod Fitting

@@ -1,0 +1,6 @@
+pub mod FromSource
+pub mod Answering
+pub mod Generator
+pub mod Stopping
+pub mod Judging
+pub mod Made
