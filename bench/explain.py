@@ -52,7 +52,7 @@ def evaluations(count, places):
         if high == 0:
             break
         left = high - 1
-        tries = max(64, tries * 4 if left < to else tries // 2)
+        tries = max(64, count // 64, tries * 4 if left < to else tries // 2)
         to = max(0, left - tries)
         marked.update(p for p in places if to <= p < left)
     return total

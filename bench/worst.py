@@ -4,8 +4,9 @@
 Families of formulas that are hard for some part of the program run over families of traces that are: deep chains and trees of `until`
 and `since`, windows in one another whose bounds have no common divisor, windows that all end together, many atoms, atoms of four
 columns; ramps that cross everywhere, steps that change at each row or only fall, rows far apart and at odd distances. Each is run with
-a limit of time. The slowest of each command are printed, with how the time grew from half as many rows: 1 is linear. With `--random`
-random formulas over random rows are looked through for those that `explain` takes long for.
+a limit of time. The slowest of each command are printed, with how the time grew from half as many rows: 1 is linear. With `--count`
+their instructions are counted too, which other work on the machine does not change. With `--random` random formulas over random rows
+are looked through for those that `explain` takes long for.
 """
 import argparse
 import math
@@ -16,6 +17,8 @@ import subprocess
 import sys
 import tempfile
 import time
+
+from bench import instructions
 
 HERE = os.path.dirname(os.path.realpath(__file__))
 PROGRAM = os.path.join(HERE, "..", "crates", "stl_bench", "out", "stl_bench")
@@ -249,6 +252,28 @@ def measure(options, folder):
     return found
 
 
+def counted(options, command, family, trace, folder):
+    """The instructions of a run, in millions, and the exponent by which they grew from half as many rows; without valgrind none."""
+    counts = []
+    for rows in (options.rows // 2, options.rows):
+        path = os.path.join(folder, "counted")
+        write(path, next(it for it in traces(rows, random.Random(7)) if it[0] == trace), rows)
+        words = [command, formulas(rows)[family]]
+        counts.append(instructions(options.program, words, tagged(path) if command == "mux" else path, folder))
+    return "" if None in counts else f" {counts[1] / 1e6:8.1f} {growth(*counts):6.2f}"
+
+
+def table(options, found, folder):
+    """The slowest cases of each command, a line each."""
+    head = f"{'command':8} {'formula':20} {'trace':11} {'status':>6} {'seconds':>8} {'us/row':>7} {'growth':>6} {'MB':>6}"
+    print(head + f" {'M instr':>8} {'growth':>6}" if options.count else head)
+    for command in options.commands:
+        for took, _, family, name, status, grown, memory in [case for case in found if case[1] == command][:options.top]:
+            ended = "limit" if status is None else status
+            more = counted(options, command, family, name, folder) if options.count else ""
+            print(f"{command:8} {family:20} {name:11} {ended:>6} {took:8.2f} {took / options.rows * 1e6:7.1f} {grown:6.2f} {memory:6.0f}{more}", flush=True)
+
+
 def main():
     parser = argparse.ArgumentParser(description=__doc__.split("\n\n")[0])
     parser.add_argument("--program", default=PROGRAM)
@@ -257,6 +282,7 @@ def main():
     parser.add_argument("--show", type=float, default=0.1, help="from how many seconds on the growth is measured")
     parser.add_argument("--report", type=float, default=5, help="from how many seconds on a case is told at once")
     parser.add_argument("--top", type=int, default=5, help="how many cases of each command are printed")
+    parser.add_argument("--count", action="store_true", help="count the instructions of those too, by valgrind")
     parser.add_argument("--commands", type=lambda text: text.split(","))
     parser.add_argument("--families", default="", help="a word that the names of the formulas have that are run; without it all are")
     parser.add_argument("--random", type=int, default=0, help="so many random formulas for `explain`, in place of the families")
@@ -271,12 +297,7 @@ def main():
         return
     options.commands = options.commands or commands(options.program)
     with tempfile.TemporaryDirectory() as folder:
-        found = sorted(measure(options, folder), reverse=True)
-    print(f"{'command':8} {'formula':20} {'trace':11} {'status':>6} {'seconds':>8} {'us/row':>7} {'growth':>6} {'MB':>6}")
-    for command in options.commands:
-        for took, _, family, name, status, grown, memory in [case for case in found if case[1] == command][:options.top]:
-            ended = "limit" if status is None else status
-            print(f"{command:8} {family:20} {name:11} {ended:>6} {took:8.2f} {took / options.rows * 1e6:7.1f} {grown:6.2f} {memory:6.0f}")
+        table(options, sorted(measure(options, folder), reverse=True), folder)
 
 
 if __name__ == "__main__":

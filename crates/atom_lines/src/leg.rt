@@ -8,7 +8,7 @@ ghost use Rattle.stl_syntax.specs.Truth.{compares};
 ghost use Rattle.atom_lines.specs.Binding.{Binding, IsAtomNode};
 ghost use Rattle.atom_lines.specs.Gaps.{along};
 ghost use Rattle.atom_lines.specs.Growing.{IsReachAt};
-ghost use Rattle.atom_lines.specs.Legs.{BendsSo, IsLeg, TurnsOver, bent, turning_place};
+ghost use Rattle.atom_lines.specs.Legs.{BendsSo, IsLeg, TurnsOver, turning_place};
 ghost use Rattle.atom_lines.specs.Steps.{StaysTo};
 
 use crate::bound::Bound;
@@ -59,17 +59,6 @@ fn turn_over(rel: Rel, gap: &Gap) -> Option<Turning>
     None
 }
 
-/// The truth behind a turning, if there is one.
-#[inline(always)]
-fn behind(turn: &Option<Turning>, holds: bool) -> bool
-    ensures { result ≡ bent turn.now holds }
-{
-    match turn {
-        None => holds,
-        Some(_) => !holds,
-    }
-}
-
 /// The leg up to a row and over the step behind it, to the row `next`.
 #[inline(always)]
 fn leg_over(atom: &BoundAtom, stay: &Stay, next: usize) -> Leg
@@ -79,14 +68,22 @@ fn leg_over(atom: &BoundAtom, stay: &Stay, next: usize) -> Leg
         → StaysTo atom.now block r last stay.now.at stay.now.step.gap stay.now.step.next → IsLeg b i block r result }
     ensures row { result.row ≡ next }
 {
-    let turn = turn_over(atom.rel, &stay.step.gap);
     let before = truth_at(atom.rel, stay.step.gap.from).holds();
     let there = truth_at(atom.rel, stay.step.next).holds();
-    let over = behind(&turn, before);
+    // Both cases are told whole, so that a leg without a turning goes by with no look at one.
+    let Some(turn) = turn_over(atom.rel, &stay.step.gap) else {
+        return Leg {
+            row: next,
+            sum: stay.step.next,
+            turn: None,
+            jumps: there != before,
+        };
+    };
+    let over = !before;
     Leg {
         row: next,
         sum: stay.step.next,
-        turn,
+        turn: Some(turn),
         jumps: there != over,
     }
 }

@@ -64,7 +64,3 @@ read_fault = codes "read fault" ++ newline
 -- the output failed
 abbrev pub write_fault : List ℕ
 write_fault = codes "write fault" ++ newline
-
--- the words of no command
-abbrev pub usage : List ℕ
-usage = codes "usage: check F | watch F | robust F | explain F | json F | table F | gen NUMBER ROWS | early F | mux F | rwatch F" ++ newline

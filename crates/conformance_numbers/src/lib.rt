@@ -1,5 +1,5 @@
-//! Tests of numbers and signals: fractions, ramps and spans, sets of times, the kinds of value, windows of numbers, and signals that are
-//! built, read and moved, used from outside through their contracts alone.
+//! Tests of numbers and signals: fractions, ramps and spans, windows of numbers, signals that are built, read and moved, and what is made
+//! of signals, used from outside through their contracts alone.
 #![tactic(auto)]
 
 #[cfg(test)]
@@ -9,8 +9,8 @@ mod frac128_tests;
 #[cfg(test)]
 mod pl_signal_tests;
 #[cfg(test)]
-mod time_sets_tests;
+mod signal_calls_tests;
 #[cfg(test)]
-mod value_laws_tests;
+mod signals;
 #[cfg(test)]
 mod window_extrema_tests;

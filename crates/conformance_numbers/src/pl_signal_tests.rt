@@ -1,69 +1,16 @@
 //! Signals that are built, read and moved.
-ghost use Rattle.std.specs.Prelude.{◌≡◌, ◌^◌, IsTrue};
-ghost use Rattle.rational.specs.Rational.{Rational, IsWithin, ◌≤ʳ◌};
-ghost use Rattle.rational.specs.Extended.{value_at};
-ghost use Rattle.rational.specs.Affine.{IsBounded};
+ghost use Rattle.std.specs.Prelude.{◌^◌};
+ghost use Rattle.rational.specs.Rational.{IsWithin, ◌≤ʳ◌};
 ghost use Rattle.frac128.specs.Value.{value};
-ghost use Rattle.pl_signal.specs.Knots.{stop};
 ghost use Rattle.pl_signal.specs.Limits.{IsLimited};
 
 use super::checks::expect;
+use super::signals::{is_limited, read, signal};
 use frac128::{Frac, Ramp};
-use pl_signal::{Builder, Signal};
-use std::alloc::Global;
+use pl_signal::Signal;
 use std::cmp::Ordering;
 use std::process::Abort;
 use value_laws::{Margin, Shape, Truth};
-
-/// Whether the time is within 2^34.
-fn is_near(t: &Frac) -> bool
-    ensures { IsTrue result → IsWithin (2 ^ 34) (value t.now) }
-{
-    let (low, high) = (Frac::of(-(1 << 34)), Frac::of(1 << 34));
-    if let Ordering::Greater = low.cmp(t) {
-        return false;
-    }
-    if let Ordering::Greater = t.cmp(&high) {
-        return false;
-    }
-    true
-}
-
-/// A signal by its first instant and its steps: a shape up to a time, and the shape there. A test ends where they are not allowed.
-fn signal<P: Shape>(
-    rt: &impl Abort,
-    alloc: Global,
-    from: i64,
-    first: P,
-    steps: &[(P, i64, P)],
-) -> Signal<P> {
-    let mut last = Frac::of(from);
-    let Ok(mut built) = Builder::start(alloc, last, first) else {
-        panic!(rt; "memory");
-    };
-    for (after, at, point) in steps {
-        let at = Frac::of(*at);
-        assert!(rt; is_near(&last));
-        let Ordering::Less = last.cmp(&at) else {
-            panic!(rt; "order");
-        };
-        assert!(rt; built.step(*after, at, *point).is_ok(), "memory");
-        last = at;
-    }
-    built.finish()
-}
-
-/// The shape at a time.
-fn read<P: Shape>(rt: &impl Abort, s: &Signal<P>, num: i64, den: i64) -> P {
-    assert!(rt; den > 0);
-    let Ok(t) = Frac::make(i128::from(num), i128::from(den)) else {
-        panic!(rt; "wide");
-    };
-    match s.at(&t) {
-        Some(p) => p,
-        None => panic!(rt; "outside"),
-    }
-}
 
 #[test]
 fn knots_between_equal_truths_leave(rt: HostRuntime) {
@@ -105,20 +52,6 @@ fn knots_on_one_line_leave(rt: HostRuntime) {
         &[(rise, 4, Margin::Fixed(Frac::of(5))), (also, 9, rise)],
     );
     expect(&rt, jump.len() == 3, "a jump", 0);
-}
-
-/// Whether the signal of shapes with small values is limited.
-fn is_limited<P: Shape>(s: &Signal<P>) -> bool
-    requires { (x : P) (t : Rational) → IsBounded (2 ^ 31) (value_at (P.function x) t) }
-    ensures { IsTrue result → IsLimited P.Shape s.now }
-{
-    if !is_near(&s.start()) {
-        return false;
-    }
-    if !is_near(&s.stop()) {
-        return false;
-    }
-    true
 }
 
 /// A whole time.

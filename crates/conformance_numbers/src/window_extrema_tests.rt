@@ -1,5 +1,5 @@
 //! A range that moves on, over constants that are counted.
-ghost use Rattle.std.specs.Prelude.{◌≡◌, ◌+◌, ◌<◌, ◌≤◌, length, IfOk};
+ghost use Rattle.std.specs.Prelude.{◌≡◌, ◌+◌, ◌<◌, ◌≤◌, [], length, IfOk};
 
 use frac128::{Memory, Steps};
 use std::alloc::Global;
@@ -62,5 +62,67 @@ fn a_range_that_moves_on_has_its_greatest(rt: HostRuntime) -> Result<(), Fail> {
     };
     let places = asked::<Brand>(&mut range, Blank::new(1));
     assert!(&rt; places == [Some(1), Some(1), Some(2), None, Some(3)]);
+    Ok(())
+}
+
+/// Six items come, and the first one goes where there are three: over the whole run at most twelve comparisons.
+fn ask_of_three<L: Ledger>(
+    range: &mut RangeMax<Kleene>,
+    known: [Option<bool>; 6],
+    steps: &mut Steps<L>,
+) -> Result<[Option<usize>; 6], Memory>
+    requires none { range.old.items ≡ [] }
+    requires low { range.old.low ≡ 0 }
+    requires high { range.old.high ≡ 0 }
+    requires spent { range.old.spent ≡ 0 }
+    ensures { steps.new ≤ steps.old + 12 }
+{
+    let mut places = [None; 6];
+    let mut held = 0;
+    for i in 0..6 {
+        if held == 3 {
+            range.leave_before(1);
+            held = 2;
+        }
+        range.push(Counted::of(Kleene::of(known[i])))?;
+        held += 1;
+        places[i] = range.ask(0, held, steps);
+    }
+    Ok(places)
+}
+
+fn asked_of_three<L: Ledger>(
+    range: &mut RangeMax<Kleene>,
+    known: [Option<bool>; 6],
+    blank: Blank,
+) -> Result<[Option<usize>; 6], Memory>
+    requires name { blank.name ≡ L.name }
+    requires parts { blank.parts ≡ L.parts }
+    requires some { 0 < blank.parts }
+    requires none { range.old.items ≡ [] }
+    requires low { range.old.low ≡ 0 }
+    requires high { range.old.high ≡ 0 }
+    requires spent { range.old.spent ≡ 0 }
+{
+    let mut steps = Steps::<L>::new(blank);
+    ask_of_three(range, known, &mut steps)
+}
+
+#[test]
+fn items_come_and_go(rt: HostRuntime) -> Result<(), Fail> {
+    let mut range = RangeMax::empty(rt.alloc());
+    let known = [
+        Some(false),
+        Some(true),
+        None,
+        Some(true),
+        Some(false),
+        Some(false),
+    ];
+    let Ok(places) = asked_of_three::<Brand>(&mut range, known, Blank::new(1)) else {
+        assert!(&rt; false);
+        return Ok(());
+    };
+    assert!(&rt; places == [Some(0), Some(1), Some(1), Some(0), Some(1), Some(0)]);
     Ok(())
 }

@@ -1,13 +1,11 @@
-//! Tests of bytes and texts: sources and sinks, formulas that are read and printed, recordings and their refusals, the lines of faults,
-//! and generated recordings, used from outside through their contracts alone.
+//! Tests of bytes and texts: sources and sinks, formulas that are read and printed, recordings and their refusals, and generated
+//! recordings, used from outside through their contracts alone.
 #![tactic(auto)]
 
 #[cfg(test)]
 mod checks;
 #[cfg(test)]
 mod io_edge_tests;
-#[cfg(test)]
-mod report_tests;
 #[cfg(test)]
 mod stl_grammar_tests;
 #[cfg(test)]

@@ -18,9 +18,11 @@ pub stays_same : (o : Option Decided) → StaysDecided o o
 stays_same None = tt
 stays_same (Some d) = refl
 
+-- where nothing was, anything is as it stays
 pub stays_none : (o now : Option Decided) → o ≡ None → StaysDecided o now
 stays_none o now e = subst (λ o. StaysDecided o now) (sym e) tt
 
+-- what stays and stays again stays
 pub stays_then : (o mid now : Option Decided) → StaysDecided o mid → StaysDecided mid now → StaysDecided o now
 stays_then None mid now h k = tt
 stays_then (Some d) mid now h k = subst (λ o. StaysDecided o now) h k
@@ -35,6 +37,7 @@ pub as_open : (x : Kept) (rows : List Row) → Stands x rows false → Stands (r
 as_open x rows st = subst (λ e. Stands (record x { ended = e; stopped = false }) rows false) st.is_ended
     (subst (λ s. Stands (record x { stopped = s }) rows false) st.running st)
 
+-- and the other way round
 pub from_open : (x : Kept) (rows : List Row) → x.ended ≡ false → x.stopped ≡ false → Stands (record x { ended = false; stopped = false }) rows false
     → Stands x rows false
 from_open x rows ended running st = subst (λ s. Stands (record x { stopped = s }) rows false) (sym running)

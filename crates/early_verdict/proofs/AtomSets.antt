@@ -11,9 +11,11 @@ use Rattle.rational.specs.Places.{Place, Same}
 use Rattle.growing_sets.specs.Spans.{Lies, IsOn, Grows}
 use Rattle.growing_sets.specs.Steps.{Tells, Gains}
 use Rattle.growing_sets.specs.Growing.{Adds}
+use Rattle.growing_sets.specs.Showing.{TakesIn}
 use Rattle.early_verdict.specs.Adding.{HasAdded, HasGrown, HasRested, Piece, Rests, AfterRow, IsNextRow, before_row, after_row}
 use Rattle.early_verdict.specs.Fitting.{AtomFits, AreSetsTidy, HasStepped, Says}
 use Rattle.early_verdict.specs.Happening.{Was}
+use Rattle.early_verdict.specs.Living.{HasShown}
 use Rattle.growing_sets.specs.declared.stretch.Stretch.{Stretch}
 use Rattle.growing_sets.specs.declared.grown.Grown.{Grown}
 use Rattle.early_verdict.specs.declared.sets.Sets.{Sets}
@@ -61,6 +63,31 @@ atom_stepped old mid new r g = record {
   parts = parts_kept old.parts new.parts (g.parts ∙ r.parts);
   gains_yes = subst (λ xs. Gains xs new.yes.spans.items new.yes.fresh.items) r.yes.spans (gains_of r.yes.fresh g.yes);
   gains_no = subst (λ xs. Gains xs new.no.spans.items new.no.fresh.items) r.no.spans (gains_of r.no.fresh g.no);
+}
+
+shown_side : {old mid new : Grown} → Rests old mid → Adds mid new (IsOn new.spans.items) → Gains old.spans.items new.spans.items new.fresh.items
+    → TakesIn old.bounds old.spans.items new.spans.items new.fresh.items
+shown_side r g gains = record {
+  has = λ t l o. gains.own t o;
+  only = λ t o. elim (gains.gained t o) [
+    | inl z ↦ inl z
+    | inr z ↦ elim (g.grows.only t o) [
+      | inl y ↦ inl (subst (λ xs. IsOn xs t) r.spans y)
+      | inr y ↦ inr (subst (λ b. Lies b t) r.bounds y.0, z)
+    ]
+  ];
+}
+
+-- and they are shown
+pub atom_shown : (old mid new : Sets) → HasRested old mid → HasGrown mid new → HasShown old new new
+atom_shown old mid new r g = let s = atom_stepped old mid new r g in record {
+  tidy = s.tidy;
+  yes = s.yes;
+  no = s.no;
+  gains_yes = s.gains_yes;
+  gains_no = s.gains_no;
+  takes_yes = shown_side r.yes g.yes s.gains_yes;
+  takes_no = shown_side r.no g.no s.gains_no;
 }
 
 -- the truth of an atom up to the row

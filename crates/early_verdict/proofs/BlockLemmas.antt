@@ -1,5 +1,5 @@
 -- The rows of a block, each right behind the one before it.
-use Rattle.std.proofs.Common.{◌≡◌, ℕ, zero, suc, ◌+◌, ◌-◌, ◌<◌, ◌≤◌, List, [], ◌∷◌, ◌++◌, length, take, drop, get_or, Option, Some, None}
+use Rattle.std.proofs.Common.{◌≡◌, ℕ, zero, suc, ◌+◌, ◌-◌, ◌<◌, ◌≤◌, List, [], ◌∷◌, ◌++◌, length, take, drop, get_or, Some, None}
 use Rattle.std.proofs.Common.{Bool, true, false, refl, sym, ap, subst, ◌∙◌, arith, append_assoc, append-nil, length-drop}
 use Rattle.std.specs.Prelude.{◌↔◌, IfSome, IsTrue}
 use Rattle.std.proofs.lemmas.Bool.{true≢false}
@@ -126,7 +126,8 @@ so_far_of reader block rows e one some has = by_rows block.rows refl one some
           bytes = has.bytes;
           earlier = has.earlier ++ front;
           stands = subst (λ (l : List Row). StandsFor reader has.bytes ((has.earlier ++ front) ++ l)) (sym is)
-              (subst (λ (l : List Row). StandsFor reader has.bytes l) (ap (λ (l : List Row). has.earlier ++ l) f ∙ sym (append_assoc has.earlier front (q ∷ [])))
+              (subst (λ (l : List Row). StandsFor reader has.bytes l)
+              (ap (λ (l : List Row). has.earlier ++ l) f ∙ sym (append_assoc has.earlier front (q ∷ [])))
               has.stands);
           header = has.header;
         }

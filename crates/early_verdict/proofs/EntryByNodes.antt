@@ -10,7 +10,8 @@ use Rattle.stl_syntax.specs.declared.node.Node.{Node}
 use Rattle.stl_syntax.specs.declared.node.Node.TheVariants.{Atom as Leaf}
 use Rattle.atom_lines.specs.Binding.{Binding}
 use Rattle.growing_sets.specs.Spans.{Lies}
-use Rattle.early_verdict.specs.Fitting.{Lists, Fits, HasStepped, AreSetsTidy, lists_at}
+use Rattle.early_verdict.specs.Fitting.{Lists, Fits, AreSetsTidy, lists_at}
+use Rattle.early_verdict.specs.Changing.{ChangedTo, ChangesAt}
 use Rattle.early_verdict.specs.Happening.{Had, Happens, Was}
 use Rattle.early_verdict.specs.Looking.{WasList}
 use Rattle.early_verdict.specs.Standing.{AllGo, AllTidy, AllWere, HadAll, HasParts, LeafGoes, StepsAt, SteppedTo}
@@ -21,7 +22,7 @@ use Rattle.early_verdict.proofs.FitLemmas.{fits_alike}
 use Rattle.early_verdict.proofs.AllSets.{lists_are}
 use Rattle.early_verdict.proofs.LivingLemmas.{parts_as}
 use Rattle.early_verdict.proofs.SetsTell.{parts_kept}
-use Rattle.early_verdict.proofs.Splitting.{changed_each}
+use Rattle.early_verdict.proofs.Splitting.{changed_as, changed_each}
 use Rattle.early_verdict.proofs.Places.{taken_at, taken_within, lists_by}
 
 -- a place no later is before or there
@@ -29,62 +30,33 @@ nat_or : (j i : ℕ) → j ≤ i → (j < i) ⊎ (j ≡ i)
 nat_or j i h = below_more (λ k. (k < i) ⊎ (k ≡ i)) i (λ k l. inl l) (inr refl) j (omega (arith, h))
 
 -- one place more
-pub stepped_on : (i : ℕ) (old mid new : List Sets) → SteppedTo i old mid → StepsAt i mid new → SteppedTo (i + 1) old new
-stepped_on i old mid new h at = record {
+pub changed_on : {R S : ℕ → Sets → Sets → Type 0} {i : ℕ} {old mid new : List Sets} → ((j : ℕ) (s r : Sets) → j < i → R j s r → S j s r)
+    → ChangedTo i old mid R → ChangesAt i mid new (S i) → ChangedTo (i + 1) old new S
+changed_on {S = S} {i = i} {old = old} {new = new} f h at = record {
   count = at.count ∙ h.count;
-  stepped = λ j s r l e f. by_place j s r e f (nat_or j i (omega (arith, l)));
+  each = λ j s r l e g. elim (nat_or j i (omega (arith, l))) [
+    | inl k ↦ f j s r k (h.each j s r k e (sym (at.others j (omega (arith, k))) ∙ g))
+    | inr q ↦
+        let c = same_Some at.was s (sym at.at_old ∙ h.others i (omega arith) ∙ subst (λ k. slice_get old k ≡ Some s) q e) in
+        let d = same_Some at.is r (sym at.at_new ∙ subst (λ k. slice_get new k ≡ Some r) q g) in
+        subst (λ k. S k s r) (sym q) (subst (λ x. S i x r) c (subst (λ x. S i at.was x) d at.by))
+  ];
   others = λ j l. at.others j (omega (arith, l)) ∙ h.others j (omega (arith, l));
 }
-  where
-    by_place : (j : ℕ) (s r : Sets) → slice_get old j ≡ Some s → slice_get new j ≡ Some r → (j < i) ⊎ (j ≡ i) → HasStepped s r
-    by_place j s r e f (inl l) = h.stepped j s r l e (sym (at.others j (omega (arith, l))) ∙ f)
-    by_place j s r e f (inr q) =
-        let a : slice_get old i ≡ Some s = subst (λ k. slice_get old k ≡ Some s) q e in
-        let b : slice_get new i ≡ Some r = subst (λ k. slice_get new k ≡ Some r) q f in
-        let c = same_Some at.was s (sym at.at_old ∙ h.others i (omega arith) ∙ a) in
-        let d = same_Some at.is r (sym at.at_new ∙ b) in
-        subst (λ x. HasStepped x r) c (subst (λ x. HasStepped at.was x) d at.by)
 
--- before the first node none has stepped
-pub stepped_none : (xs : List Sets) → SteppedTo 0 xs xs
-stepped_none xs = record {
-  count = refl;
-  stepped = λ j s r l. absurd (omega (arith, l));
-  others = λ j l. refl;
-}
+-- before the first node none has changed
+pub changed_none : {R : ℕ → Sets → Sets → Type 0} (xs : List Sets) → ChangedTo 0 xs xs R
+changed_none xs = record { count = refl; each = λ j s r l. absurd (omega (arith, l)); others = λ j l. refl }
 
 -- sets stay tidy after a node's step
 pub tidy_on : (i : ℕ) (mid new : List Sets) → AllTidy mid → StepsAt i mid new → AllTidy new
 tidy_on i mid new h at = changed_each (λ j s. AreSetsTidy s) at at.by.tidy h
 
--- one place more is shown
-pub shown_none : (live xs : List Sets) → ShownTo 0 live xs xs
-shown_none live xs = record {
-  count = refl;
-  shown = λ j s x r l. absurd (omega (arith, l));
-  others = λ j l. refl;
-}
-
 -- one node more shows what it has
-pub shown_on : (i : ℕ) (mid live old xs new : List Sets) → ((j : ℕ) → j ≢ i → slice_get live j ≡ slice_get mid j) → ShownTo i mid old xs → ShowsAt i live xs new
-    → ShownTo (i + 1) live old new
-shown_on i mid live old xs new same h at = record {
-  count = at.count ∙ h.count;
-  shown = λ j s x r l is e f. by_place j s x r is e f (nat_or j i (omega (arith, l)));
-  others = λ j l. at.others j (omega (arith, l)) ∙ h.others j (omega (arith, l));
-}
-  where
-    by_place : (j : ℕ) (s x r : Sets) → slice_get live j ≡ Some s → slice_get old j ≡ Some x → slice_get new j ≡ Some r → (j < i) ⊎ (j ≡ i) → HasShown x r s
-    by_place j s x r is e f (inl l) =
-        h.shown j s x r l (sym (same j (omega (arith, l))) ∙ is) e (sym (at.others j (omega (arith, l))) ∙ f)
-    by_place j s x r is e f (inr q) =
-        let a : slice_get old i ≡ Some x = subst (λ k. slice_get old k ≡ Some x) q e in
-        let b : slice_get new i ≡ Some r = subst (λ k. slice_get new k ≡ Some r) q f in
-        let o : slice_get live i ≡ Some s = subst (λ k. slice_get live k ≡ Some s) q is in
-        let c = same_Some at.was x (sym at.at_old ∙ h.others i (omega arith) ∙ a) in
-        let d = same_Some at.is r (sym at.at_new ∙ b) in
-        let p = same_Some at.by.own s (sym at.by.at_live ∙ o) in
-        subst (λ z. HasShown x r z) p (subst (λ z. HasShown z r at.by.own) c (subst (λ z. HasShown at.was z at.by.own) d at.by.shown))
+pub shown_on : {i : ℕ} (mid : List Sets) {live old xs new : List Sets} → ((j : ℕ) → j ≢ i → slice_get live j ≡ slice_get mid j) → ShownTo i mid old xs
+    → ShowsAt i live xs new → ShownTo (i + 1) live old new
+shown_on mid same h at = changed_on (λ j s r l k o e. k o (sym (same j (omega (arith, l))) ∙ e)) h
+    (changed_as (λ s r e k o g. subst (λ z. HasShown s r z) (same_Some k.own o (sym k.at_live ∙ g)) k.shown) at)
 
 -- what nodes show stays tidy with one node more
 pub shown_tidy_on : (i : ℕ) (live mid new : List Sets) → AllTidy mid → ShowsAt i live mid new → AllTidy new
@@ -112,7 +84,7 @@ module _ {nodes : List Node} (b : Binding) {e : Entry} (before : Option Row) (r 
       let w = slice_get_there first_shown p (let c = h.count in omega (arith, q, c)) in
       let o = slice_get_there first p (let c = h.count in let d = have.count in let f = have.shown_count in omega (arith, q, c, d, f)) in
       let m = slice_get_there mid p (let c = h.count in let d = have.count in let f = have.shown_count in let y = g.count in omega (arith, q, c, d, f, y)) in
-      let step = h.shown p m.0 w.0 x l m.1 w.1 is in
+      let step = h.each p w.0 x l w.1 is m.0 m.1 in
       by_step w.0 o.0 w.1 (have.has p n o.0 w.0 at o.1 w.1) m.0 step
     where
       by_step : (w o : Sets) → slice_get first_shown p ≡ Some w → IsLive (start tr) first_shown n o w → (m : Sets)
@@ -150,7 +122,7 @@ module _ {nodes : List Node} (b : Binding) {e : Entry} (before : Option Row) (r 
       let w = slice_get_there first_shown p (let c = h.count in omega (arith, q, c)) in
       let m = slice_get_there mid p (let c = h.count in let d = have.count in let y = have.shown_count in let v = g.count in
       omega (arith, q, c, d, y, v)) in
-      (w.0, w.1, (h.shown p m.0 w.0 l k m.1 w.1 f).no))
+      (w.0, w.1, (h.each p w.0 l k w.1 f m.0 m.1).no))
       (have.has i n s x at is ix).left
 
   leaf_goes : (i : ℕ) (n : Node) (s x : Sets) → slice_get nodes i ≡ Some n → slice_get first i ≡ Some s

@@ -20,6 +20,7 @@ use Rattle.early_verdict.proofs.RowLemmas.{last_is}
 abbrev pub before_of : ℕ → Place
 before_of n = record { at = whole (pos n); after = false }
 
+-- just after a time in ticks
 abbrev pub after_of : ℕ → Place
 after_of n = record { at = whole (pos n); after = true }
 

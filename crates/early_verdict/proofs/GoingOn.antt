@@ -15,7 +15,7 @@ use Rattle.stl_syntax.specs.declared.node.Node.TheVariants.{Atom as Leaf}
 use Rattle.atom_lines.specs.Binding.{Binding, IsBound}
 use Rattle.early_verdict.specs.Adding.{IsNextRow}
 use Rattle.early_verdict.specs.Happening.{Happens}
-use Rattle.early_verdict.specs.Standing.{AllFit, AllGo, GoesOnWith, LeafIsBound}
+use Rattle.early_verdict.specs.Standing.{AllFit, AllGo, GoesOnWith, LeafIsBound, own_list}
 use Rattle.early_verdict.specs.Making.{AreMade, AreShownOf}
 use Rattle.growing_sets.specs.Spans.{IsOn}
 use Rattle.early_verdict.specs.Living.{AreLive, ComesOn, IsShown, NetStands}
@@ -27,6 +27,7 @@ use Rattle.early_verdict.proofs.AllSets.{AreSound, all_final, all_known, lists_a
 use Rattle.early_verdict.proofs.EndedSets.{Final}
 use Rattle.early_verdict.proofs.LooksStay.{at_place, live_on, shown_still, sound_of}
 use Rattle.early_verdict.proofs.LiveMaking.{made_live, root_shows, shown_empty}
+use Rattle.early_verdict.proofs.NodeSets.{own_all, own_live}
 use Rattle.early_verdict.proofs.RowLemmas.{is_first_row, is_next, rows_pushed}
 use Rattle.early_verdict.proofs.SetsTell.{none_of}
 
@@ -64,7 +65,7 @@ module _ {nodes : List Node} {b : Binding} {e : Entry} {before : Option Row} {x 
 -- the first row
 pub first_stand : {f : Formula} {b : Binding} {header : Header} {r : Row} {e : Entry} {none none_shown made shown new new_shown : List Sets}
     → IsOpen f b header [] 0 None none none_shown → AreMade f.nodes (row_time r) made → AreShownOf made shown
-    → ComesOn f.nodes b e None r made new shown new_shown
+    → ComesOn f.nodes b e None r (own_list f.nodes made shown) new shown new_shown
     → length r.values ≡ b.width → e.ended ≡ false → Happens e None (trace_of header (r ∷ []))
     → NetStands f.nodes (trace_of header (r ∷ [])) new new_shown
 first_stand {f} {header = header} {r = r} {e = e} {made = made} {shown = shown} {new = new} {new_shown = new_shown} o m are on w still happens =
@@ -73,7 +74,7 @@ first_stand {f} {header = header} {r = r} {e = e} {made = made} {shown = shown} 
     (on.fits None tr happens live
     (all_go (r ∷ []) e None None r o.bound (w ∙ o.bound.width, tt)
     (λ a. still_open e (None ≡ Some tr) (IsNextRow a None tr None r) still (is_first_row header r a)))
-    (m.empty, empty)))
+    (own_all AreEmpty f.nodes made shown m.empty empty, empty)))
     (sound_of on.stepped on.shows live (λ i. Settled (subformula f.nodes i) tr) (λ i. SettledNot (subformula f.nodes i) tr)
     (λ i x u is z. absurd (none_of x.yes.spans.items u (empty i x is).yes z)) (λ i x u is z. absurd (none_of x.no.spans.items u (empty i x is).no z)))
     (root_shows f.nodes (row_time r) made shown m are below o.some)
@@ -84,8 +85,8 @@ first_stand {f} {header = header} {r = r} {e = e} {made = made} {shown = shown} 
     below : (i : ℕ) (n : Node) → slice_get f.nodes i ≡ Some n → HasChildrenBelow i n
     below i n at = placed f.nodes i n o.formed.post_order at
 
-    live : AreLive f.nodes (row_time r) made shown
-    live = made_live f.nodes (row_time r) made shown m are below
+    live : AreLive f.nodes (row_time r) (own_list f.nodes made shown) shown
+    live = own_live f.nodes (row_time r) made shown (made_live f.nodes (row_time r) made shown m are below)
 
     empty : (i : ℕ) (x : Sets) → slice_get shown i ≡ Some x → AreEmpty x
     empty = shown_empty f.nodes (row_time r) made shown m are below
@@ -156,7 +157,8 @@ pub end_final : {f : Formula} {b : Binding} {header : Header} {r : Row} {rows : 
     → Final (trace_of header (r ∷ rows)) (IsShown new_shown (length f.nodes - 1)) (lists_at new_shown (length f.nodes - 1))
     (subformula f.nodes (length f.nodes - 1))
     × IsShown new_shown (length f.nodes - 1) (row_time r)
-end_final {f} {header = header} {r = r} {rows = rows} {previous = previous} {last = last} {e = e} {live = live} {shown = shown} {new = new} {new_shown = new_shown}
+end_final {f} {header = header} {r = r} {rows = rows} {previous = previous} {last = last} {e = e} {live = live} {shown = shown} {new = new}
+    {new_shown = new_shown}
     o on ended happens = (
       all_final tr o.formed (live_on on.stepped on.shows s.have) on.tidy.0 on.tidy.1
           (sound_of on.stepped on.shows s.have

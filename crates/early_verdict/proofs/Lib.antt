@@ -43,3 +43,4 @@ mod SinceCuts
 mod SinceStands
 mod SinceLooks
 mod AnewLemmas
+mod NodeSets

@@ -1,17 +1,38 @@
 -- What nodes look at, where they go on from fewer times, or where their children show other ones.
 use Rattle.std.proofs.Common.{◌≡◌, inl, inr, refl, sym, subst, ◌∙◌, ℕ, false, true, Option, Some, None, List}
 use Rattle.std.specs.Prelude.{MatchOption, IsSome, slice_get}
-use Rattle.rational.specs.Time.{Rational}
+use Rattle.rational.specs.Time.{Rational, ◌≤ʳ◌}
+use Rattle.stl_syntax.specs.declared.atom.Atom.{Atom}
 use Rattle.stl_syntax.specs.declared.node.Node.{Node}
 use Rattle.stl_syntax.specs.declared.node.Node.TheVariants.{Const, Atom as Leaf, Not, And, Or, Implies, Until, Eventually, Always, Since, Once, Historically}
 use Rattle.stl_syntax.specs.Cells.{IsChild}
 use Rattle.growing_sets.specs.Spans.{IsOn, Lies}
 use Rattle.early_verdict.specs.Fitting.{FailWithin, HasFailBounds, KeepsBounds, lists_at}
 use Rattle.early_verdict.specs.Standing.{HasParts, left_of}
-use Rattle.early_verdict.specs.Living.{IsShown, LooksAt, ReachesAhead, ReachesBack}
+use Rattle.early_verdict.specs.Living.{IsLive, IsShown, LooksAt, ReachesAhead, ReachesBack}
+use Rattle.early_verdict.specs.Letting.{IsInside}
 use Rattle.growing_sets.specs.declared.stretch.Stretch.{Stretch}
 use Rattle.early_verdict.specs.declared.sets.Sets.{Sets}
 use Rattle.early_verdict.specs.declared.sets.Parts.{Parts}
+
+-- an atom goes on from what it shows
+pub live_leaf : {from : Rational} {shown : List Sets} (a : Atom) (x : Sets) → x.yes.bounds ≡ x.no.bounds
+    → ((t : Rational) → Lies x.no.bounds t → from ≤ʳ t) → IsInside x → IsLive from shown (Leaf a) x x
+live_leaf a x same starts inside = record {
+  own = x.no.bounds;
+  yes = same;
+  no = refl;
+  starts = starts;
+  looks = tt;
+  left = tt;
+  shown_yes = same;
+  shown_starts = starts;
+  yes_within = inside.yes;
+  no_within = inside.no;
+  shows_yes = λ t o l. o;
+  shows_no = λ t o l. o;
+  early = λ t l. inl l;
+}
 
 -- the sets between have the bounds that they had
 abbrev pub ArePartsKept : Option Parts → Option Parts → Type 0

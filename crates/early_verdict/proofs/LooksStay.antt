@@ -22,7 +22,7 @@ module _ {nodes : List Node} {from : Rational} {old new old_shown new_shown : Li
       let c = h.count in
       let d = have.count in
       let w = slice_get_there old i (omega (arith, l, c)) in
-      (w.0, w.1, h.stepped i w.0 s (omega (arith, l, c, d)) w.1 is)
+      (w.0, w.1, h.each i w.0 s (omega (arith, l, c, d)) w.1 is)
 
   -- what a node shows now is of what it has and of what it showed before
   pub showed_at : (i : ℕ) (x : Sets) → slice_get new_shown i ≡ Some x
@@ -35,7 +35,7 @@ module _ {nodes : List Node} {from : Rational} {old new old_shown new_shown : Li
       let f = h.count in
       let w = slice_get_there old_shown i (omega (arith, l, c)) in
       let s = slice_get_there new i (omega (arith, l, c, d, e, f)) in
-      (s.0, s.1, w.0, w.1, g.shown i s.0 w.0 x (omega (arith, l, c, d)) s.1 w.1 is)
+      (s.0, s.1, w.0, w.1, g.each i w.0 x (omega (arith, l, c, d)) w.1 is s.0 s.1)
 
   -- what was shown is shown still
   pub shown_still : (p : ℕ) (u : Rational) → IsShown old_shown p u → IsShown new_shown p u

@@ -9,6 +9,7 @@ use Rattle.rational.proofs.Order.{le_of_lt}
 use Rattle.stl_syntax.specs.Trace.{Trace, start}
 use Rattle.stl_syntax.specs.Formula.{subformula}
 use Rattle.stl_syntax.specs.WellFormed.{AreWellFormed}
+use Rattle.stl_syntax.specs.declared.atom.Atom.{Atom}
 use Rattle.stl_syntax.specs.declared.node.Node.{Node}
 use Rattle.stl_syntax.specs.declared.node.Node.TheVariants.{Const, Atom as Leaf, Not, And, Or, Implies, Until, Eventually, Always, Since, Once, Historically}
 use Rattle.stl_syntax.proofs.PostOrderLemmas.{placed, child_below}
@@ -19,7 +20,7 @@ use Rattle.growing_sets.specs.Spans.{IsOn, Lies}
 use Rattle.early_verdict.specs.Fitting.{Lists, lists_at, nothing, Fits, SayBoth, SayOfParts, AreSetsTidy}
 use Rattle.early_verdict.specs.Standing.{AllFit, AllTidy, HasParts, left_of}
 use Rattle.early_verdict.specs.Living.{IsLive, IsNarrowed, IsShown, Known, LooksAt, NetStands}
-use Rattle.early_verdict.specs.Letting.{AreApart, AreAskedBy, AreInside, AreLess, IsLess, IsRun, HasShedAt, IsUntil}
+use Rattle.early_verdict.specs.Letting.{AreApart, AreAskedBy, AreInside, AreLess, IsInside, IsLess, IsRun, HasShedAt, IsUntil}
 use Rattle.growing_sets.specs.declared.stretch.Stretch.{Stretch}
 use Rattle.growing_sets.specs.declared.grown.Grown.{Grown}
 use Rattle.early_verdict.specs.declared.sets.Sets.{Sets}
@@ -28,7 +29,7 @@ use Rattle.early_verdict.proofs.AllSets.{is_shown, lists_are, shown_is, shown_wi
 use Rattle.early_verdict.proofs.NeverBoth.{never_both}
 use Rattle.early_verdict.proofs.Childhood.{child_or_not, left_child, one_parent}
 use Rattle.early_verdict.proofs.FitLemmas.{fits_as, fits_within}
-use Rattle.early_verdict.proofs.LivingLemmas.{looks_as, parts_as}
+use Rattle.early_verdict.proofs.LivingLemmas.{live_leaf, looks_as, parts_as}
 use Rattle.early_verdict.proofs.Places.{lists_by}
 use Rattle.early_verdict.proofs.NodeReads.{FalseBy, ListedNo, ListedYes, TrueBy, read_listed, read_on}
 use Rattle.early_verdict.proofs.SetsTell.{both_alike, parts_kept}
@@ -204,12 +205,42 @@ module _ {nodes : List Node} {tr : Trace} {live shown : List Sets} (st : NetStan
       lists_apart p t (subst (λ (l : Lists). IsOn l.yes t) (sym (lists_are shown p x is)) y)
       (subst (λ (l : Lists). IsOn l.no t) (sym (lists_are shown p x is)) n)
 
+-- beside a place each node goes on from what it did; or it is an atom, which goes on from what it shows
+abbrev pub StayBeside : List Node → ℕ → List Sets → List Sets → List Sets → List Sets → Type 0
+StayBeside nodes i live left old new = (j : ℕ) (v : Sets) → j ≢ i → slice_get left j ≡ Some v → (slice_get live j ≡ Some v)
+    ⊎ ((a : Atom) × (slice_get nodes j ≡ Some (Leaf a)) × (slice_get new j ≡ Some v) × ((w : Sets) → slice_get old j ≡ Some w → slice_get live j ≡ Some w))
+
+-- what stands at the place before and after, and beside it
+pub record Beside (nodes : List Node) (i : ℕ) (live left old new : List Sets) (s r : Sets) : Type 0 where
+  -- what the node at the place went on from
+  pub is : slice_get live i ≡ Some s
+  -- and goes on from now
+  pub ir : slice_get left i ≡ Some r
+  -- the others
+  pub same : StayBeside nodes i live left old new
+  -- there are as many
+  pub count : length left ≡ length live
+
+-- what says something within its bounds says it of fewer times
+says_less : (w x : Sets) → IsLess w x → w.yes.bounds ≡ w.no.bounds → {P N : Rational → Type 0} → SayBoth w P N → SayBoth x P N
+says_less w x less same h = record {
+  yes = record {
+    has = λ t l p. let m = subst (λ z. Lies z t) (less.same same) l in less.yes_in t m (h.yes.has t (subst (λ z. Lies z t) (sym same) (less.less t m)) p);
+    only = λ t o. (subst (λ z. Lies z t) (sym (less.same same)) (inside.yes t o), (h.yes.only t (less.yes_out t o)).1);
+  };
+  no = record {
+    has = λ t l p. less.no_in t l (h.no.has t (less.less t l) p);
+    only = λ t o. (inside.no t o, (h.no.only t (less.no_out t o)).1);
+  };
+}
+  where
+    inside : IsInside x
+    inside = less.inside (record { yes = λ t o. subst (λ z. Lies z t) same (h.yes.only t o).0; no = λ t o. (h.no.only t o).0 })
+
 -- the children of one node show fewer times, and its own sets go on to fit them
-module _ {nodes : List Node} (formed : AreWellFormed nodes) {tr : Trace} {live : List Sets} (left : List Sets) {old new : List Sets} (i : ℕ) {n : Node}
-    (at : slice_get nodes i ≡ Some n) {s r : Sets}
-    (is : slice_get live i ≡ Some s) (ir : slice_get left i ≡ Some r)
-    (same : (j : ℕ) → j ≢ i → slice_get left j ≡ slice_get live j) (count : length left ≡ length live)
-    (less : AreLess old new) (others : (p : ℕ) → ¬ (IsChild n p) → slice_get new p ≡ slice_get old p) (st : NetStands nodes tr live old) where
+module _ {nodes : List Node} (formed : AreWellFormed nodes) {tr : Trace} {live left old new : List Sets} (i : ℕ) {n : Node}
+    (at : slice_get nodes i ≡ Some n) {s r : Sets} (there : Beside nodes i live left old new s r) (less : AreLess old new)
+    (others : (p : ℕ) → ¬ (IsChild n p) → slice_get new p ≡ slice_get old p) (st : NetStands nodes tr live old) where
   -- what is shown at a place now, and was
   was_shown : (p : ℕ) (x : Sets) → slice_get new p ≡ Some x → (w : Sets) × (slice_get old p ≡ Some w) × IsLess w x
   was_shown = less.each
@@ -275,7 +306,28 @@ module _ {nodes : List Node} (formed : AreWellFormed nodes) {tr : Trace} {live :
       same_m q = same_Some n m (sym at ∙ subst (λ k. slice_get nodes k ≡ Some m) q here)
 
       same_v : j ≡ i → r ≡ v
-      same_v q = same_Some r v (sym ir ∙ subst (λ k. slice_get left k ≡ Some v) q iv)
+      same_v q = same_Some r v (sym there.ir ∙ subst (λ k. slice_get left k ≡ Some v) q iv)
+
+      -- an atom that goes on from what it shows
+      module _ (a : Atom) (leaf : slice_get nodes j ≡ Some (Leaf a)) (shows : slice_get new j ≡ Some v)
+          (was : (w : Sets) → slice_get old j ≡ Some w → slice_get live j ≡ Some w) where
+        shown_v : (w : Sets) × (slice_get old j ≡ Some w) × IsLess w v
+        shown_v = was_shown j v shows
+
+        leaf_was : IsLive (start tr) old (Leaf a) shown_v.0 shown_v.0
+        leaf_was = st.have.has j (Leaf a) shown_v.0 shown_v.0 leaf (was shown_v.0 shown_v.1) shown_v.1
+
+        is_leaf : Leaf a ≡ m
+        is_leaf = same_Some (Leaf a) m (sym leaf ∙ here)
+
+        leaf_live : (x : Sets) → slice_get new j ≡ Some x → IsLive (start tr) new m v x
+        leaf_live x ix = subst (λ z. IsLive (start tr) new m v z) (same_Some v x (sym shows ∙ ix)) (subst (λ z. IsLive (start tr) new z v v) is_leaf
+            (live_leaf a v (shown_v.2.same leaf_was.shown_yes) (λ t l. leaf_was.shown_starts t (shown_v.2.less t l))
+            (shown_v.2.inside (record { yes = leaf_was.yes_within; no = leaf_was.no_within }))))
+
+        leaf_fits : Fits m false tr (lists_at new) v
+        leaf_fits = subst (λ z. Fits z false tr (lists_at new) v) is_leaf
+            (says_less shown_v.0 v shown_v.2 leaf_was.shown_yes (st.fit j (Leaf a) shown_v.0 leaf (was shown_v.0 shown_v.1)))
 
       live_one : (x : Sets) → slice_get new j ≡ Some x → IsLive (start tr) new m v x
       live_one x ix = by_was (was_shown j x ix)
@@ -284,34 +336,43 @@ module _ {nodes : List Node} (formed : AreWellFormed nodes) {tr : Trace} {live :
           by_was (w, e, less) = elim (cases_eq j i) [
             | inl q ↦ subst (λ z. IsLive (start tr) new m z x) (same_v q) (subst (λ z. IsLive (start tr) new z r x) (same_m q)
                 (mine w x (subst (λ k. slice_get old k ≡ Some w) q e) (subst (λ k. slice_get new k ≡ Some x) q ix) less))
-            | inr d ↦
-                let k = st.have.has j m v w here (sym (same j d) ∙ iv) e in
-                live_by m v v w x refl refl less k
-                (looks_as (start tr) k.own k.own (λ t h. h) m old new v.parts v.parts (λ p c u h. shown_as old new p u (not_its j p m d here c) h)
-                (λ p c u h. shown_as new old p u (sym (not_its j p m d here c)) h)
-                (λ p c u. lists_as old new p u (not_its j p m d here c))
-                (parts_kept v.parts v.parts refl) k.looks)
-                (parts_as m v v old new (parts_kept v.parts v.parts refl) (λ p l' f z. (l', sym (not_its j p m d here (left_child p m f)) ∙ z, refl)) k.left)
+            | inr d ↦ elim (there.same j v d iv) [
+              | inl o ↦
+                  let k = st.have.has j m v w here o e in
+                  live_by m v v w x refl refl less k
+                  (looks_as (start tr) k.own k.own (λ t h. h) m old new v.parts v.parts (λ p c u h. shown_as old new p u (not_its j p m d here c) h)
+                  (λ p c u h. shown_as new old p u (sym (not_its j p m d here c)) h)
+                  (λ p c u. lists_as old new p u (not_its j p m d here c))
+                  (parts_kept v.parts v.parts refl) k.looks)
+                  (parts_as m v v old new (parts_kept v.parts v.parts refl)
+                  (λ p l' f z. (l', sym (not_its j p m d here (left_child p m f)) ∙ z, refl)) k.left)
+              | inr (a, leaf, shows, was) ↦ leaf_live a leaf shows was x ix
+            ]
           ]
 
       fit_one : Fits m false tr (lists_at new) v
       fit_one = elim (cases_eq j i) [
         | inl q ↦ subst (λ z. Fits m false tr (lists_at new) z) (same_v q) (subst (λ z. Fits z false tr (lists_at new) r) (same_m q) fits)
-        | inr d ↦ fits_as m false tr (lists_at old) (lists_at new) v (λ p c. lists_by old new p (sym (not_its j p m d here c)))
-            (st.fit j m v here (sym (same j d) ∙ iv))
+        | inr d ↦ elim (there.same j v d iv) [
+          | inl o ↦ fits_as m false tr (lists_at old) (lists_at new) v (λ p c. lists_by old new p (sym (not_its j p m d here c))) (st.fit j m v here o)
+          | inr (a, leaf, shows, was) ↦ leaf_fits a leaf shows was
+        ]
       ]
 
     tidy_one : AllTidy left
     tidy_one j v iv = elim (cases_eq j i) [
-      | inl q ↦ subst AreSetsTidy (same_Some r v (sym ir ∙ subst (λ k. slice_get left k ≡ Some v) q iv)) tidy
-      | inr d ↦ st.tidy j v (sym (same j d) ∙ iv)
+      | inl q ↦ subst AreSetsTidy (same_Some r v (sym there.ir ∙ subst (λ k. slice_get left k ≡ Some v) q iv)) tidy
+      | inr d ↦ elim (there.same j v d iv) [
+        | inl o ↦ st.tidy j v o
+        | inr (a, leaf, shows, was) ↦ let w = was_shown j v shows in w.2.tidy (st.shown_tidy j w.0 w.1)
+      ]
     ]
 
     -- all stands where one node lets go
     pub one_stands : NetStands nodes tr left new
     one_stands = record {
       have = record {
-        count = count ∙ st.have.count;
+        count = there.count ∙ st.have.count;
         shown_count = less.count ∙ st.have.shown_count;
         has = λ j m v x here iv ix. live_one j m v here iv x ix;
       };
@@ -326,44 +387,45 @@ module _ {nodes : List Node} (formed : AreWellFormed nodes) {tr : Trace} {live :
       };
       root = elim (child_or_not (length nodes - 1) n) [
         | inl c ↦ absurd (let a = child_below i (length nodes - 1) n (placed nodes i n formed.post_order at) c in
-            let b = slice_get_within live i s is in let d = st.have.count in omega (arith, a, b, d))
+            let b = slice_get_within live i s there.is in let d = st.have.count in omega (arith, a, b, d))
         | inr c ↦ shown_as old new (length nodes - 1) (start tr) (others (length nodes - 1) c) st.root
       ];
     }
 
 -- a node that is no until
-module _ {nodes : List Node} (formed : AreWellFormed nodes) {tr : Trace} {live old new : List Sets} (i : ℕ) {n : Node}
+module _ {nodes : List Node} (formed : AreWellFormed nodes) {tr : Trace} {live left old new : List Sets} (i : ℕ) {n : Node}
     (at : slice_get nodes i ≡ Some n) {s : Sets}
-    (is : slice_get live i ≡ Some s) {from : Rational} (begins : (t : Rational) → Lies s.no.bounds t → from ≤ʳ t) (asked : AreAskedBy n from old new)
+    (there : Beside nodes i live left old new s s) {from : Rational} (begins : (t : Rational) → Lies s.no.bounds t → from ≤ʳ t)
+    (asked : AreAskedBy n from old new)
     (st : NetStands nodes tr live old) (plain : ¬ (IsUntil n)) where
   begun : (own : Stretch) → s.no.bounds ≡ own → (t : Rational) → Lies own t → from ≤ʳ t
   begun own e t l = begins t (subst (λ z. Lies z t) (sym e) l)
 
   mine : (w x : Sets) → slice_get old i ≡ Some w → slice_get new i ≡ Some x → IsLess w x → IsLive (start tr) new n s x
   mine w x e f less =
-      let k = st.have.has i n s w at is e in
-      live_by formed {live = live} live i at is is (λ j d. refl) refl asked.less asked.others st n s s w x refl refl less k
+      let k = st.have.has i n s w at there.is e in
+      live_by formed i at there asked.less asked.others st n s s w x refl refl less k
       (asked.looks (start tr) k.own s.parts (shown_begun st) (begun k.own k.no) k.looks)
       (parts_as n s s old new (parts_kept s.parts s.parts refl)
       (λ p l' g z. (l', subst (λ xs. slice_get xs p ≡ Some l') (asked.run (run_of_left n plain p g)) z, refl)) k.left)
 
   shown_i : (w : Sets) × (slice_get old i ≡ Some w)
-  shown_i = slice_get_there old i (let a = slice_get_within live i s is in let c = st.have.count in let d = st.have.shown_count in omega (arith, a, c, d))
+  shown_i = slice_get_there old i (let a = slice_get_within live i s there.is in let c = st.have.count in let d = st.have.shown_count in omega (arith, a, c, d))
 
   fits : Fits n false tr (lists_at new) s
   fits = elim (run_or_not n) [
-    | inl h ↦ subst (λ xs. Fits n false tr (lists_at xs) s) (sym (asked.run h)) (st.fit i n s at is)
+    | inl h ↦ subst (λ xs. Fits n false tr (lists_at xs) s) (sym (asked.run h)) (st.fit i n s at there.is)
     | inr h ↦
-        let k = st.have.has i n s shown_i.0 at is shown_i.1 in
+        let k = st.have.has i n s shown_i.0 at there.is shown_i.1 in
         fits_local tr k.own s k.yes k.no old new
-        (agree formed {live = live} live i at is is (λ j d. refl) refl asked.less asked.others st)
+        (agree formed i at there asked.less asked.others st)
         (lists_apart st) n h plain
-        (asked.looks (start tr) k.own s.parts (shown_begun st) (begun k.own k.no) k.looks) (st.fit i n s at is)
+        (asked.looks (start tr) k.own s.parts (shown_begun st) (begun k.own k.no) k.looks) (st.fit i n s at there.is)
   ]
 
   -- the network stands where one node shows fewer times that are asked for
-  pub asked_stands : NetStands nodes tr live new
-  asked_stands = one_stands formed {live = live} live i at is is (λ j d. refl) refl asked.less asked.others st mine fits (st.tidy i s is)
+  pub asked_stands : NetStands nodes tr left new
+  asked_stands = one_stands formed i at there asked.less asked.others st mine fits (st.tidy i s there.is)
 
 -- what stands lies within its bounds
 module _ {nodes : List Node} {tr : Trace} {live shown : List Sets} (st : NetStands nodes tr live shown) where

@@ -53,6 +53,7 @@ FalseBy (Historically p a b i j) tr Y N t = SomeBehind tr a b i j (N p) t
 abbrev pub ListedYes : List Sets → ℕ → Rational → Type 0
 ListedYes shown p = IsOn (lists_at shown p).yes
 
+-- and those at which they are false
 abbrev pub ListedNo : List Sets → ℕ → Rational → Type 0
 ListedNo shown p = IsOn (lists_at shown p).no
 

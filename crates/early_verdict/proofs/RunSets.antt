@@ -48,6 +48,7 @@ pub record UntilHeld (e : Entry) (old : Option Trace) (a b : ℕ) (p q : Lists) 
   pub both : Says x.both (λ t. IsOn p.yes t × IsOn q.yes t)
   -- the times from which a run comes to them
   pub run : Says x.run (GoesOn p.yes x.both.spans.items (place e.before))
+  -- of which there are none before any row
   pub no_run : WasList old x.run.spans.items
   -- the times whose window sees the right side
   pub some : Told old x.some (λ o. SomeAhead o a b true true (IsOn q.yes))
@@ -65,19 +66,30 @@ pub record UntilFailed (old : Option Trace) (a b : ℕ) (up_to : Window) (p q : 
   -- the times whose way is broken
   pub broken : Says x.broken (SeesOne up_to x.stop.spans.items)
 
--- the same of since
+-- what the sets of a since that holds told before an entry
 pub record SinceHeld (old : Option Trace) (a : ℕ) (b : Option ℕ) (p q : Lists) (x : Holding) : Type 0 where
+  -- the times of both sides
   pub both : Says x.both (λ t. IsOn p.yes t × IsOn q.yes t)
+  -- the times back from which a run comes to them
   pub run : Says x.run (GoesBackBy x.carried (place x.run.bounds.from) p.yes x.both.spans.items)
+  -- of which there are none before any row
   pub no_run : WasList old x.run.spans.items
+  -- the times whose window sees the right side
   pub some : Told old x.some (λ o. SomeBehind o a b true true (IsOn q.yes))
+  -- the times all of whose way is of the run
   pub each : Told old x.each (λ o. OnlyBehind o 0 (Some a) true true (IsOn x.run.spans.items))
 
+-- what those of one that fails told
 pub record SinceFailed (old : Option Trace) (a : ℕ) (b : Option ℕ) (p q : Lists) (x : Failing) : Type 0 where
+  -- the times of a failure of either side
   pub fail : Says x.fail (λ t. IsOn p.no t ⊎ IsOn q.no t)
+  -- the times back from which a failure of the left side is reached
   pub stop : Says x.stop (GoesBackBy x.carried (place x.stop.bounds.from) x.fail.spans.items p.no)
+  -- of which there are none before any row
   pub no_stop : WasList old x.stop.spans.items
+  -- the times all of whose window the right side fails
   pub never : Told old x.never (λ o. OnlyBehind o a b true true (IsOn q.no))
+  -- the times whose way is broken
   pub broken : Told old x.broken (λ o. SomeBehind o 0 (Some a) true true (IsOn x.stop.spans.items))
 
 module _ (e : Entry) (tr : Trace) (p q : Lists) (a : ℕ) where

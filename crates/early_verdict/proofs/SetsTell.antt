@@ -76,3 +76,8 @@ parts_kept (Some x) new e = subst (λ y. MatchOption y ⊥ (KeepsBounds x)) (sym
 -- parts that stay are tidy still
 pub parts_tidy : (old new : Option Parts) → new ≡ old → MatchOption old (Unit {0}) ArePartsTidy → MatchOption new (Unit {0}) ArePartsTidy
 parts_tidy old new e h = subst (λ y. MatchOption y (Unit {0}) ArePartsTidy) (sym e) h
+
+-- of sets between nothing at all is so
+pub unit_of : (o : Option Parts) → MatchOption o (Unit {0}) (λ x. Unit {0})
+unit_of None = tt
+unit_of (Some x) = tt

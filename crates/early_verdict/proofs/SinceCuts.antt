@@ -17,7 +17,7 @@ use Rattle.early_verdict.proofs.CarriedRuns.{says_back}
 use Rattle.early_verdict.proofs.SinceSets.{none_later}
 use Rattle.early_verdict.proofs.UntilCuts.{Agree, kept_in}
 
--- a set of times that see some time of a list, so far before them; and one that has none
+-- a set of times that see some time of a list, so far before them
 pub record SeesAnew (from : Rational) (a : ℕ) (xs : List Stretch) (old new : Grown) : Type 0 where
   -- its stretches rise
   pub tidy : IsTidy new
@@ -30,6 +30,7 @@ pub record SeesAnew (from : Rational) (a : ℕ) (xs : List Stretch) (old new : G
   -- and each of its times sees one
   pub only : (t : Rational) → IsOn new.spans.items t → Lies new.bounds t × ((u : Rational) × IsOn xs u × (later u a ≤ʳ t))
 
+-- a set that has none, with fewer bounds
 pub record SeesNone (from : Rational) (old new : Grown) : Type 0 where
   -- it has no time
   pub none : new.spans.items ≡ []

@@ -14,7 +14,6 @@ use Rattle.rational.proofs.PlaceLemmas.{upto_earlier, after_later}
 use Rattle.frac128.specs.Cuts.{place}
 use Rattle.growing_sets.specs.Spans.{AreTidy, IsOn, Lies}
 use Rattle.early_verdict.specs.Fitting.{ArePartsTidy, AreSetsTidy, IsTidy, Lists, lists_at}
-use Rattle.early_verdict.specs.Standing.{AllTidy}
 use Rattle.early_verdict.specs.Living.{IsShown, LooksAlong, NetStands}
 use Rattle.growing_sets.specs.Showing.{IsCutAt, IsGrownInside}
 use Rattle.early_verdict.specs.Letting.{ArePartsCut, BeginsAtOnce, IsAskedFrom, IsCutTo, IsDecisive}
@@ -27,8 +26,7 @@ use Rattle.early_verdict.proofs.AllSets.{is_shown, lists_are, shown_is}
 use Rattle.early_verdict.proofs.LettingLemmas.{both_shown, still_on, two_less}
 use Rattle.early_verdict.proofs.SinceSets.{none_later}
 use Rattle.early_verdict.proofs.SinceStands.{AreBackCut, HoldAndFail, since_stands}
-use Rattle.early_verdict.proofs.Narrowing.{shown_begun}
-use Rattle.early_verdict.proofs.Splitting.{changed_each}
+use Rattle.early_verdict.proofs.Narrowing.{Beside, shown_begun}
 
 -- sets that are cut are tidy
 tidy_parts : (d from : Rational) (wide : Stretch) (o o' : Option Parts) → ArePartsCut d from wide o o' → MatchOption o (Unit {0}) ArePartsTidy
@@ -58,9 +56,10 @@ bounded_parts d from wide a b ys (Some x) (Some y) (k, m) = record {
   never = m.never;
 }
 
-module _ {nodes : List Node} (formed : AreWellFormed nodes) {tr : Trace} {live left old mid new : List Sets} {i p q a b : ℕ}
+module _ {nodes : List Node} (formed : AreWellFormed nodes) {tr : Trace} {kept cut_to live left old mid new : List Sets} {i p q a b : ℕ}
     (at : slice_get nodes i ≡ Some (Since p q a (Some b))) (order : a ≤ b) {d from : Rational} (back : later d b ≤ʳ from) {wide : Stretch}
-    (cut : IsRunCutAt i d from wide live left) {l' : Sets} (at_left : slice_get new p ≡ Some l') (is_wide : wide ≡ l'.no.bounds)
+    (cut : IsRunCutAt i d from wide kept cut_to) (there : Beside nodes i live left old new cut.was cut.is)
+    {l' : Sets} (at_left : slice_get new p ≡ Some l') (is_wide : wide ≡ l'.no.bounds)
     (begins : (t : Rational) → Lies cut.was.no.bounds t → from ≤ʳ t) (h : IsAskedFrom p d old mid) (g : IsAskedFrom q d mid new)
     (st : NetStands nodes tr live old) where
   looks : (t : Rational) → from ≤ʳ t → LooksAlong (start tr) p q a (Some b) old t → LooksAlong (start tr) p q a (Some b) new t
@@ -92,10 +91,8 @@ module _ {nodes : List Node} (formed : AreWellFormed nodes) {tr : Trace} {live l
 
   -- what stands goes on to stand, where a since with a bound lets go
   pub bounded_stands : NetStands nodes tr left new
-  bounded_stands = since_stands formed left i at
-      (le_trans (later_more d a b order) back) back
-      cut.at_old cut.at_new cut.others cut.count cut.by.yes cut.by.no
-      (tidy_parts d from wide cut.was.parts cut.is.parts cut.by.parts (st.tidy i cut.was cut.at_old).parts)
+  bounded_stands = since_stands formed i at (le_trans (later_more d a b order) back) back there cut.by.yes cut.by.no
+      (tidy_parts d from wide cut.was.parts cut.is.parts cut.by.parts (st.tidy i cut.was there.is).parts)
       (bounded_parts d from wide a b (lists_at new q).yes cut.was.parts cut.is.parts cut.by.parts) at_left is_wide begins h g st looks
 
 -- without a bound the sets that see to the start are made anew
@@ -128,9 +125,10 @@ module _ (d from : Rational) (wide : Stretch) (a : ℕ) (ys : List Stretch) wher
     };
   }
 
-module _ {nodes : List Node} (formed : AreWellFormed nodes) {tr : Trace} {live half left old mid new : List Sets} {i p q a : ℕ}
+module _ {nodes : List Node} (formed : AreWellFormed nodes) {tr : Trace} {kept half cut_to live left old mid new : List Sets} {i p q a : ℕ}
     (at : slice_get nodes i ≡ Some (Since p q a None)) {d from : Rational} (back : later d a ≤ʳ from) {wide : Stretch}
-    (cut : IsRunCutAt i d from wide live half) (anew : IsEndlessCutAt i a (lists_at new q).yes half left) {l' : Sets} (at_left : slice_get new p ≡ Some l')
+    (cut : IsRunCutAt i d from wide kept half) (anew : IsEndlessCutAt i a (lists_at new q).yes half cut_to)
+    (there : Beside nodes i live left old new cut.was anew.is) {l' : Sets} (at_left : slice_get new p ≡ Some l')
     (is_wide : wide ≡ l'.no.bounds) (begins : (t : Rational) → Lies cut.was.no.bounds t → from ≤ʳ t) (h : IsAskedFrom p d old mid) (g : IsAskedFrom q d mid new)
     {wl wr : Sets} (at_l : slice_get old p ≡ Some wl) (at_r : slice_get old q ≡ Some wr) (dec : IsDecisive d cut.was wl wr)
     (st : NetStands nodes tr live old) where
@@ -139,7 +137,7 @@ module _ {nodes : List Node} (formed : AreWellFormed nodes) {tr : Trace} {live h
 
   decides : (IsOn (lists_at old p).yes d × IsOn (lists_at old q).yes d) ⊎ IsOn (lists_at old p).no d
   decides = elim dec.decides [
-    | inl o ↦ inl (by_parts cut.was.parts (st.fit i (Since p q a None) cut.was at cut.at_old) o)
+    | inl o ↦ inl (by_parts cut.was.parts (st.fit i (Since p q a None) cut.was at there.is) o)
     | inr o ↦ inr (subst (λ (l : Lists). IsOn l.no d) (sym (lists_are old p wl at_l)) o)
   ]
     where
@@ -213,30 +211,26 @@ module _ {nodes : List Node} (formed : AreWellFormed nodes) {tr : Trace} {live h
 
   -- and where one without a bound begins anew
   pub endless_stands : NetStands nodes tr left new
-  endless_stands = since_stands formed left i at back start_before
-      cut.at_old anew.at_new (λ j n. anew.others j n ∙ cut.others j n) (anew.count ∙ cut.count)
+  endless_stands = since_stands formed i at back start_before there
       (anew.by.yes ∙ subst (λ (s : Sets). s.yes ≡ cut.was.yes) same_half cut.by.yes)
       (anew.by.no ∙ subst (λ (s : Sets). s.no ≡ cut.was.no) same_half cut.by.no)
       (tidy_anew anew.was.parts anew.is.parts anew.by.parts
-      (tidy_parts d from wide cut.was.parts anew.was.parts half_cut (st.tidy i cut.was cut.at_old).parts))
+      (tidy_parts d from wide cut.was.parts anew.was.parts half_cut (st.tidy i cut.was there.is).parts))
       (endless_parts d from wide a (lists_at new q).yes cut.was.parts anew.was.parts anew.is.parts half_cut anew.by.parts)
       at_left is_wide begins h g st looks_anew
 
--- where the sets between of one node are cut, all are tidy still, and of those that see to the start the times lie within the bounds
+-- where the sets between of one node are cut, its sets are tidy still, and of those that see to the start the times lie within the bounds
 module _ {live half : List Sets} {i : ℕ} {d from : Rational} {wide : Stretch} (cut : IsRunCutAt i d from wide live half) where
-  -- all sets are tidy still
-  pub half_tidy : AllTidy live → AllTidy half
-  half_tidy t = changed_each (λ j s. AreSetsTidy s) cut here t
+  -- its sets are tidy still
+  pub half_tidy : ((s : Sets) → slice_get live i ≡ Some s → AreSetsTidy s) → (s : Sets) → slice_get half i ≡ Some s → AreSetsTidy s
+  half_tidy t s e = subst AreSetsTidy (same_Some cut.is s (sym cut.at_new ∙ e)) (record {
+    yes = subst (λ (y : Grown). IsTidy y) (sym cut.by.yes) was.yes;
+    no = subst (λ (y : Grown). IsTidy y) (sym cut.by.no) was.no;
+    parts = tidy_parts d from wide cut.was.parts cut.is.parts cut.by.parts was.parts;
+  })
     where
       was : AreSetsTidy cut.was
-      was = t i cut.was cut.at_old
-
-      here : AreSetsTidy cut.is
-      here = record {
-        yes = subst (λ (y : Grown). IsTidy y) (sym cut.by.yes) was.yes;
-        no = subst (λ (y : Grown). IsTidy y) (sym cut.by.no) was.no;
-        parts = tidy_parts d from wide cut.was.parts cut.is.parts cut.by.parts was.parts;
-      }
+      was = t cut.was cut.at_old
 
   -- the times of the one that sees to the start lie within its bounds
   pub half_inside : (s : Sets) → slice_get half i ≡ Some s → MatchOption s.parts (Unit {0}) (λ x. IsGrownInside x.holding.some)

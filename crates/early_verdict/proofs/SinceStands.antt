@@ -1,5 +1,5 @@
 -- What stands goes on to stand, where a since lets go of the times before its own, and its operands of those that it looks at no more.
-use Rattle.std.proofs.Common.{◌≡◌, ◌≢◌, ◌⊎◌, inl, inr, refl, sym, subst, ◌∙◌, ℕ, ◌<◌, ◌≤◌, true, false, Option, Some, None, List, length, arith}
+use Rattle.std.proofs.Common.{◌≡◌, ◌⊎◌, inl, inr, refl, sym, subst, ◌∙◌, ℕ, ◌<◌, ◌≤◌, true, false, Option, Some, None, List, length, arith}
 use Rattle.std.specs.Prelude.{IfSome, MatchOption, IsSome, slice_get, slice_index_or}
 use Rattle.std.proofs.lemmas.Option.{same_Some, slice_get_within}
 use Rattle.rational.specs.Time.{Rational, later, ◌≤ʳ◌, ◌<ʳ◌}
@@ -28,13 +28,13 @@ use Rattle.early_verdict.specs.declared.sets.Sets.{Sets}
 use Rattle.early_verdict.specs.declared.sets.Parts.{Parts}
 use Rattle.early_verdict.proofs.AllSets.{is_shown, lists_are, lists_tidy, shown_is, shown_within, yes_there, no_there}
 use Rattle.early_verdict.proofs.LettingLemmas.{less_shown, two_less, two_others, two_shows}
-use Rattle.early_verdict.proofs.Narrowing.{agree, lists_apart, live_by, one_stands, shown_begun, shown_inside}
+use Rattle.early_verdict.proofs.Narrowing.{Beside, agree, lists_apart, live_by, one_stands, shown_begun, shown_inside}
 use Rattle.early_verdict.proofs.NodeReads.{ListedNo, ListedYes, read_on, since_fails, since_holds}
 use Rattle.rational.proofs.PlaceLemmas.{between}
 use Rattle.rational.proofs.Lists.{slice_get_there}
 use Rattle.early_verdict.proofs.Settling.{SaysSince, reaches_along, says_since}
 use Rattle.early_verdict.proofs.SinceCuts.{IsBackCut, SeesAnew, SeesNone, failing_back, holding_back}
-use Rattle.early_verdict.proofs.SetsTell.{both_alike}
+use Rattle.early_verdict.proofs.SetsTell.{both_alike, unit_of}
 use Rattle.early_verdict.proofs.SinceSets.{none_later}
 use Rattle.growing_sets.proofs.StretchLemmas.{rises}
 use Rattle.early_verdict.proofs.UntilCuts.{Agree}
@@ -95,18 +95,16 @@ module _ {nodes : List Node} {tr : Trace} {live old mid new : List Sets} (i : �
         },
       )
 
-module _ {nodes : List Node} (formed : AreWellFormed nodes) {tr : Trace} {live : List Sets} (left : List Sets)
-    {old mid new : List Sets} (i : ℕ) {p q a : ℕ} {b : Option ℕ}
+module _ {nodes : List Node} (formed : AreWellFormed nodes) {tr : Trace} {live left old mid new : List Sets} (i : ℕ) {p q a : ℕ} {b : Option ℕ}
     (at : slice_get nodes i ≡ Some (Since p q a b)) {d from : Rational} (back : later d a ≤ʳ from)
     (reach : MatchOption b (start tr <ʳ d) (λ k. later d k ≤ʳ from)) {wide : Stretch} {s r : Sets}
-    (is : slice_get live i ≡ Some s) (ir : slice_get left i ≡ Some r)
-    (same : (j : ℕ) → j ≢ i → slice_get left j ≡ slice_get live j) (count : length left ≡ length live) (same_yes : r.yes ≡ s.yes) (same_no : r.no ≡ s.no)
+    (there : Beside nodes i live left old new s r) (same_yes : r.yes ≡ s.yes) (same_no : r.no ≡ s.no)
     (tidy_cut : MatchOption r.parts (Unit {0}) ArePartsTidy) (cut : AreBackCut d from wide a b (lists_at new q).yes s.parts r.parts)
     {l' : Sets} (at_left : slice_get new p ≡ Some l') (is_wide : wide ≡ l'.no.bounds)
     (begins : (t : Rational) → Lies s.no.bounds t → from ≤ʳ t) (h : IsAskedFrom p d old mid) (g : IsAskedFrom q d mid new) (st : NetStands nodes tr live old)
     (looks_new : (t : Rational) → from ≤ʳ t → LooksAlong (start tr) p q a b old t → LooksAlong (start tr) p q a b new t) where
   small : i < length nodes
-  small = let e = slice_get_within live i s is in let c = st.have.count in omega (arith, e, c)
+  small = let e = slice_get_within live i s there.is in let c = st.have.count in omega (arith, e, c)
 
   less : AreLess old new
   less = two_less h g
@@ -131,7 +129,7 @@ module _ {nodes : List Node} (formed : AreWellFormed nodes) {tr : Trace} {live :
   own_shown = slice_get_there old i (let e = small in let n = st.have.shown_count in omega (arith, e, n))
 
   was : IsLive (start tr) old (Since p q a b) s own_shown.0
-  was = st.have.has i (Since p q a b) s own_shown.0 at is own_shown.1
+  was = st.have.has i (Since p q a b) s own_shown.0 at there.is own_shown.1
 
   begun : (t : Rational) → Lies was.own t → from ≤ʳ t
   begun t l = begins t (subst (λ z. Lies z t) (sym was.no) l)
@@ -206,7 +204,7 @@ module _ {nodes : List Node} (formed : AreWellFormed nodes) {tr : Trace} {live :
   looks_still t l = looks_new t (begun t l) (was.looks.0 t l)
 
   told : (n : ℕ) → Known (IsShown new n) (lists_at new n) (ListedYes old n) (ListedNo old n)
-  told n = agree formed left i at is ir same count less (two_others h g) st n
+  told n = agree formed i at there less (two_others h g) st n
 
   apart_new : (n : ℕ) (u : Rational) → ListedYes new n u → ¬ (ListedNo new n u)
   apart_new n u y m = lists_apart st n u ((told n).yes_out u y) ((told n).no_out u m)
@@ -309,13 +307,9 @@ module _ {nodes : List Node} (formed : AreWellFormed nodes) {tr : Trace} {live :
   by_parts R S f N (Some x) None c m e t u n = absurd c
   by_parts R S f N (Some x) (Some y) c m e t u n = f x y c m e t u n
 
-  unit_of : (o : Option Parts) → MatchOption o (Unit {0}) (λ x. Unit {0})
-  unit_of None = tt
-  unit_of (Some x) = tt
-
   reach_parts : MatchOption r.parts (Unit {0}) (ReachesBack (start tr) b p new was.own)
   reach_parts = by_parts (λ x. Unit {0}) (ReachesBack (start tr) b p new was.own) (λ x y k m e t u n. reach_cut x y k m e) (Unit {0}) s.parts r.parts cut
-      was.looks.1 fail_bounds (st.tidy i s is).parts tidy_cut (unit_of s.parts)
+      was.looks.1 fail_bounds (st.tidy i s there.is).parts tidy_cut (unit_of s.parts)
 
   is_some : IsSome r.parts
   is_some = by_some s.parts r.parts cut was.left.0
@@ -329,22 +323,22 @@ module _ {nodes : List Node} (formed : AreWellFormed nodes) {tr : Trace} {live :
   still_within l f =
       subst (λ z. HasFailBounds r z) (same_Some l' l (sym at_left ∙ f))
       (by_parts (λ x. Unit {0}) (FailWithin l'.no.bounds) (λ x y k m e t u n. (k.fail.bounds_are ∙ is_wide, k.stop.bounds_are ∙ is_wide)) (Unit {0})
-      s.parts r.parts cut was.looks.1 fail_bounds (st.tidy i s is).parts tidy_cut (unit_of s.parts))
+      s.parts r.parts cut was.looks.1 fail_bounds (st.tidy i s there.is).parts tidy_cut (unit_of s.parts))
 
   mine : (w x : Sets) → slice_get old i ≡ Some w → slice_get new i ≡ Some x → IsLess w x → IsLive (start tr) new (Since p q a b) r x
   mine w x e f fewer =
-      live_by formed left i at is ir same count less (two_others h g) st
+      live_by formed i at there less (two_others h g) st
       (Since p q a b) s r own_shown.0 x same_yes same_no (subst (λ z. IsLess z x) (same_Some w own_shown.0 (sym e ∙ own_shown.1)) fewer) was
       (looks_still, reach_parts) (is_some, still_within)
 
   fits : SinceFits tr a b (lists_at new p) (lists_at new q) r
   fits = by_parts (HoldAndFail tr a b (lists_at old p) (lists_at old q) s) (HoldAndFail tr a b (lists_at new p) (lists_at new q) r)
-      (λ x y k m e t u n. parts_fit x y k m e t u n) ⊥ s.parts r.parts cut was.looks.1 fail_bounds (st.tidy i s is).parts tidy_cut
-      (st.fit i (Since p q a b) s at is)
+      (λ x y k m e t u n. parts_fit x y k m e t u n) ⊥ s.parts r.parts cut was.looks.1 fail_bounds (st.tidy i s there.is).parts tidy_cut
+      (st.fit i (Since p q a b) s at there.is)
 
   tidy : AreSetsTidy r
   tidy =
-      let n = st.tidy i s is in
+      let n = st.tidy i s there.is in
       record {
         yes = subst (λ (y : Grown). IsTidy y) (sym same_yes) n.yes;
         no = subst (λ (y : Grown). IsTidy y) (sym same_no) n.no;
@@ -353,4 +347,4 @@ module _ {nodes : List Node} (formed : AreWellFormed nodes) {tr : Trace} {live :
 
   -- all stands where a since and its operands let go
   pub since_stands : NetStands nodes tr left new
-  since_stands = one_stands formed left i at is ir same count less (two_others h g) st mine fits tidy
+  since_stands = one_stands formed i at there less (two_others h g) st mine fits tidy

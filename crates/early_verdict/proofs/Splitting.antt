@@ -1,6 +1,6 @@
 -- A list of sets that is split at a place, and what is put there.
 use Rattle.std.proofs.Common.{◌≡◌, ◌≢◌, inl, inr, refl, sym, ap, subst, ◌∙◌, ℕ, zero, suc, ◌<◌, Some, List}
-use Rattle.std.proofs.Common.{[], ◌∷◌, ◌++◌, length, take, drop, Result, Ok, Err, OnOk, arith}
+use Rattle.std.proofs.Common.{[], ◌∷◌, ◌++◌, length, take, drop, arith}
 use Rattle.std.specs.Prelude.{slice_get, slice_set, slice_index_or}
 use Rattle.std.proofs.lemmas.Bool.{cases_eq}
 use Rattle.std.proofs.lemmas.Option.{same_Some}
@@ -73,6 +73,19 @@ changes_at {back = back} d own p by = record {
   by = by;
 }
 
+-- what changes so changes in another way that follows
+abbrev pub changed_as : {i : ℕ} {old new : List Sets} {R S : Sets → Sets → Type 0} → ((s r : Sets) → slice_get new i ≡ Some r → R s r → S s r)
+    → ChangesAt i old new R → ChangesAt i old new S
+changed_as f c = record {
+  was = c.was;
+  is = c.is;
+  at_old = c.at_old;
+  at_new = c.at_new;
+  others = c.others;
+  count = c.count;
+  by = f c.was c.is c.at_new c.by;
+}
+
 -- what is so of the sets there and of all that stood before is so of all that stand now
 pub changed_each : {i : ℕ} {old new : List Sets} {R : Sets → Sets → Type 0} (P : ℕ → Sets → Type 0) (c : ChangesAt i old new R) → P i c.is
     → ((j : ℕ) (s : Sets) → slice_get old j ≡ Some s → P j s) → (j : ℕ) (s : Sets) → slice_get new j ≡ Some s → P j s
@@ -81,11 +94,6 @@ changed_each {i} {old} {new} P c here there j s e = elim (cases_eq j i) [
       subst (λ k. P k s) (sym q) (subst (P i) (same_Some c.is s (sym c.at_new ∙ subst (λ k. slice_get new k ≡ Some s) q e)) here)
   | inr n ↦ there j s (sym (c.others j n) ∙ e)
 ]
-
--- of two facts for one answer, a third
-pub on_two : {T E : Type 0} (r : Result T E) {P Q R : Type 0} → OnOk r P → OnOk r Q → (P → Q → R) → OnOk r R
-on_two (Ok x) p q f = f p q
-on_two (Err e) p q f = tt
 
 -- the front has as many as the place says
 pub length_front : (sets : List Sets) (i : ℕ) → i < length sets → length (take i sets) ≡ i

@@ -47,6 +47,7 @@ rows_on : (width : ℕ) (rows : List Row) (last : Option Row) (x : Row) → AreR
 rows_on width [] last x ok e l w = (w, tt)
 rows_on width (r ∷ rows) last x ok e l w = rows_pushed width r rows x ok (subst (λ o. IfSome o (λ r. r.time < x.time)) e l) w
 
+-- the row that was pushed is the last
 pub last_on : (rows : List Row) (x : Row) → Some x ≡ last_of (rows ++ x ∷ [])
 last_on [] x = refl
 last_on (r ∷ rows) x = ap Some (sym (last_row_pushed r rows x))

@@ -1,7 +1,6 @@
 -- What is known while nothing is decided.
-use Rattle.std.proofs.Common.{◌≡◌, refl, sym, subst, ◌∙◌, ℕ, ◌<◌, Bool, true, Option, Some, None, List, [], ◌∷◌, length}
-use Rattle.std.specs.Prelude.{IfSome}
-use Rattle.stl_syntax.specs.Trace.{Header, Row, AreRows}
+use Rattle.std.proofs.Common.{◌≡◌, refl, sym, subst, ◌∙◌, ℕ, Bool, true, Option, Some, None, List, [], ◌∷◌, length}
+use Rattle.stl_syntax.specs.Trace.{Header, Row}
 use Rattle.stl_syntax.specs.Formula.{Formula, root}
 use Rattle.atom_lines.specs.Binding.{Binding}
 use Rattle.early_verdict.specs.Living.{ComesOn}
@@ -12,21 +11,6 @@ use Rattle.early_verdict.specs.declared.sets.Sets.{Sets}
 use Rattle.early_verdict.proofs.GoingOn.{end_final}
 use Rattle.early_verdict.proofs.DecideLemmas.{some_truth, truth_of}
 use Rattle.early_verdict.proofs.StandingOn.{rise_of}
-
-last_width : (width : ℕ) (r : Row) (rows : List Row) → AreRows width (r ∷ rows) → length (last_after r rows).values ≡ width
-last_width width r [] h = h.0
-last_width width r (x ∷ rows) h = last_width width x rows (h.1.1, h.1.2)
-
--- the last row has the columns of the atoms
-pub last_wide : (f : Formula) (b : Binding) (header : Header) (r : Row) (rows : List Row) (begin : ℕ) (last : Option Row) (live shown : List Sets)
-    → IsOpen f b header (r ∷ rows) begin last live shown → IfSome last (λ q. length q.values ≡ b.width)
-last_wide f b header r rows begin last live shown o =
-    subst (λ x. IfSome x (λ q. length q.values ≡ b.width)) (sym o.ends) (last_width (length header.columns) r rows o.so_far ∙ sym o.bound.width)
-
--- a row after the last
-pub after_last : (r : Row) (rows : List Row) (last : Option Row) (x : Row) → last ≡ Some (last_after r rows)
-    → IfSome last (λ q. q.time < x.time) → (last_after r rows).time < x.time
-after_last r rows last x e h = subst (λ o. IfSome o (λ q. q.time < x.time)) e h
 
 -- no rows, no last
 pub none_rows : (rows : List Row) → last_of rows ≡ None → rows ≡ []

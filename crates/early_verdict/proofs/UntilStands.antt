@@ -25,9 +25,10 @@ use Rattle.growing_sets.specs.declared.grown.Grown.{Grown}
 use Rattle.early_verdict.specs.declared.sets.Sets.{Sets}
 use Rattle.early_verdict.specs.declared.sets.Parts.{Parts}
 use Rattle.early_verdict.proofs.AllSets.{lists_are}
-use Rattle.early_verdict.proofs.Narrowing.{live_by, one_stands, shown_begun, shown_inside}
+use Rattle.early_verdict.proofs.Narrowing.{Beside, live_by, one_stands, shown_begun, shown_inside}
 use Rattle.rational.proofs.PlaceLemmas.{between}
 use Rattle.rational.proofs.Lists.{slice_get_there}
+use Rattle.early_verdict.proofs.SetsTell.{unit_of}
 use Rattle.growing_sets.proofs.StretchLemmas.{rises}
 use Rattle.early_verdict.proofs.UntilCuts.{Agree, broken_in, each_in, failing_cut, holding_cut, never_in, some_in}
 
@@ -98,13 +99,13 @@ module _ {nodes : List Node} (formed : AreWellFormed nodes) {tr : Trace} {live o
             no_out = fewer.no_out;
           }))
 
-module _ {nodes : List Node} (formed : AreWellFormed nodes) {tr : Trace} {live left old new : List Sets} {i p q a b : ℕ}
-    (at : slice_get nodes i ≡ Some (Until p q a b))
-    {from : Rational} {wide : Stretch} (cut : IsRunCutAt i from from wide live left) {l' : Sets}
+module _ {nodes : List Node} (formed : AreWellFormed nodes) {tr : Trace} {kept cut_to live left old new : List Sets} {i p q a b : ℕ}
+    (at : slice_get nodes i ≡ Some (Until p q a b)) {from : Rational} {wide : Stretch}
+    (cut : IsRunCutAt i from from wide kept cut_to) (there : Beside nodes i live left old new cut.was cut.is) {l' : Sets}
     (at_left : slice_get new p ≡ Some l') (is_wide : wide ≡ l'.no.bounds)
     (begins : (t : Rational) → Lies cut.was.no.bounds t → from ≤ʳ t) (asked : AreAskedBy (Until p q a b) from old new) (st : NetStands nodes tr live old) where
   small : i < length nodes
-  small = let e = slice_get_within live i cut.was cut.at_old in let c = st.have.count in omega (arith, e, c)
+  small = let e = slice_get_within live i cut.was there.is in let c = st.have.count in omega (arith, e, c)
 
   -- the left operand's bounds, as they were
   was_left : (l : Sets) × (slice_get old p ≡ Some l) × IsLess l l'
@@ -117,7 +118,7 @@ module _ {nodes : List Node} (formed : AreWellFormed nodes) {tr : Trace} {live l
   own_shown = slice_get_there old i (let e = small in let d = st.have.shown_count in omega (arith, e, d))
 
   was : IsLive (start tr) old (Until p q a b) cut.was own_shown.0
-  was = st.have.has i (Until p q a b) cut.was own_shown.0 at cut.at_old own_shown.1
+  was = st.have.has i (Until p q a b) cut.was own_shown.0 at there.is own_shown.1
 
   begun : (t : Rational) → Lies was.own t → from ≤ʳ t
   begun t l = begins t (subst (λ z. Lies z t) (sym was.no) l)
@@ -223,10 +224,6 @@ module _ {nodes : List Node} (formed : AreWellFormed nodes) {tr : Trace} {live l
   reach_parts = by_parts (λ x. Unit {0}) (ReachesAhead (start tr) b was.own) (λ x y k m r e u. reach_cut x y k m r e)
       (Unit {0}) cut.was.parts cut.is.parts cut.by.parts
       was.looks.1 fail_bounds (unit_of cut.was.parts)
-    where
-      unit_of : (o : Option Parts) → MatchOption o (Unit {0}) (λ x. Unit {0})
-      unit_of None = tt
-      unit_of (Some x) = tt
 
   is_some : IsSome cut.is.parts
   is_some = by_some cut.was.parts cut.is.parts cut.by.parts was.left.0
@@ -242,14 +239,10 @@ module _ {nodes : List Node} (formed : AreWellFormed nodes) {tr : Trace} {live l
       (by_parts (λ x. Unit {0}) (FailWithin l'.no.bounds)
       (λ x y k m r e u. (m.fail.bounds_are ∙ is_wide, m.stop.bounds_are ∙ is_wide)) (Unit {0}) cut.was.parts cut.is.parts cut.by.parts was.looks.1 fail_bounds
       (unit_of cut.was.parts))
-    where
-      unit_of : (o : Option Parts) → MatchOption o (Unit {0}) (λ x. Unit {0})
-      unit_of None = tt
-      unit_of (Some x) = tt
 
   mine : (w x : Sets) → slice_get old i ≡ Some w → slice_get new i ≡ Some x → IsLess w x → IsLive (start tr) new (Until p q a b) cut.is x
   mine w x e f less =
-      live_by formed left i at cut.at_old cut.at_new cut.others cut.count asked.less asked.others st (Until p q a b)
+      live_by formed i at there asked.less asked.others st (Until p q a b)
       cut.was cut.is own_shown.0 x cut.by.yes cut.by.no (subst (λ z. IsLess z x) (same_Some w own_shown.0 (sym e ∙ own_shown.1)) less) was
       ((asked.looks (start tr) was.own cut.was.parts (shown_begun st) begun was.looks).0, reach_parts) (is_some, still_fails)
 
@@ -260,11 +253,11 @@ module _ {nodes : List Node} (formed : AreWellFormed nodes) {tr : Trace} {live l
       (λ y. UntilHolding tr a b (lists_at new p) (lists_at new q) y.holding
       × UntilFailing false tr a b (lists_at new p) (lists_at new q) y.failing × SayOfParts cut.is y)
       (λ x y k m r e h. parts_fit x y k m r e h) ⊥ cut.was.parts cut.is.parts cut.by.parts was.looks.1 fail_bounds
-      (st.fit i (Until p q a b) cut.was at cut.at_old)
+      (st.fit i (Until p q a b) cut.was at there.is)
 
   tidy : AreSetsTidy cut.is
   tidy =
-      let h = st.tidy i cut.was cut.at_old in
+      let h = st.tidy i cut.was there.is in
       record {
         yes = subst (λ (g : Grown). IsTidy g) (sym cut.by.yes) h.yes;
         no = subst (λ (g : Grown). IsTidy g) (sym cut.by.no) h.no;
@@ -274,4 +267,4 @@ module _ {nodes : List Node} (formed : AreWellFormed nodes) {tr : Trace} {live l
 
   -- all stands where an until lets go
   pub until_stands : NetStands nodes tr left new
-  until_stands = one_stands formed left i at cut.at_old cut.at_new cut.others cut.count asked.less asked.others st mine fits tidy
+  until_stands = one_stands formed i at there asked.less asked.others st mine fits tidy

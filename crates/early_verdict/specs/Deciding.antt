@@ -11,6 +11,7 @@ use Rattle.stl_syntax.specs.declared.scale.Scale.{Scale}
 use Rattle.atom_lines.specs.Binding.{Binding, IsBound}
 use Rattle.growing_sets.specs.Spans.{IsOn}
 use Rattle.early_verdict.specs.Fitting.{lists_at}
+use Rattle.early_verdict.specs.Standing.{own_of}
 use Rattle.early_verdict.specs.Living.{NetStands}
 use Rattle.trace_reader.specs.Reader.{Reader, StandsFor}
 use Rattle.early_verdict.specs.declared.sets.Sets.{Sets}
@@ -149,7 +150,7 @@ kept_of f b header last p = record {
   nodes = f.nodes;
   header = header;
   bound = b;
-  live = p.net.live.items;
+  live = own_of f.nodes p.net;
   shown = p.net.shown.items;
   begin = p.begin;
   last = last;

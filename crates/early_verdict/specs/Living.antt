@@ -1,5 +1,5 @@
 -- The sets of a net: what each node goes on from, and what it shows the node above it; both only from the times on that are still needed.
-use Rattle.std.specs.Prelude.{◌≡◌, ◌⊎◌, ℕ, zero, suc, ◌-◌, ◌<◌, ◌≤◌, Bool, true, false, Option, Some, List, [], ◌∷◌, length, MatchOption, slice_get}
+use Rattle.std.specs.Prelude.{◌≡◌, ◌⊎◌, ℕ, zero, suc, ◌-◌, ◌<◌, ◌≤◌, Bool, true, false, Option, Some, List, [], ◌∷◌, length, take, MatchOption, slice_get}
 use Rattle.rational.specs.Time.{Rational, Within, later, ◌≤ʳ◌}
 use Rattle.stl_syntax.specs.Trace.{Row, Trace, start}
 use Rattle.stl_syntax.specs.Formula.{subformula}
@@ -8,12 +8,12 @@ use Rattle.stl_syntax.specs.declared.node.Node.{Node}
 use Rattle.stl_syntax.specs.declared.node.Node.TheVariants.{Const, Atom as Leaf, Not, And, Or, Implies, Until, Eventually, Always, Since, Once, Historically}
 use Rattle.growing_sets.specs.Spans.{IsOn, Lies}
 use Rattle.growing_sets.specs.Steps.{Gains}
-use Rattle.early_verdict.specs.Fitting.{Lists, lists_at, no_of, yes_of, AreSetsTidy}
+use Rattle.early_verdict.specs.Fitting.{Fits, HasStepped, Lists, lists_at, no_of, yes_of, AreSetsTidy}
 use Rattle.atom_lines.specs.Binding.{Binding}
-use Rattle.early_verdict.specs.Changing.{ChangesAt}
-use Rattle.early_verdict.specs.Happening.{Happens}
+use Rattle.early_verdict.specs.Changing.{ChangedTo, ChangesAt}
+use Rattle.early_verdict.specs.Happening.{Happens, Was}
 use Rattle.early_verdict.specs.declared.entry.Entry.{Entry}
-use Rattle.early_verdict.specs.Standing.{AllFit, AllGo, AllTidy, AllWere, HasParts, SteppedTo}
+use Rattle.early_verdict.specs.Standing.{AllFit, AllGo, AllTidy, AllWere, HadAll, HasParts, LeafGoes, StepsAt, SteppedTo, own_list}
 use Rattle.growing_sets.specs.Showing.{TakesIn}
 use Rattle.growing_sets.specs.declared.stretch.Stretch.{Stretch}
 use Rattle.early_verdict.specs.declared.sets.Sets.{Sets}
@@ -116,6 +116,10 @@ pub record NetStands (nodes : List Node) (tr : Trace) (live shown : List Sets) :
   pub known : AllKnown nodes tr shown
   pub root : IsShown shown (length nodes - 1) (start tr)
 
+-- so do those that are stored, where an atom goes on from what it shows
+abbrev pub NetIs : List Node → Trace → List Sets → List Sets → Type 0
+NetIs nodes tr live shown = NetStands nodes tr (own_list nodes live shown) shown
+
 -- what a node shows after an entry, by what its sets gained
 pub record HasShown (old new s : Sets) : Type 0 where
   pub tidy : AreSetsTidy new
@@ -137,10 +141,22 @@ abbrev pub ShowsAt : ℕ → List Sets → List Sets → List Sets → Type 0
 ShowsAt i live old new = ChangesAt i old new (ShowsBy live i)
 
 -- so the nodes before a place
-pub record ShownTo (n : ℕ) (live old new : List Sets) : Type 0 where
-  pub count : length new ≡ length old
-  pub shown : (j : ℕ) (s x x' : Sets) → j < n → slice_get live j ≡ Some s → slice_get old j ≡ Some x → slice_get new j ≡ Some x' → HasShown x x' s
-  pub others : (j : ℕ) → n ≤ j → slice_get new j ≡ slice_get old j
+abbrev pub ShownTo : ℕ → List Sets → List Sets → List Sets → Type 0
+ShownTo n live old new = ChangedTo n old new (λ j x r. (s : Sets) → slice_get live j ≡ Some s → HasShown x r s)
+
+-- an atom steps, and shows what it gained
+abbrev pub LeafSteps : Sets → Sets → Type 0
+LeafSteps old new = HasStepped old new × HasShown old new new
+
+-- one entry over the node at a place: it steps, shows what it gained, and fits then what its children show
+pub record ComesAt (nodes : List Node) (b : Binding) (e : Entry) (before : Option Row) (r : Row) (i : ℕ) (own new shown new_shown : List Sets) : Type 0 where
+  pub n : Node
+  pub here : slice_get nodes i ≡ Some n
+  pub at : StepsAt i own new
+  pub shows : ShowsAt i new shown new_shown
+  pub fits : (old : Option Trace) (tr : Trace) (was : ℕ → Lists) → Happens e old tr → HadAll old tr was (take i shown)
+      → HasParts n at.was (take i shown) → LeafGoes b i e old tr before r at.was n
+      → Was old (λ o. Fits n false o was) at.was → Fits n e.ended tr (lists_at (take i shown)) at.is
 
 -- one entry over all nodes: each steps, shows what it gained, and fits then what its children show
 pub record ComesOn (nodes : List Node) (b : Binding) (e : Entry) (before : Option Row) (r : Row) (live new shown new_shown : List Sets) : Type 0 where

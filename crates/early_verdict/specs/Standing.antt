@@ -1,21 +1,22 @@
 -- What the sets of all nodes keep from entry to entry.
-use Rattle.std.specs.Prelude.{◌≡◌, ◌↔◌, ◌⊎◌, ℕ, ◌+◌, ◌≤◌, ◌<◌, Bool, false, Option, Some, None}
-use Rattle.std.specs.Prelude.{List, length, MatchOption, MatchBool, IsSome, slice_get, slice_index_or}
+use Rattle.std.specs.Prelude.{◌≡◌, ◌↔◌, ◌⊎◌, ℕ, ◌+◌, ◌≤◌, Bool, false, Option, Some, None}
+use Rattle.std.specs.Prelude.{List, [], ◌∷◌, length, MatchOption, MatchBool, IsSome, slice_get, slice_index_or}
 use Rattle.rational.specs.Time.{Rational, later, ◌≤ʳ◌}
 use Rattle.stl_syntax.specs.Trace.{Row, Trace, start}
 use Rattle.stl_syntax.specs.declared.node.Node.{Node}
 use Rattle.stl_syntax.specs.declared.node.Node.TheVariants.{Const, Atom as Leaf, Not, And, Or, Implies, Until, Eventually, Always, Since, Once, Historically}
 use Rattle.growing_sets.specs.Spans.{Lies}
-use Rattle.early_verdict.specs.Fitting.{Fits, AreSetsTidy, AreEmpty, HasStepped, HasFailBounds, Lists, lists_at}
+use Rattle.early_verdict.specs.Fitting.{AtomFits, Fits, AreSetsTidy, AreEmpty, HasStepped, HasFailBounds, Lists, lists_at}
 use Rattle.atom_lines.specs.Binding.{Binding, IsFor, IsAtomNode}
 use Rattle.early_verdict.specs.Adding.{IsNextRow}
-use Rattle.early_verdict.specs.Changing.{ChangesAt}
+use Rattle.early_verdict.specs.Changing.{ChangedTo, ChangesAt}
 use Rattle.early_verdict.specs.Happening.{Was, Had, Happens}
 use Rattle.early_verdict.specs.declared.entry.Entry.{Entry}
 use Rattle.stl_syntax.specs.declared.atom.Atom.{Atom}
 use Rattle.growing_sets.specs.declared.stretch.Stretch.{Stretch}
 use Rattle.early_verdict.specs.declared.sets.Sets.{Sets}
 use Rattle.early_verdict.specs.declared.sets.Parts.{Parts}
+use Rattle.early_verdict.specs.declared.sets.Net.{Net}
 
 -- the stretch has the times from `from` on, up to `top` ticks later
 abbrev pub IsFrom : Rational → ℕ → Stretch → Type 0
@@ -83,6 +84,18 @@ pub record HaveSets (nodes : List Node) (from : Rational) (tops : List ℕ) (set
   pub has : (i : ℕ) (n : Node) (s : Sets) → slice_get nodes i ≡ Some n → slice_get sets i ≡ Some s → HasSets from tops sets i n s
   pub asks : (i : ℕ) (n : Node) → slice_get nodes i ≡ Some n → AsksBelow (top_at tops) (top_at tops i) n
 
+-- what a node goes on from: an atom from what it shows, an operator from sets of its own
+abbrev pub own_sets : Node → Sets → Sets → Sets
+own_sets (Leaf a) own shown = shown
+own_sets n own shown = own
+
+abbrev pub own_list : List Node → List Sets → List Sets → List Sets
+own_list (n ∷ nodes) (s ∷ live) (x ∷ shown) = own_sets n s x ∷ own_list nodes live shown
+own_list nodes live shown = []
+
+abbrev pub own_of : List Node → Net → List Sets
+own_of nodes net = own_list nodes net.live.items net.shown.items
+
 -- what each node goes on from fits what its children show
 abbrev pub AllFit : List Node → Bool → Trace → List Sets → List Sets → Type 0
 AllFit nodes ended tr live shown = (i : ℕ) (n : Node) (s : Sets) → slice_get nodes i ≡ Some n → slice_get live i ≡ Some s → Fits n ended tr (lists_at shown) s
@@ -109,6 +122,11 @@ LeafGoes b i e old tr before r s (Leaf a) =
     IsFor b i a tr × GoesOnWith e old tr before r a × ((t : Rational) → Lies s.yes.bounds t ⊎ Lies s.no.bounds t → start tr ≤ʳ t)
 LeafGoes b i e old tr before r s n = Unit {0}
 
+-- an atom's sets at a node go on to fit, or stay as they are
+abbrev pub LeafFits : Binding → ℕ → Entry → Option Row → Row → Sets → Sets → Type 0
+LeafFits b i e before r own new =
+    (a : Atom) (old : Option Trace) (tr : Trace) → LeafGoes b i e old tr before r own (Leaf a) → Was old (λ o. AtomFits a o) own → AtomFits a tr new
+
 -- the columns of an atom are bound
 abbrev pub LeafIsBound : Binding → ℕ → Node → Type 0
 LeafIsBound b i (Leaf a) = IsAtomNode b i
@@ -118,6 +136,10 @@ LeafIsBound b i n = Unit {0}
 abbrev pub IsOperator : Node → Type 0
 IsOperator (Leaf a) = ⊥
 IsOperator n = Unit {0}
+
+-- the node at the place is an operator
+abbrev pub IsOperatorAt : List Node → ℕ → Type 0
+IsOperatorAt nodes i = (n : Node) × (slice_get nodes i ≡ Some n) × IsOperator n
 
 -- the operators with one operand that is looked at ahead, and those with one that is looked at behind
 abbrev pub LooksAhead : Node → Type 0
@@ -141,10 +163,8 @@ abbrev pub StepsAt : ℕ → List Sets → List Sets → Type 0
 StepsAt i old new = ChangesAt i old new HasStepped
 
 -- those before a place stepped, and those from it on are as they were
-pub record SteppedTo (n : ℕ) (old new : List Sets) : Type 0 where
-  pub count : length new ≡ length old
-  pub stepped : (j : ℕ) (s s' : Sets) → j < n → slice_get old j ≡ Some s → slice_get new j ≡ Some s' → HasStepped s s'
-  pub others : (j : ℕ) → n ≤ j → slice_get new j ≡ slice_get old j
+abbrev pub SteppedTo : ℕ → List Sets → List Sets → Type 0
+SteppedTo n old new = ChangedTo n old new (λ j s r. HasStepped s r)
 
 -- no set has a time
 abbrev pub AllEmpty : List Sets → Type 0

@@ -1,11 +1,10 @@
 //! From where on a since without a bound begins anew, and what it lets go of then.
 ghost use Rattle.std.specs.Prelude.{◌≡◌, ◌⊎◌, ◌<◌, ◌^◌, IfSome, MatchOption, Some, length, slice_get};
 ghost use Rattle.rational.specs.Rational.{IsWithin};
-ghost use Rattle.rational.specs.Time.{Rational, later, ◌≤ʳ◌};
+ghost use Rattle.rational.specs.Time.{later, ◌≤ʳ◌};
 ghost use Rattle.frac128.specs.Value.{value};
 ghost use Rattle.growing_sets.specs.Spans.{AreTidy, IsOn, Lies};
 ghost use Rattle.early_verdict.specs.Fitting.{AreSetsTidy};
-ghost use Rattle.early_verdict.specs.Standing.{AllTidy};
 ghost use Rattle.growing_sets.specs.Showing.{IsGrownInside};
 ghost use Rattle.early_verdict.specs.Letting.{IsDecisive, IsEndlessCut, IsEndlessCutAt, IsSeeing};
 ghost use Rattle.early_verdict.specs.declared.sets.Sets.{Sets as ASets};
@@ -108,7 +107,7 @@ fn cut_endless(own: &mut Sets, spans: &Stretches, low: u32)
 /// Cuts what the since at place `i` has of windows that reach to the start, as `cut_endless` does.
 pub(crate) fn cut_endless_at(live: &mut [Sets], i: usize, spans: &Stretches, low: u32)
     requires within { i < length live.old }
-    requires tidy { AllTidy live.old }
+    requires tidy { (s : ASets) → slice_get live.old i ≡ Some s → AreSetsTidy s }
     requires inside { (s : ASets) → slice_get live.old i ≡ Some s → MatchOption s.parts (Unit {0}) (λ x. IsGrownInside x.holding.some) }
     requires spans { AreTidy spans.now.items }
     ensures { IsEndlessCutAt i low spans.now.items live.old live.new }

@@ -14,6 +14,7 @@ ghost use Rattle.frac128.specs.Cuts.{place};
 ghost use Rattle.growing_sets.specs.Spans.{Lies};
 ghost use Rattle.early_verdict.specs.Fitting.{AreSetsTidy, AtomFits, HasStepped};
 ghost use Rattle.early_verdict.specs.Happening.{Was};
+ghost use Rattle.early_verdict.specs.Living.{HasShown};
 ghost use Rattle.early_verdict.specs.BlockRows.{own_row, previous_row};
 
 use crate::block_row::BlockRow;
@@ -139,6 +140,7 @@ pub(crate) fn step_atom(
     requires atom { IsAtomNode bound.now node }
     requires columns { length next.now.block.now.header.columns ≡ bound.now.width }
     ensures stepped { OnOk result (HasStepped own.old own.new) }
+    ensures shown { OnOk result (HasShown own.old own.new own.new) }
     ensures fits { OnOk result ((a : Atom) (old : Option Trace) (tr : Trace) → IsFor bound.now node a tr
         → IsNextRow a old tr (previous_row next.now) (own_row next.now)
         → ((t : Rational) → Lies own.old.yes.bounds t ⊎ Lies own.old.no.bounds t → start tr ≤ʳ t)

@@ -64,12 +64,13 @@ impl Model for Early {
 
     ghost use Rattle.std.specs.Prelude.{◌≡◌, ◌≤◌, false, length};
     ghost use Rattle.early_verdict.specs.Deciding.{HasPast, last_of};
+    ghost use Rattle.early_verdict.specs.Standing.{own_of};
 
     ghost view = { λ e. record {
       nodes = e.formula.nodes;
       header = e.block.header;
       bound = e.bound;
-      live = e.progress.net.live.items;
+      live = own_of e.formula.nodes e.progress.net;
       shown = e.progress.net.shown.items;
       begin = e.progress.begin;
       last = last_of e.block.rows;
@@ -82,7 +83,7 @@ impl Model for Early {
       nodes = e.formula.nodes;
       header = e.block.header;
       bound = e.bound;
-      live = e.progress.net.live.items;
+      live = own_of e.formula.nodes e.progress.net;
       shown = e.progress.net.shown.items;
       begin = e.progress.begin;
       last = last_of e.block.rows;

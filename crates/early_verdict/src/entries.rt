@@ -1,12 +1,12 @@
 //! Rows and the end of the input, as they come to the sets of all nodes.
-ghost use Rattle.std.specs.Prelude.{◌≡◌, ◌<◌, ◌++◌, ◌∷◌, ◌↔◌, [], ℕ, List, Option, length, pos, slice_get, IfOk, IsTrue, OnOk, Some, None, true, false};
+ghost use Rattle.std.specs.Prelude.{◌≡◌, ◌<◌, ◌≤◌, ◌++◌, ◌∷◌, ◌↔◌, [], ℕ, List, Option, length, pos, slice_get, IfOk, IsTrue, OnOk, Some, None, true, false};
 ghost use Rattle.stl_syntax.specs.Trace.{Header, Row as ARow};
 ghost use Rattle.stl_syntax.specs.Formula.{root};
 ghost use Rattle.rational.specs.Rational.{whole};
 ghost use Rattle.growing_sets.specs.Spans.{AreTidy, IsOn};
 ghost use Rattle.early_verdict.specs.Happening.{Happens, IsEntry};
 ghost use Rattle.stl_syntax.specs.declared.node.Node.{Node as ANode};
-ghost use Rattle.early_verdict.specs.Standing.{AllEmpty, AllTidy, LeafIsBound};
+ghost use Rattle.early_verdict.specs.Standing.{AllEmpty, AllTidy, LeafIsBound, own_of};
 ghost use Rattle.early_verdict.specs.Living.{ComesOn};
 ghost use Rattle.early_verdict.specs.Deciding.{IsOpen, IsTruthAtStart, IsVerdict, SetsAre, last_after, last_of, trace_of};
 ghost use Rattle.early_verdict.specs.BlockRows.{own_row, previous_row};
@@ -90,16 +90,16 @@ fn step_sets(
     next: &BlockRow,
     entry: &Entry,
 ) -> Result<(), Memory>
-    requires count { length net.old.live.items ≡ length formula.now.nodes }
+    requires count { length formula.now.nodes ≤ length net.old.live.items }
     requires shown_count { length net.old.shown.items ≡ length formula.now.nodes }
-    requires tidy { AllTidy net.old.live.items }
+    requires tidy { AllTidy (own_of formula.now.nodes net.old) }
     requires shown_tidy { AllTidy net.old.shown.items }
     requires entry { IsEntry entry.now }
-    requires none { entry.now.first ≡ true → AllEmpty net.old.live.items }
+    requires none { entry.now.first ≡ true → AllEmpty (own_of formula.now.nodes net.old) }
     requires atoms { (i : ℕ) (n : ANode) → slice_get formula.now.nodes i ≡ Some n → LeafIsBound bound.now i n }
     requires columns { length next.now.block.now.header.columns ≡ bound.now.width }
-    ensures { OnOk result (ComesOn formula.now.nodes bound.now entry.now (previous_row next.now) (own_row next.now) net.old.live.items net.new.live.items
-        net.old.shown.items net.new.shown.items) }
+    ensures { OnOk result (ComesOn formula.now.nodes bound.now entry.now (previous_row next.now) (own_row next.now)
+        (own_of formula.now.nodes net.old) (own_of formula.now.nodes net.new) net.old.shown.items net.new.shown.items) }
 {
     step_all(&mut net.live, &mut net.shown, formula, bound, next, entry)?;
     Ok(())
@@ -113,11 +113,11 @@ fn take_first(
     bound: &Bound,
     next: &BlockRow,
 ) -> Result<(), Memory>
-    requires open { (header : Header) × IsOpen formula.now bound.now header [] 0 None net.old.live.items net.old.shown.items }
+    requires open { (header : Header) × IsOpen formula.now bound.now header [] 0 None (own_of formula.now.nodes net.old) net.old.shown.items }
     requires columns { length next.now.block.now.header.columns ≡ bound.now.width }
     requires first { next.now.at ≡ 0 }
-    ensures { OnOk result ((header : Header) → IsOpen formula.now bound.now header [] 0 None net.old.live.items net.old.shown.items
-        → SetsAre formula.now.nodes header (own_row next.now).time net.new.live.items net.new.shown.items (own_row next.now ∷ [])) }
+    ensures { OnOk result ((header : Header) → IsOpen formula.now bound.now header [] 0 None (own_of formula.now.nodes net.old) net.old.shown.items
+        → SetsAre formula.now.nodes header (own_row next.now).time (own_of formula.now.nodes net.new) net.new.shown.items (own_row next.now ∷ [])) }
 {
     let live = all_sets(alloc, formula, next.time())?;
     let shown = shown_of(alloc, &live)?;
@@ -140,12 +140,12 @@ fn take_next(
     next: &BlockRow,
 ) -> Result<(), Memory>
     requires open { (header : Header) × (r : ARow) × (rows : List ARow)
-        × IsOpen formula.now bound.now header (r ∷ rows) begin (previous_row next.now) net.old.live.items net.old.shown.items }
+        × IsOpen formula.now bound.now header (r ∷ rows) begin (previous_row next.now) (own_of formula.now.nodes net.old) net.old.shown.items }
     requires columns { length next.now.block.now.header.columns ≡ bound.now.width }
     requires after { 0 < next.now.at }
     ensures { OnOk result ((header : Header) (r : ARow) (rows : List ARow)
-        → IsOpen formula.now bound.now header (r ∷ rows) begin (previous_row next.now) net.old.live.items net.old.shown.items
-        → SetsAre formula.now.nodes header begin net.new.live.items net.new.shown.items (r ∷ (rows ++ own_row next.now ∷ []))) }
+        → IsOpen formula.now bound.now header (r ∷ rows) begin (previous_row next.now) (own_of formula.now.nodes net.old) net.old.shown.items
+        → SetsAre formula.now.nodes header begin (own_of formula.now.nodes net.new) net.new.shown.items (r ∷ (rows ++ own_row next.now ∷ []))) }
 {
     let entry = next_entry(begin, next.time_before(), next.time());
     step_sets(net, formula, bound, next, &entry)?;
@@ -162,11 +162,11 @@ pub(crate) fn take_row(
     next: &BlockRow,
 ) -> Result<u32, Memory>
     requires open { (header : Header) × (rows : List ARow)
-        × IsOpen formula.now bound.now header rows begin (previous_row next.now) net.old.live.items net.old.shown.items }
+        × IsOpen formula.now bound.now header rows begin (previous_row next.now) (own_of formula.now.nodes net.old) net.old.shown.items }
     requires columns { length next.now.block.now.header.columns ≡ bound.now.width }
     ensures { IfOk result (λ start. (header : Header) (rows : List ARow)
-        → IsOpen formula.now bound.now header rows begin (previous_row next.now) net.old.live.items net.old.shown.items
-        → SetsAre formula.now.nodes header start net.new.live.items net.new.shown.items (rows ++ own_row next.now ∷ [])) }
+        → IsOpen formula.now bound.now header rows begin (previous_row next.now) (own_of formula.now.nodes net.old) net.old.shown.items
+        → SetsAre formula.now.nodes header start (own_of formula.now.nodes net.new) net.new.shown.items (rows ++ own_row next.now ∷ [])) }
 {
     if next.is_first() {
         take_first(alloc, net, formula, bound, next)?;
@@ -209,10 +209,10 @@ pub(crate) fn end_sets(
     block: &Trace,
 ) -> Result<bool, Memory>
     requires open { (header : Header) × (r : ARow) × (rows : List ARow)
-        × IsOpen formula.now bound.now header (r ∷ rows) begin (last_of block.now.rows) net.old.live.items net.old.shown.items }
+        × IsOpen formula.now bound.now header (r ∷ rows) begin (last_of block.now.rows) (own_of formula.now.nodes net.old) net.old.shown.items }
     requires columns { length block.now.header.columns ≡ bound.now.width }
     ensures { IfOk result (λ holds. (header : Header) (r : ARow) (rows : List ARow)
-        → IsOpen formula.now bound.now header (r ∷ rows) begin (last_of block.now.rows) net.old.live.items net.old.shown.items
+        → IsOpen formula.now bound.now header (r ∷ rows) begin (last_of block.now.rows) (own_of formula.now.nodes net.old) net.old.shown.items
         → IsTruthAtStart (root formula.now.nodes) (trace_of header (r ∷ rows)) holds) }
 {
     let last = BlockRow::new(block, block.rows() - 1);

@@ -10,8 +10,8 @@ ghost use Rattle.rational.specs.Places.{After, Upto};
 ghost use Rattle.frac128.specs.Cuts.{place};
 ghost use Rattle.growing_sets.specs.Spans.{AreTidy, IsOn};
 ghost use Rattle.early_verdict.specs.Fitting.{AreSetsTidy, IsFailingTidy, IsHoldingTidy};
-ghost use Rattle.early_verdict.specs.Standing.{AllTidy};
-ghost use Rattle.early_verdict.specs.Living.{IsNarrowed, NetStands};
+ghost use Rattle.early_verdict.specs.Standing.{AllTidy, IsOperatorAt};
+ghost use Rattle.early_verdict.specs.Living.{IsNarrowed, NetIs};
 ghost use Rattle.early_verdict.specs.Letting.{AreApart, AreAskedBy, AreInside, BeginsAtOnce, IsAskedFirst, IsAskedFrom};
 ghost use Rattle.early_verdict.specs.Letting.{IsFirstLeft, ArePartsInside, IsFailingCut, IsFailingInside, IsHoldingCut};
 ghost use Rattle.early_verdict.specs.Letting.{IsHoldingInside, IsInside, IsRunCut, IsRunCutAt, HasShed, HasShedAt, IsUntil};
@@ -19,6 +19,7 @@ ghost use Rattle.stl_syntax.specs.declared.node.Node.TheVariants.{Since, Until};
 ghost use Rattle.early_verdict.specs.declared.sets.Sets.{Sets as ASets};
 
 use crate::anew::{cut_endless_at, decisive};
+use crate::net::is_atom;
 use crate::operators::ticks_before;
 use crate::sets::{Failing, Holding, Net, Sets};
 use frac128::Cut;
@@ -261,7 +262,7 @@ fn cut_run(own: &mut Sets, wide: Stretch, first: &Cut, cut: &Cut)
 /// Lets go of them for the until or since at place `i`.
 fn cut_run_at(live: &mut [Sets], i: usize, wide: Stretch, first: &Cut, cut: &Cut)
     requires within { i < length live.old }
-    requires tidy { AllTidy live.old }
+    requires tidy { (s : ASets) → slice_get live.old i ≡ Some s → AreSetsTidy s }
     requires inside { (s : ASets) → slice_get live.old i ≡ Some s → ArePartsInside wide s }
     ensures { IsRunCutAt i (value first.now.time) (value cut.now.time) wide live.old live.new }
 {
@@ -273,8 +274,8 @@ fn cut_run_at(live: &mut [Sets], i: usize, wide: Stretch, first: &Cut, cut: &Cut
 fn shed_at(live: &mut [Sets], shown: &[Sets], i: usize)
     requires live { i < length live.old }
     requires shown { i < length shown.now }
-    requires tidy { AllTidy live.old }
-    requires inside { AreInside live.old }
+    requires tidy { (s : ASets) → slice_get live.old i ≡ Some s → AreSetsTidy s }
+    requires inside { (s : ASets) → slice_get live.old i ≡ Some s → IsInside s }
     ensures { HasShedAt i shown.now live.old live.new }
 {
     let (_, from) = live.split_at_mut(i);
@@ -367,13 +368,15 @@ fn shown_at(shown: &[Sets], place: u32) -> Stretch
 fn let_go_at(live: &mut [Sets], shown: &mut [Sets], formula: &Formula, i: u32)
     requires within { i < length formula.now.nodes }
     requires formed { AreWellFormed formula.now.nodes }
-    requires stands { (tr : ATrace) × NetStands formula.now.nodes tr live.old shown.old }
-    ensures { (tr : ATrace) → NetStands formula.now.nodes tr live.old shown.old → NetStands formula.now.nodes tr live.new shown.new }
+    requires operator { IsOperatorAt formula.now.nodes i }
+    requires stands { (tr : ATrace) × NetIs formula.now.nodes tr live.old shown.old }
+    ensures count { length live.new ≡ length live.old }
+    ensures stands { (tr : ATrace) → NetIs formula.now.nodes tr live.old shown.old → NetIs formula.now.nodes tr live.new shown.new }
 {
     let at = i as usize;
+    let node = formula.node(i);
     shed_at(live, shown, at);
     let own = live[at].no.bounds();
-    let node = formula.node(i);
     if let Some(back) = bounded_since(node) {
         let first = cut_before(&own.from, back.most);
         ask_both(shown, back.left, back.right, &first);
@@ -400,16 +403,30 @@ fn let_go_at(live: &mut [Sets], shown: &mut [Sets], formula: &Formula, i: u32)
     }
 }
 
+/// Lets go of it for the node at the place; an atom asks for nothing, and goes on from what it shows.
+fn let_go_of(live: &mut [Sets], shown: &mut [Sets], formula: &Formula, i: u32)
+    requires within { i < length formula.now.nodes }
+    requires formed { AreWellFormed formula.now.nodes }
+    requires stands { (tr : ATrace) × NetIs formula.now.nodes tr live.old shown.old }
+    ensures count { length live.new ≡ length live.old }
+    ensures stands { (tr : ATrace) → NetIs formula.now.nodes tr live.old shown.old → NetIs formula.now.nodes tr live.new shown.new }
+{
+    if is_atom(formula.node(i)) {
+        return;
+    }
+    let_go_at(live, shown, formula, i);
+}
+
 /// Lets go of the times that no later answer needs, from the root down.
 pub(crate) fn let_go(net: &mut Net, formula: &Formula)
-    requires { (tr : ATrace) × NetStands formula.now.nodes tr net.old.live.items net.old.shown.items }
-    ensures { (tr : ATrace) → NetStands formula.now.nodes tr net.old.live.items net.old.shown.items
-        → NetStands formula.now.nodes tr net.new.live.items net.new.shown.items }
+    requires { (tr : ATrace) × NetIs formula.now.nodes tr net.old.live.items net.old.shown.items }
+    ensures { (tr : ATrace) → NetIs formula.now.nodes tr net.old.live.items net.old.shown.items
+        → NetIs formula.now.nodes tr net.new.live.items net.new.shown.items }
 {
     let count = formula.len();
     let mut i = count;
     while i > 0 {
         i -= 1;
-        let_go_at(&mut net.live, &mut net.shown, formula, i);
+        let_go_of(&mut net.live, &mut net.shown, formula, i);
     }
 }

@@ -1,11 +1,10 @@
 //! The sets of all nodes, before any row.
-ghost use Rattle.std.specs.Prelude.{◌≡◌, ◌≤◌, ◌<◌, ◌+◌, ℕ, IfOk, IfSome, List, Some, None, MatchOption, length, slice_get, pos};
+ghost use Rattle.std.specs.Prelude.{◌≡◌, ◌<◌, ◌+◌, IfOk, Some, None, MatchOption, length, slice_get, pos};
 ghost use Rattle.rational.specs.Rational.{whole};
 ghost use Rattle.stl_syntax.specs.Formula.{HasChildrenBelow};
 ghost use Rattle.stl_syntax.specs.declared.node.Node.{Node as ANode};
-ghost use Rattle.early_verdict.specs.Fitting.{AreEmpty, AreSetsTidy, HasFailBounds};
-ghost use Rattle.early_verdict.specs.Standing.{AllEmpty, AllTidy, AreAsked, HasSets, HaveSets, IsFrom, left_of, top_at};
-ghost use Rattle.early_verdict.specs.Tops.{AreTops};
+ghost use Rattle.early_verdict.specs.Fitting.{AreEmpty};
+ghost use Rattle.early_verdict.specs.Standing.{left_of};
 ghost use Rattle.early_verdict.specs.Making.{AreMade, AreShownOf, HasPartsFor, IsMade};
 ghost use Rattle.early_verdict.specs.declared.sets.Sets.{Sets as ASets};
 

@@ -1,13 +1,16 @@
 //! One entry over the sets of all nodes, in post-order.
-ghost use Rattle.std.specs.Prelude.{◌≡◌, ◌≤◌, ◌<◌, ◌+◌, ◌≢◌, ℕ, OnOk, List, Option, Some, None, Bool, true, false, length, slice_get, take};
-ghost use Rattle.stl_syntax.specs.Trace.{Trace, start};
+ghost use Rattle.std.specs.Prelude.{◌≡◌, ◌≤◌, ◌<◌, ℕ, OnOk, Some, IsFalse, IsTrue, true, length, slice_get, take};
 ghost use Rattle.stl_syntax.specs.Formula.{HasChildrenBelow};
+ghost use Rattle.stl_syntax.specs.declared.atom.Atom.{Atom};
 ghost use Rattle.stl_syntax.specs.declared.node.Node.{Node as ANode};
-ghost use Rattle.early_verdict.specs.Fitting.{Lists, Fits, AreEmpty, AreSetsTidy, HasStepped, lists_at};
-ghost use Rattle.early_verdict.specs.Happening.{Happens, IsEntry, Was};
+ghost use Rattle.stl_syntax.specs.declared.node.Node.TheVariants.{Atom as Leaf};
+ghost use Rattle.atom_lines.specs.Binding.{IsAtomNode};
+ghost use Rattle.early_verdict.specs.Fitting.{AreEmpty, AreSetsTidy, HasStepped};
+ghost use Rattle.early_verdict.specs.Happening.{IsEntry};
+ghost use Rattle.early_verdict.specs.Changing.{ChangesAt};
 ghost use Rattle.early_verdict.specs.declared.sets.Sets.{Sets as ASets};
-ghost use Rattle.early_verdict.specs.Standing.{AllEmpty, AllTidy, HadAll, HasParts, LeafGoes, LeafIsBound, StepsAt};
-ghost use Rattle.early_verdict.specs.Living.{ComesOn, HasShown, ShowsAt};
+ghost use Rattle.early_verdict.specs.Standing.{AllEmpty, AllTidy, GoesBy, IsOperator, LeafFits, LeafIsBound, StepsAt, own_list};
+ghost use Rattle.early_verdict.specs.Living.{ComesAt, ComesOn, HasShown, LeafSteps, ShowsAt};
 ghost use Rattle.early_verdict.specs.BlockRows.{own_row, previous_row};
 
 use crate::atoms::{rest, step_atom};
@@ -20,72 +23,70 @@ use frac128::Memory;
 use growing_sets::take_in;
 use stl_syntax::{Formula, Node};
 
-/// Steps the sets of a node.
-fn step_node(
+/// One entry over an atom: the times up to the row; at the end of the input none come more.
+fn step_leaf(
     own: &mut Sets,
-    node: &Node,
-    below: &[Sets],
     bound: &Bound,
+    node: u32,
     next: &BlockRow,
     entry: &Entry,
 ) -> Result<(), Memory>
     requires own { AreSetsTidy own.old }
-    requires below { AllTidy below.now }
-    requires few { length below.now < 256 }
-    requires children { HasChildrenBelow (length below.now) node.now }
-    requires entry { IsEntry entry.now }
-    requires none { entry.now.first ≡ true → AreEmpty own.old }
-    requires atom { LeafIsBound bound.now (length below.now) node.now }
+    requires atom { IsAtomNode bound.now node }
     requires columns { length next.now.block.now.header.columns ≡ bound.now.width }
     ensures stepped { OnOk result (HasStepped own.old own.new) }
-    ensures fits { OnOk result ((old : Option Trace) (tr : Trace) (was : ℕ → Lists) → Happens entry.now old tr
-        → HadAll old tr was below.now → HasParts node.now own.old below.now
-        → LeafGoes bound.now (length below.now) entry.now old tr (previous_row next.now) (own_row next.now) own.old node.now
-        → Was old (λ o. Fits node.now false o was) own.old → Fits node.now entry.now.ended tr (lists_at below.now) own.new) }
+    ensures shown { OnOk result (HasShown own.old own.new own.new) }
+    ensures fits { OnOk result (LeafFits bound.now node entry.now (previous_row next.now) (own_row next.now) own.old own.new) }
 {
-    match node {
-        Node::Atom(_) => {
-            if entry.ended {
-                rest(own);
-                return Ok(());
-            }
-            step_atom(own, bound, below.len() as u32, next)?;
-            Ok(())
-        }
-        _ => step_operator(own, node, below, entry),
+    if entry.ended {
+        rest(own);
+        return Ok(());
     }
+    step_atom(own, bound, node, next)?;
+    Ok(())
 }
 
-/// Steps the sets at a place, by what those below show.
+/// Steps the atom at a place, which goes on from what it shows.
+fn leaf_at(
+    shown: &mut [Sets],
+    i: u32,
+    bound: &Bound,
+    next: &BlockRow,
+    entry: &Entry,
+) -> Result<(), Memory>
+    requires within { i < length shown.old }
+    requires tidy { AllTidy shown.old }
+    requires atom { IsAtomNode bound.now i }
+    requires columns { length next.now.block.now.header.columns ≡ bound.now.width }
+    ensures { OnOk result ((at : ChangesAt i shown.old shown.new LeafSteps)
+        × LeafFits bound.now i entry.now (previous_row next.now) (own_row next.now) at.was at.is) }
+{
+    let (_, from) = shown.split_at_mut(i as usize);
+    step_leaf(&mut from[0], bound, i, next, entry)?;
+    Ok(())
+}
+
+/// Steps the sets of the operator at a place, by what those below show.
 fn step_at(
     live: &mut [Sets],
     shown: &[Sets],
     i: usize,
     node: &Node,
-    bound: &Bound,
-    next: &BlockRow,
     entry: &Entry,
 ) -> Result<(), Memory>
     requires within { i < length live.old }
     requires shown_within { i < length shown.now }
-    requires few { i < 256 }
-    requires tidy { AllTidy live.old }
+    requires tidy { (s : ASets) → slice_get live.old i ≡ Some s → AreSetsTidy s }
     requires shown_tidy { AllTidy shown.now }
     requires children { HasChildrenBelow i node.now }
+    requires operator { IsOperator node.now }
     requires entry { IsEntry entry.now }
     requires none { entry.now.first ≡ true → (s : ASets) → slice_get live.old i ≡ Some s → AreEmpty s }
-    requires atom { LeafIsBound bound.now i node.now }
-    requires columns { length next.now.block.now.header.columns ≡ bound.now.width }
-    ensures { OnOk result ((stepped : StepsAt i live.old live.new)
-        × ((old : Option Trace) (tr : Trace) (was : ℕ → Lists) → Happens entry.now old tr
-        → HadAll old tr was (take i shown.now) → HasParts node.now stepped.was (take i shown.now)
-        → LeafGoes bound.now i entry.now old tr (previous_row next.now) (own_row next.now) stepped.was node.now
-        → Was old (λ o. Fits node.now false o was) stepped.was → Fits node.now entry.now.ended tr (lists_at (take i shown.now)) stepped.is)) }
+    ensures { OnOk result ((at : StepsAt i live.old live.new) × GoesBy node.now entry.now (take i shown.now) at.was at.is) }
 {
     let (_, from) = live.split_at_mut(i);
-    let own = &mut from[0];
-    let below = &shown[..i];
-    step_node(own, node, below, bound, next, entry)
+    step_operator(&mut from[0], node, &shown[..i], entry)?;
+    Ok(())
 }
 
 /// Shows what the sets at a place gained.
@@ -110,6 +111,50 @@ fn show(shown: &mut Sets, own: &Sets) -> Result<(), Memory>
     Ok(())
 }
 
+/// Whether a node is an atom.
+pub(crate) fn is_atom(node: &Node) -> bool
+    ensures no { IsFalse result → IsOperator node.now }
+    ensures yes { IsTrue result → (a : Atom) × (node.now ≡ Leaf a) }
+{
+    match node {
+        Node::Atom(_) => true,
+        _ => false,
+    }
+}
+
+/// One entry over the node at a place: an atom goes on from what it shows, and an operator shows what its own sets gained.
+fn entry_at(
+    live: &mut [Sets],
+    shown: &mut [Sets],
+    formula: &Formula,
+    i: u32,
+    bound: &Bound,
+    next: &BlockRow,
+    entry: &Entry,
+) -> Result<(), Memory>
+    requires within { i < length formula.now.nodes }
+    requires count { length formula.now.nodes ≤ length live.old }
+    requires shown_count { length shown.old ≡ length formula.now.nodes }
+    requires tidy { AllTidy (own_list formula.now.nodes live.old shown.old) }
+    requires shown_tidy { AllTidy shown.old }
+    requires entry { IsEntry entry.now }
+    requires none { entry.now.first ≡ true → (s : ASets) → slice_get (own_list formula.now.nodes live.old shown.old) i ≡ Some s → AreEmpty s }
+    requires atoms { (n : ANode) → slice_get formula.now.nodes i ≡ Some n → LeafIsBound bound.now i n }
+    requires columns { length next.now.block.now.header.columns ≡ bound.now.width }
+    ensures count { OnOk result (length live.new ≡ length live.old) }
+    ensures comes { OnOk result (ComesAt formula.now.nodes bound.now entry.now (previous_row next.now) (own_row next.now) i
+        (own_list formula.now.nodes live.old shown.old) (own_list formula.now.nodes live.new shown.new) shown.old shown.new) }
+{
+    let node = formula.node(i);
+    if is_atom(node) {
+        leaf_at(shown, i, bound, next, entry)?;
+        return Ok(());
+    }
+    step_at(live, shown, i as usize, node, entry)?;
+    show_at(shown, live, i as usize)?;
+    Ok(())
+}
+
 /// One entry over all sets: a row, or, once it has ended, the end of the input, whose last row is given again.
 pub(crate) fn step_all(
     live: &mut [Sets],
@@ -119,20 +164,21 @@ pub(crate) fn step_all(
     next: &BlockRow,
     entry: &Entry,
 ) -> Result<(), Memory>
-    requires count { length live.old ≡ length formula.now.nodes }
+    requires count { length formula.now.nodes ≤ length live.old }
     requires shown_count { length shown.old ≡ length formula.now.nodes }
-    requires tidy { AllTidy live.old }
+    requires tidy { AllTidy (own_list formula.now.nodes live.old shown.old) }
     requires shown_tidy { AllTidy shown.old }
     requires entry { IsEntry entry.now }
-    requires none { entry.now.first ≡ true → AllEmpty live.old }
+    requires none { entry.now.first ≡ true → AllEmpty (own_list formula.now.nodes live.old shown.old) }
     requires atoms { (i : ℕ) (n : ANode) → slice_get formula.now.nodes i ≡ Some n → LeafIsBound bound.now i n }
     requires columns { length next.now.block.now.header.columns ≡ bound.now.width }
-    ensures { OnOk result (ComesOn formula.now.nodes bound.now entry.now (previous_row next.now) (own_row next.now) live.old live.new shown.old shown.new) }
+    ensures count { OnOk result (length live.new ≡ length live.old) }
+    ensures comes { OnOk result (ComesOn formula.now.nodes bound.now entry.now (previous_row next.now) (own_row next.now)
+        (own_list formula.now.nodes live.old shown.old) (own_list formula.now.nodes live.new shown.new) shown.old shown.new) }
 {
     let count = formula.len();
     for i in 0..count {
-        step_at(live, shown, i as usize, formula.node(i), bound, next, entry)?;
-        show_at(shown, live, i as usize)?;
+        entry_at(live, shown, formula, i, bound, next, entry)?;
     }
     Ok(())
 }

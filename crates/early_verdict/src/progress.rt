@@ -1,7 +1,7 @@
 //! How far an early verdict has come, row by row.
 ghost use Rattle.std.specs.Prelude.{◌≡◌, ◌≤◌, ◌++◌, ◌∷◌, [], List, length, drop, false, IfOk, OnOk, None, Some, option_map};
 ghost use Rattle.stl_syntax.specs.Trace.{Header, Row as ARow, Trace as ATrace};
-ghost use Rattle.early_verdict.specs.Living.{NetStands};
+ghost use Rattle.early_verdict.specs.Living.{NetIs};
 ghost use Rattle.early_verdict.specs.Answers.{StaysDecided, newly_decided};
 
 use crate::block_row::BlockRow;
@@ -41,9 +41,9 @@ const ROWS_BETWEEN: u32 = 31;
 
 /// Lets go, now and then, of what no later answer needs; of all sets, once a row has decided.
 fn let_go_by(net: &mut Net, formula: &Formula, decided: &Option<Decided>)
-    requires { decided.now ≡ None → (tr : ATrace) × NetStands formula.now.nodes tr net.old.live.items net.old.shown.items }
-    ensures { decided.now ≡ None → (tr : ATrace) → NetStands formula.now.nodes tr net.old.live.items net.old.shown.items
-        → NetStands formula.now.nodes tr net.new.live.items net.new.shown.items }
+    requires { decided.now ≡ None → (tr : ATrace) × NetIs formula.now.nodes tr net.old.live.items net.old.shown.items }
+    ensures { decided.now ≡ None → (tr : ATrace) → NetIs formula.now.nodes tr net.old.live.items net.old.shown.items
+        → NetIs formula.now.nodes tr net.new.live.items net.new.shown.items }
 {
     if decided.is_some() {
         net.live.clear();

@@ -1,5 +1,5 @@
 //! How far after the start each node is ever asked, when the root is asked there alone.
-ghost use Rattle.std.specs.Prelude.{◌≡◌, ◌≢◌, ◌+◌, ◌<◌, ◌≤◌, ℕ, List, length, IfOk, Some, slice_get};
+ghost use Rattle.std.specs.Prelude.{◌≡◌, ◌≢◌, ◌+◌, ◌<◌, ◌≤◌, ℕ, length, IfOk, Some, slice_get};
 ghost use Rattle.stl_syntax.specs.Formula.{HasChildrenBelow};
 ghost use Rattle.early_verdict.specs.Standing.{AsksBelow, looks_ahead, top_at};
 ghost use Rattle.early_verdict.specs.Tops.{AreTops, AreUpTo, Rises, StayFrom, rest_reach};

@@ -1,13 +1,16 @@
 -- What the orders of two lines at two times say of a crossing between them.
-use Rattle.std.proofs.Common.{ℕ, IsTrue, false, ◌≤◌, ◌^◌, lit<}
+use Rattle.std.proofs.Common.{◌≡◌, ℕ, IsTrue, None, Some, false, ◌≤◌, ◌^◌, lit<, subst, sym}
+use Rattle.std.specs.Prelude.{MatchOption, Option}
 use Rattle.std.specs.declared.cmp.Ordering.{Ordering}
 use mir.Syntax.{w64}
 use Rattle.rational.specs.Rational.{Rational, ◌<ʳ◌, ◌≈◌, IsOrder, IsWithin, FitsFloor}
 use Rattle.rational.specs.Line.{Line, at, MeetAt, CrossAt, AreOpposite}
 use Rattle.rational.specs.Time.{HasDenominator}
-use Rattle.rational.proofs.Order.{same_sym, le_of_lt}
+use Rattle.rational.proofs.Order.{same_sym, same_trans, le_of_lt, le_of_same, ge_of_same, lt_of_lt_of_le, lt_of_le_of_lt}
 use Rattle.rational.proofs.Mixed.{fits_of_within, within_between}
-use Rattle.rational.proofs.Meetings.{not_turned, turned, cross_same}
+use Rattle.rational.proofs.Meetings.{not_turned, turned, cross_same, meet_same}
+use Rattle.frac128.specs.Value.{value}
+use Rattle.frac128.specs.declared.frac.Frac.{Frac}
 
 -- what makes a test of no a yes is not so
 pub refuted : {P : Type 0} → (P → IsTrue false) → ¬ P
@@ -51,3 +54,12 @@ pub crossing_wide : {f g : Line} {l r : Rational} {before after : Ordering} (q :
     → AreOpposite before after → MeetAt f g q → HasDenominator q d × (2 ^ 60 ≤ d)
     → (t : Rational) × CrossAt f g l r t × HasDenominator t d × (2 ^ 60 ≤ d)
 crossing_wide q d e o m w = (q, crossing q e o m, w.0, w.1)
+
+-- a number that is the time of the meeting is the crossing where it lies between the two times, and else there is none
+pub between_is : (f g : Line) (l r q : Rational) (o : Option Frac) (t : Frac)
+    → MatchOption o (¬ ((l <ʳ value t) × (value t <ʳ r))) (λ u. (u ≡ t) × (l <ʳ value t) × (value t <ʳ r)) → MeetAt f g q → value t ≈ q
+    → MatchOption o ((u : Rational) → ¬ (CrossAt f g l r u)) (λ u. CrossAt f g l r (value u))
+between_is f g l r q None t not m e = λ u c. let s = same_trans (m.alone u c.meet.equal) (same_sym e) in
+    not (lt_of_lt_of_le c.after (le_of_same s), lt_of_le_of_lt (ge_of_same s) c.before)
+between_is f g l r q (Some u) t (same, after, before) m e =
+    subst (λ (x : Frac). CrossAt f g l r (value x)) (sym same) (record { after = after; before = before; meet = meet_same f g (same_sym e) m })

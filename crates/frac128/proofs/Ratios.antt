@@ -1,17 +1,17 @@
 -- Numbers split into a whole part and a rest, and their order.
-use Rattle.std.proofs.Common.{◌≡◌, ℕ, ℤ, pos, ap, negsuc, ◌+ℤ◌, ◌*ℤ◌, ◌<ℤ◌, ◌*◌, ◌<◌, arith, refl}
+use Rattle.std.proofs.Common.{◌≡◌, ℕ, ℤ, zero, suc, pos, ap, negsuc, ◌+ℤ◌, ◌*ℤ◌, ◌<ℤ◌, ◌*◌, ◌<◌, ◌^◌, arith, refl}
 use Rattle.std.specs.Int.RustNames.{unsigned_abs}
 use Rattle.std.specs.declared.cmp.Ordering.{Ordering}
 use Rattle.std.specs.declared.cmp.Ordering.TheVariants.{Equal}
 use Rattle.std.specs.Ordering.{nat_cmp, int_cmp}
 use Rattle.std.proofs.lemmas.Int.{ints}
-use Rattle.rational.specs.Rational.{◌≈◌, IsOrder, mixed, fraction}
+use Rattle.rational.specs.Rational.{◌≈◌, IsOrder, IsWithin, mixed, fraction}
 use Rattle.rational.proofs.Order.{same_trans}
 use Rattle.rational.proofs.Compare.{order_same}
 use borrow.Author.Differences.{up, down}
 use Rattle.frac128.specs.declared.frac.Frac.{Frac}
 use Rattle.frac128.specs.Value.{value}
-use Rattle.rational.proofs.Mixed.{same_by_rest, floor_value, fraction-is, order_by_rest, order_by_whole}
+use Rattle.rational.proofs.Mixed.{same_by_rest, floor_value, fraction-is, neg_parts, order_by_rest, order_by_whole}
 
 pub record Split (n d w : ℤ) (r : ℕ) : Type 0 where
   -- the denominator is above 0
@@ -62,3 +62,10 @@ top_value f top den h e =
   where
     sum : f.whole *ℤ pos f.den +ℤ pos f.rest ≡ top
     sum = omega (arith, ints)
+
+-- a fraction whose numerator is below 2^62 in size lies within 2^62
+pub near_within : (num den : ℤ) → pos 0 <ℤ den → unsigned_abs num < 2 ^ 62 → IsWithin (2 ^ 62) (fraction num den)
+near_within num (pos zero) p h = absurd (omega (arith, ints))
+near_within (pos n) (pos (suc k)) p h = (record { le = omega (arith, ints, neg_parts (2 ^ 62)) }, record { le = omega (arith, ints) })
+near_within (negsuc n) (pos (suc k)) p h = (record { le = omega (arith, ints, neg_parts (2 ^ 62)) }, record { le = omega (arith, ints) })
+near_within num (negsuc k) p h = absurd (omega (arith, ints))

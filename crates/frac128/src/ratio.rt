@@ -1,5 +1,5 @@
 //! A number as a quotient that is not reduced.
-ghost use Rattle.std.specs.Prelude.{◌≡◌, ◌<◌, ◌≤◌, ◌^◌, pos, ◌<ℤ◌, IfOk, MatchOption, MatchResult};
+ghost use Rattle.std.specs.Prelude.{◌≡◌, ◌<◌, ◌≤◌, ◌^◌, pos, ◌<ℤ◌, IfOk, IfSome, MatchOption, MatchResult};
 ghost use Rattle.std.specs.Int.{w64};
 ghost use Rattle.rational.specs.Rational.{IsOrder, fraction};
 ghost use Rattle.std.specs.Int.RustNames.{unsigned_abs};
@@ -36,6 +36,19 @@ impl Ratio {
             (λ e. HasDenominator (number self.now) e.den × (2 ^ 60 ≤ e.den)) }
     {
         Frac::make(self.num, self.den)
+    }
+
+    /// The number as a `Frac`, where its numerator is below 2^62 in size and its denominator in lowest terms below 2^60.
+    pub(crate) fn small(&self) -> Option<Frac>
+        ensures { IfSome result (λ f. value f ≈ number self.now) }
+    {
+        if self.num.unsigned_abs() >= 1 << 62 {
+            return None;
+        }
+        match self.frac() {
+            Ok(f) => Some(f),
+            Err(_) => None,
+        }
     }
 
     /// `num / den`, unless `den` is 0.

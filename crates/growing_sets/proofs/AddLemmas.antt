@@ -54,6 +54,10 @@ adds_then f g = record {
   grows = grows_then f.grows (grows_after f.bounds g);
 }
 
+-- in whichever order
+pub adds_swapped : {old new : Grown} {P Q : Rational → Type 0} → Adds old new (λ t. P t ⊎ Q t) → Adds old new (λ t. Q t ⊎ P t)
+adds_swapped a = adds_alike a (λ t b h. elim h [ inl p ↦ inr p | inr q ↦ inl q ]) (λ t b h. elim h [ inl q ↦ inr q | inr p ↦ inl p ])
+
 -- a set that added the first of some stretches adds one more of them
 pub adds_on : {old mid new : Grown} {s : Stretch} (Q : Stretch → Rational → Type 0) (xs : List Stretch) (i : ℕ) → slice_get xs i ≡ Some s
     → Adds old mid (BySome Q (take i xs)) → Adds mid new (Q s) → Adds old new (BySome Q (take (i + 1) xs))

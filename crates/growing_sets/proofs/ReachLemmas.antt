@@ -6,7 +6,7 @@ use Rattle.rational.specs.Time.{Within}
 use Rattle.rational.specs.Places.{Place, After, Upto, AtMost}
 use Rattle.frac128.specs.Cuts.{place}
 use Rattle.growing_sets.specs.Spans.{Lies, IsOn, IsAmong, AreTidy, Grows}
-use Rattle.growing_sets.specs.Steps.{BySome, HoldsFrom, Tells, Gains}
+use Rattle.growing_sets.specs.Steps.{BySome, HoldsFrom, IsPast, Tells, Gains}
 use Rattle.growing_sets.specs.Reaching.{IsNew, ReachesIn, ReachesAt, ReachesBy, ReachedIn, ReachedAt, GoesOn, GoesTo, GoesBack, GoesBackBy, IsCarried}
 use Rattle.growing_sets.specs.declared.stretch.Stretch.{Stretch}
 use Rattle.rational.proofs.Order.{le_refl}
@@ -110,7 +110,7 @@ module _ (xs : List Stretch) (c : Place) (carried : Bool) (tidy : AreTidy xs) wh
 abbrev pub ReachesAnew : List Stretch → List Stretch → List Stretch → List Stretch → Place → Place → Rational → Type 0
 ReachesAnew runs more spans fresh before sure t =
     ((BySome (ReachesAt runs spans sure) fresh t ⊎ BySome (ReachesAt runs spans sure) more t) ⊎ BySome (ReachesBy runs spans before sure) spans t)
-    ⊎ BySome Lies fresh t
+    ⊎ BySome (IsPast sure) fresh t
 
 -- the same where each time is sure, and backwards
 abbrev pub ReachesNew : List Stretch → List Stretch → List Stretch → List Stretch → Place → Rational → Type 0
@@ -175,9 +175,12 @@ module _ {z z' fz y y' fy : List Stretch} (gz : Gains z z' fz) (gy : Gains y y' 
         ]
 
         has_it : (t : Rational) → Lies bounds t → GoesOn z' y' sure t → IsOn new t
-        has_it t b (inr o) = elim (gy.gained t o) [
-          | inl n ↦ g.keeps t (h.has t b (inr n))
-          | inr n ↦ let x = one_of fy t n in g.adds t b (inr (by_some Lies fy x.0 t x.1 x.2))
+        has_it t b (inr o) = elim (sides sure t) [
+          | inl s ↦ let p = one_of z' t (inside t o) in by_run t t p.0 b (le_refl t) p.1 p.2 p.2 o s (sides before t)
+          | inr s ↦ elim (gy.gained t o) [
+            | inl n ↦ g.keeps t (h.has t b (inr n))
+            | inr n ↦ let x = one_of fy t n in g.adds t b (inr (by_some (IsPast sure) fy x.0 t x.1 (x.2, s)))
+          ]
         ]
         has_it t b (inl (u, le, o, run)) =
             let p = one_of z' u (inside u o.0) in
@@ -194,7 +197,7 @@ module _ {z z' fz y y' fy : List Stretch} (gz : Gains z z' fz) (gy : Gains y y' 
         added t (inl (inl (inl q))) = let x = some_by (ReachesAt z' y' sure) fy t q in goes t x.2.0 x.2.1 x.2.3
         added t (inl (inl (inr q))) = let x = some_by (ReachesAt z' y' sure) fz t q in goes t x.2.0 x.2.1 x.2.3
         added t (inl (inr q)) = let x = some_by (ReachesBy z' y' before sure) y' t q in goes t x.2.0 x.2.1 x.2.2
-        added t (inr q) = let x = some_by Lies fy t q in inr (gy.own t (on_one fy x.0 t x.1 x.2))
+        added t (inr q) = let x = some_by (IsPast sure) fy t q in inr (gy.own t (on_one fy x.0 t x.1 x.2.0))
 
         only_it : (t : Rational) → IsOn new t → Lies bounds t × GoesOn z' y' sure t
         only_it t n = elim (g.only t n) [

@@ -21,6 +21,10 @@ HoldsFrom s c = ¬ (Before c (place s.from)) × Before c (place s.to)
 abbrev pub Common : List Stretch → Stretch → Rational → Type 0
 Common spans part t = Lies part t × IsOn spans t
 
+-- a time of the part behind the place
+abbrev pub IsPast : Place → Stretch → Rational → Type 0
+IsPast c part t = Lies part t × After c t
+
 -- the stretch of the list that holds the part's first times holds the window from the time, as far as that lies from the start on
 abbrev pub HeldAt : Window → Place → List Stretch → Stretch → Rational → Type 0
 HeldAt w start spans part t = (p : Stretch) × IsAmong p spans × HoldsFrom p (place part.from) × IsHeld w start p t

@@ -5,7 +5,7 @@ use Rattle.rational.specs.Places.{Place, After, Upto}
 use Rattle.frac128.specs.Cuts.{place}
 use Rattle.growing_sets.specs.Spans.{Lies, IsOn}
 use Rattle.growing_sets.specs.Windows.{Sees}
-use Rattle.growing_sets.specs.Steps.{BySome}
+use Rattle.growing_sets.specs.Steps.{BySome, IsPast}
 use Rattle.growing_sets.specs.declared.stretch.Stretch.{Stretch}
 use Rattle.growing_sets.specs.declared.window.Window.{Window}
 
@@ -17,9 +17,9 @@ SeesWithin w from to part t = (u : Rational) × (Lies part u × After from u × 
 abbrev pub SeesUpto : Window → Place → Stretch → Rational → Type 0
 SeesUpto w sure part t = SeesWithin w (place part.from) sure part t
 
--- a time of the parts that its own window sees
-abbrev pub SeesItself : Window → List Stretch → Rational → Type 0
-SeesItself w parts t = BySome Lies parts t × Sees w t t
+-- a time of the parts behind the place that its own window sees
+abbrev pub SeesItself : Window → Place → List Stretch → Rational → Type 0
+SeesItself w c parts t = BySome (IsPast c) parts t × Sees w t t
 
 -- from t some time of the list that is sure lies in the window, or t itself does, which is sure at t
 abbrev pub SeesSure : Window → Place → List Stretch → Rational → Type 0

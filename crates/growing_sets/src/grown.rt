@@ -17,7 +17,6 @@ pub struct Grown {
 impl Grown {
     ghost use Rattle.std.specs.Prelude.{◌≡◌, ◌↔◌, [], IsTrue, OnOk};
     ghost use Rattle.rational.specs.Rational.{whole};
-    ghost use Rattle.rational.specs.Time.{Rational};
     ghost use Rattle.rational.specs.Places.{After, Upto};
     ghost use Rattle.frac128.specs.Cuts.{place};
     ghost use Rattle.growing_sets.specs.Spans.{AreTidy, IsOn};

@@ -3,7 +3,7 @@
 use crate::grown::Grown;
 use crate::held::{add_all_held, add_all_seeing};
 use crate::lasting::{add_beginning, add_unseeing, run_to};
-use crate::pointwise::{add_all, add_all_common};
+use crate::pointwise::{add_all, add_all_common, add_all_past, is_sooner};
 use crate::reach::{add_all_reached, add_all_reaching, add_carried, add_reaching_between};
 use crate::sure::{add_all_sure, add_seeing_between, add_themselves};
 use crate::window::Window;
@@ -23,7 +23,8 @@ impl Grown {
     ghost use Rattle.growing_sets.specs.Reaching.{GoesBackBy, GoesOn, GoesTo};
     ghost use Rattle.growing_sets.specs.declared.stretch.Stretch.{Stretch};
 
-    /// The times of either of the two sets, once they gained what is fresh of them.
+    /// The times of either of the two sets, once they gained what is fresh of them. What begins first is added first: so what one of them
+    /// has of the times before the other's is not put in between.
     ///
     /// # Errors
     ///
@@ -38,6 +39,10 @@ impl Grown {
             → Tells self.new.bounds self.new.spans.items (λ t. IsOn x.now.spans.items t ⊎ IsOn y.now.spans.items t)) }
     {
         self.fresh.clear();
+        if is_sooner(&y.fresh, &x.fresh) {
+            add_all(self, &y.fresh)?;
+            return add_all(self, &x.fresh);
+        }
         add_all(self, &x.fresh)?;
         add_all(self, &y.fresh)
     }
@@ -143,7 +148,7 @@ impl Grown {
         self.fresh.clear();
         add_all_sure(self, &x.fresh, before, w)?;
         add_seeing_between(self, &x.spans, before, sure, w)?;
-        add_themselves(self, &x.fresh, w)
+        add_themselves(self, &x.fresh, sure, w)
     }
 
     /// The times from which each time of the window, as far as it lies from the start on, is one of the set, at the set's first entry.
@@ -225,7 +230,7 @@ impl Grown {
         add_all_reaching(self, &x.fresh, &runs.spans, &x.spans, sure)?;
         add_all_reaching(self, &runs.fresh, &runs.spans, &x.spans, sure)?;
         add_reaching_between(self, &runs.spans, &x.spans, before, sure)?;
-        add_all(self, &x.fresh)
+        add_all_past(self, &x.fresh, sure)
     }
 
     /// The times from which the runs go on to a time of the set, once both gained what is fresh of them.

@@ -7,7 +7,7 @@ ghost use Rattle.growing_sets.specs.Steps.{BySome};
 ghost use Rattle.growing_sets.specs.Sure.{SeesItself, SeesUpto, SeesWithin};
 
 use crate::grown::Grown;
-use crate::pointwise::add_all;
+use crate::pointwise::add_all_past;
 use crate::seeing::add_seeing;
 use crate::stretch::Stretch;
 use crate::stretches::Stretches;
@@ -71,14 +71,19 @@ pub(crate) fn add_seeing_between(
     Ok(())
 }
 
-/// Adds the times of the parts that lie in their own windows.
-pub(crate) fn add_themselves(own: &mut Grown, parts: &[Stretch], w: &Window) -> Result<(), Memory>
+/// Adds the times of the parts behind the cut that lie in their own windows.
+pub(crate) fn add_themselves(
+    own: &mut Grown,
+    parts: &[Stretch],
+    cut: &Cut,
+    w: &Window,
+) -> Result<(), Memory>
     requires { AreTidy own.old.spans.items }
     ensures bounds { own.new.bounds ≡ own.old.bounds }
-    ensures ok { OnOk result (Adds own.old own.new (SeesItself w.now parts.now)) }
+    ensures ok { OnOk result (Adds own.old own.new (SeesItself w.now (place cut.now) parts.now)) }
 {
     if !w.sees_itself() {
         return Ok(());
     }
-    add_all(own, parts)
+    add_all_past(own, parts, cut)
 }

@@ -41,7 +41,7 @@ use Rattle.std.proofs.lemmas.List.{ext_get_or, get_or-drop, get_or-set_same, get
 use Rattle.std.proofs.lemmas.Option.{slice_get_within, same_Some}
 use Rattle.std.proofs.lemmas.List.Sums.{sum_by-cons}
 use Rattle.online_robust.specs.declared.line.MarginLine.{MarginLine}
-use Rattle.online_robust.specs.Held.{Held, Edge, no_edge, edges_of, with_more, with_read, with_number, without, HasTwoLists}
+use Rattle.online_robust.specs.Held.{Edge, no_edge, edges_of, with_more, with_read, with_number, without, HasTwoLists}
 
 -- there is an edge for each number
 pub length-edges_of : (numbers : List (Option ℤ)) (lists : List (List MarginLine)) → length (edges_of numbers lists) ≡ length numbers
@@ -101,10 +101,6 @@ edges_changed {numbers} {numbers'} {lists} {lists'} {i} {x} changes =
     each k below (inr other) =
         edge_at-edges_of numbers' lists' k (omega (arith, changes.count)) ∙ changes.others k other
         ∙ sym (get_or-set_other (edges_of numbers lists) i k x no_edge other ∙ edge_at-edges_of numbers lists k below)
-
--- an even list and the list after it are not those of another edge
-even_apart : (k i : ℕ) → k ≢ i → 2 * k ≢ 2 * i
-even_apart k i other same = other (omega arith)
 
 -- what a pool's lists have after a write to what was read of edge i, and to what was not
 pub read_at : (lists : List (List MarginLine)) (n k : ℕ) (items : List MarginLine) → n ≢ k
@@ -200,10 +196,6 @@ edges_of-new n numbers lists none empty =
     ∙ ap (λ f. record { seen = []; fresh = f; number = get_or numbers k None }) fresh
     ∙ ap (λ m. record { seen = []; fresh = []; number = m }) number
     ∙ sym (get_or-replicate n k no_edge no_edge (omega arith)))
-
--- a network whose edge x reads, as its callers see it
-abbrev pub seen_by : List (Option ℤ) → List (List MarginLine) → Option ℕ → ℕ → Held
-seen_by numbers lists start spare = record { edges = edges_of numbers lists; start = start; spare = spare }
 
 -- what a caller asks of an edge's number, for the pool's lists and the numbers
 pub record Numbered (lists : List (List MarginLine)) (numbers : List (Option ℤ)) (i : ℕ) : Type 0 where

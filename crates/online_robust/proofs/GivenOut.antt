@@ -11,10 +11,6 @@ use Rattle.online_nodes.specs.MarginEdges.{Part, AreNewParts, AreRowsParts, AreE
 use Rattle.online_nodes.specs.StreamedWide.{front_at}
 use Rattle.online_robust.specs.Pasts.{shown_by}
 
--- the first time stays, once there is one
-pub first_appended : (r : Row) (rows more : List Row) → first_time ((r ∷ rows) ++ more) ≡ r.time
-first_appended r rows more = refl
-
 -- what is shown after a row more follows from its time
 pub shown_appended : (p : Subformula) (rows : List Row) (r : Row)
     → shown_by false p (rows ++ r ∷ []) ≡ shown_number (first_time (rows ++ r ∷ [])) (front_at false (pos r.time) p)

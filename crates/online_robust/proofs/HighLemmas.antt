@@ -18,7 +18,7 @@ use Rattle.pl_signal.specs.declared.faults.OpFault.TheVariants as F
 use Rattle.stl_syntax.specs.Trace.{start}
 use Rattle.online_robust.specs.Lines.{end_of, margin_of, IsOneLine}
 use Rattle.online_robust.specs.Held.{Edge, Held, edge_at, fresh_at, held_of, no_edge, with_edge, with_read}
-use Rattle.online_robust.specs.Queues.{StandsFor}
+use Rattle.online_robust.specs.Queues.{Constants}
 use Rattle.online_robust.specs.Told.{AreJoined}
 use Rattle.online_robust.specs.Sweeping.{IsBefore, IsFrozen, IsNoKnot, IsOn}
 use Rattle.online_robust.specs.Windows.{IsAt, IsHigh, IsSpread, IsStanding, IsToCome, IsUnfixed, IsUnfixedHigh}
@@ -26,7 +26,6 @@ use Rattle.online_robust.specs.Windows.{Scope, Sheds, gap_of, high_at, input_of,
 use Rattle.online_robust.specs.declared.ends.Rim.{Rim}
 use Rattle.online_robust.specs.declared.line.MarginLine.{MarginLine}
 use Rattle.online_robust.specs.declared.line.MarginLine.TheVariants as L
-use Rattle.online_robust.specs.declared.queue.Queue.{Queue}
 use Rattle.online_robust.specs.declared.window.Sweep.{Sweep}
 use Rattle.online_robust.proofs.Spreads.{ComesNext, before_next, comes_next, gap_behind, goes_beyond, gone_frozen, gone_plain, last_from, nothing_behind}
 use Rattle.online_robust.proofs.WindowLaw.{before_of_end, up_to_before, up_to_end}
@@ -211,7 +210,7 @@ module _ (x : Scope) (s : Sweep) (e mid new : Held) (line : MarginLine) (next : 
       not (subst (λ (g : Frac). IsOneLine s.place.high.shape m next.shape (value g)) (sym (point_at u e))
       (subst (λ (n : Margin). IsOneLine s.place.high.shape n next.shape (value next_is.p)) (sym (point_is m f)) one))
 
-  placed : (en : HasEntered) (q : Queue Margin)
+  placed : (en : HasEntered) (q : Constants Margin)
       → IsSpread x s.window s.start s.none s.place.low next q ((edge_at e s.window.of).seen ++ L.Point next_is.p next_is.v ∷ en.tail) en.rest
       (low_at x s.window) (high_at x s.window)
       → IsSpread x s.window s.start s.none s.place.low next q (edge_at new s.window.of).seen (fresh_at new s.window.of) (low_at x s.window) (high_at x s.window)
@@ -232,17 +231,16 @@ module _ (x : Scope) (s : Sweep) (e mid new : Held) (line : MarginLine) (next : 
       (high_at x s.window) at.spread next_is next en.tail en.rest en.on en.before en.stands en.standing en.come s.among at.spread.side refl plain)
 
   -- a knot under the window gives a constant
-  pub frozen_spread : (en : HasEntered) (q : Queue Margin) (k : Margin)
+  pub frozen_spread : (en : HasEntered) (q : Constants Margin) (k : Margin)
       → ¬ IsNoKnot (shifted (start x.trace) s.window.low) s.place.high (record { at = next_is.p; point = next_is.v; after = next })
       → IsFrozen s.window.side s.place.high.shape next_is.v next.shape (value next_is.p) k
-      → ((cs : List Margin) → StandsFor margin_function s.among.older.items s.among.newer.items s.among.side s.among.best cs
-      → StandsFor margin_function q.older.items q.newer.items s.among.side q.best (cs ++ k ∷ [])) → q.side ≡ s.among.side
+      → q.constants ≡ s.among.constants ++ k ∷ [] → q.side ≡ s.among.side
       → IsSpread x s.window s.start s.none s.place.low next q (edge_at new s.window.of).seen (fresh_at new s.window.of) (low_at x s.window)
       (high_at x s.window)
-  frozen_spread en q k knot frozen come same = placed en q
+  frozen_spread en q k knot frozen more same = placed en q
       (gone_frozen x s.window s.start s.none s.place.low s.place.high s.among (edge_at e s.window.of).seen (fresh_at e s.window.of) (low_at x s.window)
       (high_at x s.window) at.spread next_is next en.tail en.rest en.on en.before en.stands en.standing en.come q
-      (same ∙ at.spread.side) k knot frozen come same)
+      (same ∙ at.spread.side) k knot frozen more)
 
   -- the high end lies before the end of its gap
   pub before_goes : (en : HasEntered) → IsBefore (high_at x s.window) next.until

@@ -133,9 +133,6 @@ module _ (m : Move) (w : Work) (e : Held) (can : CanMove m w e) (b : Binding) (b
   old_open : shown_of m.nodes m.old m.place ≡ shown_by false p m.old.rows
   old_open = ap (λ c. shown_by c p m.old.rows) can.next.0
 
-  new_is : shown_of m.nodes m.new m.place ≡ shown_by false p (m.old.rows ++ r ∷ [])
-  new_is = ap (λ (q : Past). shown_by q.ended p q.rows) row.new
-
   -- a constant or an atom has moved by a row
   pub leaf_moved : HasMoved m w e noted
   leaf_moved = record {

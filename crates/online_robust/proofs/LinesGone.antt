@@ -60,10 +60,6 @@ loses_both {limit} {x} {y} {z} h k = record {
     ended : (i : ℕ) → i < h.count + k.count → IfSome (slice_get (held_of x) i) (λ v. value (end_of v) ≤ʳ limit)
     ended i below = by_place i (cases_lt i h.count) below
 
--- the number noted of an edge that lost lines stays
-pub loses_number : {limit : Rational} {x y : Edge} → Loses limit x y → y.number ≡ x.number
-loses_number h = ap (λ (e : Edge). e.number) h.is
-
 module _ {limit : Rational} {i : ℕ} where
   -- an edge that stays has lost nothing
   pub loses_at_none : (e : Held) → LosesAt limit i e e

@@ -1,8 +1,8 @@
 -- Lines that are put onto an edge, one after another.
 use Rattle.std.proofs.Common.{◌≡◌, ℕ, zero, suc, ◌+◌, ◌-◌, ◌<◌, ◌≤◌, true, false, List, [], ◌∷◌, ◌++◌, length, refl, sym, ap}
-use Rattle.std.proofs.Common.{◌∙◌, arith, append_assoc, append-nil, Some, set, get_or, get_or-set_same, length-set, take}
+use Rattle.std.proofs.Common.{◌∙◌, arith, append_assoc, Some, set, get_or, get_or-set_same, length-set, take}
 use Rattle.std.specs.Prelude.{slice_get}
-use Rattle.std.proofs.lemmas.List.{set-get_or, set-set}
+use Rattle.std.proofs.lemmas.List.{set-set}
 use Rattle.std.proofs.lemmas.Option.{same_Some}
 use Rattle.value_laws.specs.declared.margin.Margin.{Margin}
 use Rattle.pl_signal.specs.declared.knot.Knot.{Knot}
@@ -11,15 +11,8 @@ use Rattle.online_robust.specs.Putting.{later_lines, lines_after, lines_of, HasP
 use Rattle.online_robust.specs.declared.line.MarginLine.{MarginLine}
 use Rattle.online_robust.specs.declared.line.MarginLine.TheVariants.{Point, Gap}
 
-more_none : (x : Edge) → with_more x [] ≡ x
-more_none x = ap (λ l. record { seen = x.seen; fresh = l; number = x.number }) (append-nil x.fresh)
-
 more_more : (x : Edge) (a b : List MarginLine) → with_more (with_more x a) b ≡ with_more x (a ++ b)
 more_more x a b = ap (λ l. record { seen = x.seen; fresh = l; number = x.number }) (append_assoc x.fresh a b)
-
--- nothing was put
-pub put_none : (node : ℕ) (e : Held) → HasPut node [] e e
-put_none node e = record { edges = sym (ap (set e.edges node) (more_none (edge_at e node)) ∙ set-get_or e.edges node no_edge); start = refl }
 
 -- lines, and then others
 pub put_both : (node : ℕ) (a b : List MarginLine) (e f g : Held) → node < length e.edges → HasPut node a e f → HasPut node b f g → HasPut node (a ++ b) e g

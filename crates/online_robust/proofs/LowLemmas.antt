@@ -10,12 +10,11 @@ use Rattle.rational.proofs.Order.{lt_of_lt_of_le, lt_irrefl, not_lt_of_le, same_
 use Rattle.rational.proofs.TimeLemmas.{same_shifted}
 use Rattle.frac128.specs.Value.{value}
 use Rattle.frac128.specs.declared.frac.Frac.{Frac}
-use Rattle.value_laws.specs.Margins.{margin_function}
 use Rattle.value_laws.specs.declared.margin.Margin.{Margin}
 use Rattle.stl_syntax.specs.Trace.{start}
 use Rattle.online_robust.specs.Lines.{end_of, margin_of, IsOneLine}
 use Rattle.online_robust.specs.Held.{Edge, Held, edge_at, fresh_at, held_at, held_of, no_edge, with_edge, without}
-use Rattle.online_robust.specs.Queues.{StandsFor}
+use Rattle.online_robust.specs.Queues.{Constants}
 use Rattle.online_robust.specs.ReadLines.{IsThere, LosesAt}
 use Rattle.online_robust.specs.Sweeping.{AreBy, AreFrozen, AreTicks, EndsAt, IsBefore, IsNoKnot, IsUpTo, Mark, Runs, last_gap}
 use Rattle.online_robust.specs.Windows.{AreSeen, AreStanding, IsAt, IsLow, IsSpread, IsStanding, IsToCome}
@@ -23,7 +22,6 @@ use Rattle.online_robust.specs.Windows.{Scope, Sheds, before_start, gap_of, high
 use Rattle.online_robust.specs.declared.ends.Rim.{Rim}
 use Rattle.online_robust.specs.declared.line.MarginLine.{MarginLine}
 use Rattle.online_robust.specs.declared.line.MarginLine.TheVariants as L
-use Rattle.online_robust.specs.declared.queue.Queue.{Queue}
 use Rattle.online_robust.specs.declared.window.Sweep.{Sweep}
 use Rattle.online_robust.specs.declared.window.Window.{Window}
 use Rattle.online_robust.specs.Told.{IsTick}
@@ -38,7 +36,7 @@ ends_up : {t u : Rational} (o : Option Frac) → EndsAt o t → IsUpTo u o → u
 ends_up None e h = absurd e
 ends_up (Some f) e h = le_trans h (le_of_same e)
 
-module _ (x : Scope) (w : Window) (begin : Frac) (none : Margin) (low high : Rim) (q : Queue Margin) (seen fresh : List MarginLine) (l h : Rational)
+module _ (x : Scope) (w : Window) (begin : Frac) (none : Margin) (low high : Rim) (q : Constants Margin) (seen fresh : List MarginLine) (l h : Rational)
     (s : IsSpread x w begin none low high q seen fresh l h) (ends : EndsAt low.until l) (ahead : Rational) (order : l <ʳ ahead)
     (reaches : IsUpTo ahead high.until) where
   -- what the low end stands on: the first mark
@@ -72,7 +70,7 @@ module _ (x : Scope) (w : Window) (begin : Frac) (none : Margin) (low high : Rim
     -- which are what was read
     pub seen_is : AreSeen k.after marks rest
     -- and what they give are the constants
-    pub frozen : AreFrozen w.side (shifted (start x.trace) w.low) low (k ∷ marks) s.constants
+    pub frozen : AreFrozen w.side (shifted (start x.trace) w.low) low (k ∷ marks) q.constants
 
   by_marks : (ms : List Mark) → s.marks ≡ ms → Leaves
   by_marks [] e =
@@ -97,7 +95,7 @@ module _ (x : Scope) (w : Window) (begin : Frac) (none : Margin) (low high : Rim
         rest = seen'.0;
         front = seen'.1;
         seen_is = seen'.2;
-        frozen = subst (λ (ms : List Mark). AreFrozen w.side (shifted (start x.trace) w.low) low ms s.constants) e s.frozen;
+        frozen = subst (λ (ms : List Mark). AreFrozen w.side (shifted (start x.trace) w.low) low ms q.constants) e s.frozen;
       }
     where
       one_end : (o : Option Frac) → EndsAt o (value k.at) → EndsAt o l → value k.at ≈ l
@@ -109,9 +107,9 @@ module _ (x : Scope) (w : Window) (begin : Frac) (none : Margin) (low high : Rim
   leaves = by_marks s.marks refl
 
   -- the low end has gone on
-  left_with : (c : Leaves) (cs : List Margin) (q' : Queue Margin) → q'.side ≡ w.side → AreFrozen w.side (shifted (start x.trace) w.low) c.k.after c.marks cs
-      → StandsFor margin_function q'.older.items q'.newer.items q'.side q'.best cs → IsSpread x w begin none c.k.after high q' c.rest fresh l h
-  left_with c cs q' side frozen among = record {
+  left_with : (c : Leaves) (q' : Constants Margin) → q'.side ≡ w.side
+      → AreFrozen w.side (shifted (start x.trace) w.low) c.k.after c.marks q'.constants → IsSpread x w begin none c.k.after high q' c.rest fresh l h
+  left_with c q' side frozen = record {
     fit = s.fit;
     tick = s.tick;
     begins = s.begins;
@@ -121,7 +119,6 @@ module _ (x : Scope) (w : Window) (begin : Frac) (none : Margin) (low high : Rim
     none_moved = s.none_moved;
     from = value c.k.at;
     marks = c.marks;
-    constants = cs;
     begun = le_of_same c.here;
     runs = c.runs;
     by = c.by;
@@ -131,7 +128,6 @@ module _ (x : Scope) (w : Window) (begin : Frac) (none : Margin) (low high : Rim
     high_later = s.high_later;
     frozen = frozen;
     side = side;
-    among = among;
     standing = c.standing.1;
     seen_is = c.seen_is;
     low_stands = stands c.standing.0;
@@ -159,24 +155,30 @@ module _ (x : Scope) (w : Window) (begin : Frac) (none : Margin) (low high : Rim
   pub left_plain : (c : Leaves) → IsNoKnot (shifted (start x.trace) w.low) low c.k → IsSpread x w begin none c.k.after high q c.rest fresh l h
   left_plain c plain = by_frozen c.frozen
     where
-      by_frozen : AreFrozen w.side (shifted (start x.trace) w.low) low (c.k ∷ c.marks) s.constants
+      by_frozen : AreFrozen w.side (shifted (start x.trace) w.low) low (c.k ∷ c.marks) q.constants
           → IsSpread x w begin none c.k.after high q c.rest fresh l h
-      by_frozen (inl (skip, frozen)) = left_with c s.constants q s.side frozen s.among
+      by_frozen (inl (skip, frozen)) = left_with c q s.side frozen
       by_frozen (inr (knot, rest)) = absurd (knot plain)
 
   -- and else its constant left
-  pub left_frozen : (c : Leaves) (q' : Queue Margin) → ¬ IsNoKnot (shifted (start x.trace) w.low) low c.k → q'.side ≡ q.side
-      → ((d : Margin) (cs : List Margin) → StandsFor margin_function q.older.items q.newer.items q.side q.best (d ∷ cs)
-      → StandsFor margin_function q'.older.items q'.newer.items q.side q'.best cs) → IsSpread x w begin none c.k.after high q' c.rest fresh l h
-  left_frozen c q' knot same leave = by_frozen c.frozen
+  pub left_frozen : (c : Leaves) (q' : Constants Margin) → ¬ IsNoKnot (shifted (start x.trace) w.low) low c.k → q'.side ≡ q.side
+      → q'.constants ≡ drop 1 q.constants → IsSpread x w begin none c.k.after high q' c.rest fresh l h
+  left_frozen c q' knot same left = by_frozen c.frozen
     where
-      by_frozen : AreFrozen w.side (shifted (start x.trace) w.low) low (c.k ∷ c.marks) s.constants
+      by_frozen : AreFrozen w.side (shifted (start x.trace) w.low) low (c.k ∷ c.marks) q.constants
           → IsSpread x w begin none c.k.after high q' c.rest fresh l h
       by_frozen (inl (skip, frozen)) = absurd (knot skip)
       by_frozen (inr (knot', (d, rest, is, one, frozen))) =
-          left_with c rest q' (same ∙ s.side) frozen
-          (subst (λ (b : _). StandsFor margin_function q'.older.items q'.newer.items b q'.best rest) (sym same)
-          (leave d rest (subst (StandsFor margin_function q.older.items q.newer.items q.side q.best) is s.among)))
+          left_with c q' (same ∙ s.side)
+          (subst (AreFrozen w.side (shifted (start x.trace) w.low) c.k.after c.marks) (sym (left ∙ ap (drop 1) is)) frozen)
+
+  -- there is such a constant
+  pub some_constant : (c : Leaves) → ¬ IsNoKnot (shifted (start x.trace) w.low) low c.k → 0 < length q.constants
+  some_constant c knot = by_frozen c.frozen
+    where
+      by_frozen : AreFrozen w.side (shifted (start x.trace) w.low) low (c.k ∷ c.marks) q.constants → 0 < length q.constants
+      by_frozen (inl (skip, frozen)) = absurd (knot skip)
+      by_frozen (inr (knot', (d, rest, is, one, frozen))) = subst (λ (cs : List Margin). 0 < length cs) (sym is) (omega arith)
 
 -- an edge without its first line, that was read
 pub without_front : (y : Edge) (v : MarginLine) (r : List MarginLine) → y.seen ≡ v ∷ r → without 1 y ≡ record { seen = r; fresh = y.fresh; number = y.number }
@@ -380,7 +382,7 @@ module _ (x : Scope) (s : Sweep) (e mid : Held) (at : IsAt x s e) (low : IsLow x
         (subst (λ (n : Margin). IsOneLine s.place.low.shape n next.shape (value leaving.k.at)) (sym (f ∙ ap margin_of line_is))
         (subst (λ (g : Rim). IsOneLine s.place.low.shape leaving.k.point g.shape (value leaving.k.at)) (sym next_is) one)))
 
-    placed : (q : Queue Margin)
+    placed : (q : Constants Margin)
         → IsSpread x s.window s.start s.none leaving.k.after s.place.high q leaving.rest (fresh_at e s.window.of) (low_at x s.window) (high_at x s.window)
         → IsSpread x s.window s.start s.none next s.place.high q (edge_at new s.window.of).seen (fresh_at new s.window.of) (low_at x s.window)
         (high_at x s.window)
@@ -403,15 +405,18 @@ module _ (x : Scope) (s : Sweep) (e mid : Held) (at : IsAt x s e) (low : IsLow x
         (low_at x s.window) (high_at x s.window) at.spread low.ends low.ahead low.order low.reaches leaving plain)
 
     -- a knot that gives a constant takes the first one with it
-    pub frozen_spread : (q : Queue Margin) → ¬ IsNoKnot (shifted (start x.trace) s.window.low) s.place.low leaving.k → q.side ≡ s.among.side
-        → ((d : Margin) (cs : List Margin)
-        → StandsFor margin_function s.among.older.items s.among.newer.items s.among.side s.among.best (d ∷ cs)
-        → StandsFor margin_function q.older.items q.newer.items s.among.side q.best cs)
+    pub frozen_spread : (q : Constants Margin) → ¬ IsNoKnot (shifted (start x.trace) s.window.low) s.place.low leaving.k → q.side ≡ s.among.side
+        → q.constants ≡ drop 1 s.among.constants
         → IsSpread x s.window s.start s.none next s.place.high q (edge_at new s.window.of).seen (fresh_at new s.window.of) (low_at x s.window)
         (high_at x s.window)
-    frozen_spread q knot same leave = placed q
+    frozen_spread q knot same left = placed q
         (left_frozen x s.window s.start s.none s.place.low s.place.high s.among (edge_at e s.window.of).seen (fresh_at e s.window.of)
-        (low_at x s.window) (high_at x s.window) at.spread low.ends low.ahead low.order low.reaches leaving q knot same leave)
+        (low_at x s.window) (high_at x s.window) at.spread low.ends low.ahead low.order low.reaches leaving q knot same left)
+
+    -- there is one
+    pub some_among : ¬ IsNoKnot (shifted (start x.trace) s.window.low) s.place.low leaving.k → 0 < length s.among.constants
+    some_among = some_constant x s.window s.start s.none s.place.low s.place.high s.among (edge_at e s.window.of).seen (fresh_at e s.window.of)
+        (low_at x s.window) (high_at x s.window) at.spread low.ends low.ahead low.order low.reaches leaving
 
     -- the low end lies before the end of its gap
     pub before_goes : IsBefore (low_at x s.window) next.until

@@ -85,10 +85,6 @@ more_later F most start old (Some new) limit more le are = by_test (int_lt old n
     by_test true are = by_lines more are.0 are.2
     by_test false are = rw are tt
 
--- where nothing is dropped
-later_none : (more : List MarginLine) (back : Option ℤ) → back ≡ None → BeginLater back more
-later_none more back e = rw e tt
-
 -- an edge whose reader stands where it stood
 module _ (nodes : List Node) (header : Header) (streamed : AreStreamed nodes) (j r : ℕ) (n : Node) (left : Bool) (at : slice_get nodes r ≡ Some n)
     (reads : IsReader n left j) where

@@ -247,5 +247,7 @@ module _ (t : Step) (z : Endless) (e : Held) (to : ℕ) (b : Belongs t (Op.Ever 
         seen_is = ap (λ (v : Window). (edge_at e' v.of).seen) (s_window ∙ old_window) ∙ sym (here.seen e')
 
         swept : HasPassedTo t.nodes t.place t.trace z'.window.of own s (seen_by b.node e') (pos to)
-        swept = subst (λ (v : Window). HasPassedTo t.nodes t.place t.trace v.of own s (seen_by b.node e') (pos to)) (sym window)
-            (subst (λ l. StoodPast child t.trace (reach_before t) own (whole (pos to)) s l) seen_is over, subst (λ (v : Window). pos (begin_of t) ≤ℤ (pos to +ℤ v.high)) (sym (s_window ∙ old_window)) late)
+        swept = subst (λ (v : Window). HasPassedTo t.nodes t.place t.trace v.of own s (seen_by b.node e') (pos to)) (sym window) (
+          subst (λ l. StoodPast child t.trace (reach_before t) own (whole (pos to)) s l) seen_is over,
+          subst (λ (v : Window). pos (begin_of t) ≤ℤ (pos to +ℤ v.high)) (sym (s_window ∙ old_window)) late,
+        )

@@ -49,7 +49,8 @@ module _ (t : Step) (z : Endless) (e : Held) (to : ℕ) (b : Belongs t (Op.Ever 
   turn_on = turn_of t z e to b
 
   state : (s.window ≡ z.window) × IsSomeAnd t.before (HasPassedTo t.nodes t.place t.trace z.window.of (own t z e to b) s (seen_by b.node e))
-  state = subst (λ (o : Option Ever). MatchOption o ((seen_by b.node e ≡ []) × HasWaited z.window z.told (begin_of t) (reach_before t + own t z e to b) t.before)
+  state = subst (λ (o : Option Ever). MatchOption o
+      ((seen_by b.node e ≡ []) × HasWaited z.window z.told (begin_of t) (reach_before t + own t z e to b) t.before)
       (λ s. (s.window ≡ z.window) × IsSomeAnd t.before (HasPassedTo t.nodes t.place t.trace z.window.of (own t z e to b) s (seen_by b.node e)))) is b.stands.1
 
   -- the window that goes on is the node's
@@ -111,7 +112,8 @@ module _ (t : Step) (z : Endless) (e : Held) (to : ℕ) (b : Belongs t (Op.Ever 
 module _ (t : Step) (z : Endless) (e : Held) (to : ℕ) (b : Belongs t (Op.Ever z) e to) (none : z.past ≡ None) where
   -- a window that waited has seen nothing
   pub waited : (seen_by b.node e ≡ []) × HasWaited z.window z.told (begin_of t) (reach_before t + own t z e to b) t.before
-  waited = subst (λ (o : Option Ever). MatchOption o ((seen_by b.node e ≡ []) × HasWaited z.window z.told (begin_of t) (reach_before t + own t z e to b) t.before)
+  waited = subst (λ (o : Option Ever). MatchOption o
+      ((seen_by b.node e ≡ []) × HasWaited z.window z.told (begin_of t) (reach_before t + own t z e to b) t.before)
       (λ s. (s.window ≡ z.window) × IsSomeAnd t.before (HasPassedTo t.nodes t.place t.trace z.window.of (own t z e to b) s (seen_by b.node e)))) none b.stands.1
 
   -- its edge has read nothing

@@ -19,14 +19,13 @@ use Rattle.pl_signal.specs.declared.joining.Side.{Side}
 use Rattle.envelope.specs.Turns.{none_of}
 use Rattle.stl_syntax.specs.Trace.{start, stop}
 use Rattle.stl_syntax.specs.SupInf.{Robustness}
-use Rattle.online_robust.specs.Queues.{StandsFor}
+use Rattle.online_robust.specs.Queues.{Constants}
 use Rattle.online_robust.specs.Told.{AreFit, AreJoined, AreTold, IsMovedBy, IsTick}
 use Rattle.online_robust.specs.Sweeping.{AreFrozen, EndsAt, IsBefore, IsFrozen, IsNoKnot, IsOn, IsUpTo, Mark, Runs, last_gap}
 use Rattle.online_robust.specs.Windows.{IsSpread, IsStanding, IsToCome, Scope, gap_of, input_of, no_gap}
 use Rattle.online_robust.specs.declared.ends.Rim.{Rim}
 use Rattle.online_robust.specs.declared.line.MarginLine.{MarginLine}
 use Rattle.online_robust.specs.declared.line.MarginLine.TheVariants as L
-use Rattle.online_robust.specs.declared.queue.Queue.{Queue}
 use Rattle.online_robust.specs.declared.window.Window.{Window}
 use Rattle.online_robust.proofs.JoinedLemmas.{joined_to}
 use Rattle.online_robust.proofs.Marks.{by_more, frozen_more, frozen_none, last_more, runs_more, seen_more, standing_more_marks, ticks_more}
@@ -82,7 +81,7 @@ bounded_on p a b t ha hb le le' = by_order (lt_or_same_or_gt a t) (lt_or_same_or
     by_order (inl x) (inr (inl e)) = at b e hb
     by_order (inl x) (inr (inr g)) = absurd (not_lt_of_le le' g)
 
-module _ (x : Scope) (w : Window) (begin : Frac) (none : Margin) (low high : Rim) (q : Queue Margin) (seen fresh : List MarginLine) (l h : Rational)
+module _ (x : Scope) (w : Window) (begin : Frac) (none : Margin) (low high : Rim) (q : Constants Margin) (seen fresh : List MarginLine) (l h : Rational)
     (s : IsSpread x w begin none low high q seen fresh l h) where
   abbrev pub Q : Function
   Q = input_of x w.side
@@ -196,14 +195,13 @@ module _ (x : Scope) (w : Window) (begin : Frac) (none : Margin) (low high : Rim
   -- the high end has gone on over the point: one mark more
   module _ (c : ComesNext) (next : Rim) (tail rest' : List MarginLine) (on : IsOn Q x.reach (value c.p) next) (before : IsBefore (value c.p) next.until)
       (stands : (next.stands ≡ true) ⊎ (next ≡ no_gap none)) (standing : IsStanding next tail []) (come : IsToCome x next.until rest')
-      (q' : Queue Margin) (side' : q'.side ≡ w.side) where
+      (q' : Constants Margin) (side' : q'.side ≡ w.side) where
     abbrev pub mark : Mark
     mark = record { at = c.p; point = c.v; after = next }
 
-    gone : (cs : List Margin) → AreFrozen w.side (shifted (start x.trace) w.low) low (s.marks ++ mark ∷ []) cs
-        → StandsFor margin_function q'.older.items q'.newer.items q'.side q'.best cs
+    gone : AreFrozen w.side (shifted (start x.trace) w.low) low (s.marks ++ mark ∷ []) q'.constants
         → IsSpread x w begin none low next q' (seen ++ L.Point c.p c.v ∷ tail) rest' l h
-    gone cs frozen among = record {
+    gone frozen = record {
       fit = s.fit;
       tick = s.tick;
       begins = s.begins;
@@ -213,7 +211,6 @@ module _ (x : Scope) (w : Window) (begin : Frac) (none : Margin) (low high : Rim
       none_moved = s.none_moved;
       from = s.from;
       marks = s.marks ++ mark ∷ [];
-      constants = cs;
       begun = s.begun;
       runs = runs_more Q x.reach s.from low s.marks mark s.runs (subst (λ (g : Rim). EndsAt g.until (value c.p)) s.last c.ends)
           (record { told = c.point; bounded = c.bounded; moved = c.moved }) on before;
@@ -224,7 +221,6 @@ module _ (x : Scope) (w : Window) (begin : Frac) (none : Margin) (low high : Rim
       high_later = up_later next.until before;
       frozen = frozen;
       side = side';
-      among = among;
       standing = standing_more_marks none low s.marks mark (value c.p) s.standing (subst (λ (g : Rim). EndsAt g.until (value c.p)) s.last c.ends) stands;
       seen_is = seen_more low s.marks mark seen tail s.seen_is standing;
       low_stands = s.low_stands;
@@ -246,18 +242,16 @@ module _ (x : Scope) (w : Window) (begin : Frac) (none : Margin) (low high : Rim
     -- where the mark gives no constant the queue stays
     pub gone_plain : q' ≡ q → IsNoKnot (shifted (start x.trace) w.low) high mark
         → IsSpread x w begin none low next q' (seen ++ L.Point c.p c.v ∷ tail) rest' l h
-    gone_plain e plain = gone s.constants
-        (frozen_none w.side (shifted (start x.trace) w.low) low s.marks mark s.constants s.frozen
-        (subst (λ (g : Rim). IsNoKnot (shifted (start x.trace) w.low) g mark) s.last plain))
-        (subst (λ (r : Queue Margin). StandsFor margin_function r.older.items r.newer.items r.side r.best s.constants) (sym e) s.among)
+    gone_plain e plain = gone
+        (subst (λ (r : Constants Margin). AreFrozen w.side (shifted (start x.trace) w.low) low (s.marks ++ mark ∷ []) r.constants) (sym e)
+        (frozen_none w.side (shifted (start x.trace) w.low) low s.marks mark q.constants s.frozen
+        (subst (λ (g : Rim). IsNoKnot (shifted (start x.trace) w.low) g mark) s.last plain)))
 
     -- and else its constant came
     pub gone_frozen : (k : Margin) → ¬ IsNoKnot (shifted (start x.trace) w.low) high mark → IsFrozen w.side high.shape c.v next.shape (value c.p) k
-        → ((cs : List Margin) → StandsFor margin_function q.older.items q.newer.items q.side q.best cs
-        → StandsFor margin_function q'.older.items q'.newer.items q.side q'.best (cs ++ k ∷ [])) → q'.side ≡ q.side
-        → IsSpread x w begin none low next q' (seen ++ L.Point c.p c.v ∷ tail) rest' l h
-    gone_frozen k knot frozen come' same = gone (s.constants ++ k ∷ [])
-        (frozen_more w.side (shifted (start x.trace) w.low) low s.marks mark s.constants k s.frozen
+        → q'.constants ≡ q.constants ++ k ∷ [] → IsSpread x w begin none low next q' (seen ++ L.Point c.p c.v ∷ tail) rest' l h
+    gone_frozen k knot frozen more = gone
+        (subst (λ (cs : List Margin). AreFrozen w.side (shifted (start x.trace) w.low) low (s.marks ++ mark ∷ []) cs) (sym more)
+        (frozen_more w.side (shifted (start x.trace) w.low) low s.marks mark q.constants k s.frozen
         (λ no. knot (subst (λ (g : Rim). IsNoKnot (shifted (start x.trace) w.low) g mark) (sym s.last) no))
-        (subst (λ (g : Rim). IsFrozen w.side g.shape c.v next.shape (value c.p) k) s.last frozen))
-        (subst (λ (b : Side). StandsFor margin_function q'.older.items q'.newer.items b q'.best (s.constants ++ k ∷ [])) (sym same) (come' s.constants s.among))
+        (subst (λ (g : Rim). IsFrozen w.side g.shape c.v next.shape (value c.p) k) s.last frozen)))

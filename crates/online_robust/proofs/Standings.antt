@@ -216,10 +216,6 @@ module _ (nodes : List Node) (header : Header) (net : Parts) (past : Past) (give
   abbrev keeps : Keeps nodes header net past
   keeps = stands.keeps
 
-  -- there is a root
-  pub some_stations : 0 < length net.stations
-  some_stations = let some = keeps.streamed.some in let count = stands.shows.stations in omega (arith, some, count)
-
   -- where no row is kept, no row came, and no start is noted
   pub no_start : net.last ≡ None → net.edges.start ≡ None
   no_start none = keeps.start ∙ by_rows past.rows (sym keeps.last ∙ none)

@@ -7,13 +7,12 @@ use Rattle.std.proofs.lemmas.Bool.{false≢true}
 use Rattle.pl_signal.specs.declared.knot.Knot.{Knot}
 use Rattle.pl_signal.specs.declared.faults.OpFault.{OpFault}
 use Rattle.value_laws.specs.declared.margin.Margin.{Margin}
-use Rattle.stl_syntax.specs.Trace.{AreRows, AreRowsAfter, Row, IsTrace, first_time, last_time}
+use Rattle.stl_syntax.specs.Trace.{AreRows, AreRowsAfter, Row, IsTrace, first_time}
 use Rattle.stl_syntax.specs.Formula.{Subformula, constant, atom, subformula, horizon}
 use Rattle.stl_syntax.specs.declared.node.Node.TheVariants.{Const, Atom as Leaf}
 use Rattle.stl_syntax.proofs.RowsLemmas.{last_time-push}
 use Rattle.atom_lines.specs.Binding.{Binding, IsAtomNode}
 use Rattle.online_nodes.specs.Needed.{IsReader}
-use Rattle.online_nodes.specs.StreamedWide.{front_at}
 use Rattle.online_robust.specs.Held.{Held, edge_at, number_at, with_edge, with_number}
 use Rattle.online_robust.specs.Steps.{Step, Belongs, HasSwept, IsStreamedFault, IsSwept, StandsNow}
 use Rattle.online_robust.specs.Putting.{constant_margin, lines_of, HasPut, HasPutAtom, HasPutRow, IsAtomPiece, IsAtomValue}
@@ -77,25 +76,6 @@ module _ (m : Move) (node : ℕ) (op : Operator) (e : Held) (number : ℤ) (g : 
 
   abbrev can : CanMove m (W.Operator op) e
   can = g.1
-
-  -- the node has an edge
-  pub go_edge : node < length e.edges
-  go_edge =
-      let all = can.edges in
-      let within = slice_get_within m.nodes m.place can.node can.at in
-      let place = g.0 in
-      omega (arith, all, within, place)
-
-  -- the node's number is small
-  pub go_small : number ≤ℤ pos 4294967295
-  go_small =
-      let is : number ≡ front_at m.new.ended (pos (last_time 0 m.new.rows)) p =
-      same_Some _ _ (sym g.2 ∙ number_here m.header p m.new.ended m.new.rows can.trace) in
-      subst (λ x. x ≤ℤ pos 4294967295) (sym is) (low m.new.ended)
-    where
-      low : (b : Bool) → front_at b (pos (last_time 0 m.new.rows)) p ≤ℤ pos 4294967295
-      low true = let small = can.small in omega (arith, ints, small)
-      low false = let small = can.small in omega (arith, ints, small)
 
   start_is : (start : ℕ) → e.start ≡ Some start → start ≡ first_time m.new.rows
   start_is start is = same_Some _ _ (sym is ∙ can.start)
@@ -248,10 +228,6 @@ module _ (m : Move) (node : ℕ) (st : Station) (e : Held) (now : ℕ) (g : CanM
       ap (λ (q : Past). number_by q.ended (subformula m.nodes m.place) q.rows) g.2.new
       ∙ number_here m.header (subformula m.nodes m.place) true m.old.rows (subst (λ (q : Past). IsTrace (trace_of m.header q)) g.2.new can_end.trace)
       ∙ ap (λ n. Some (pos n)) (sym g.2.last)
-
-  -- an operator goes on to the end
-  pub end_go : (op : Operator) → st.work ≡ W.Operator op → CanGoTo m node op e (pos now)
-  end_go op is = (g.0, subst (λ w. CanMove m w e) is can_end, end_number)
 
   -- a constant or an atom stands there already
   pub end_leaf : horizon (subformula m.nodes m.place) ≡ 0 → (w : Work) → st.work ≡ w → HasMoved m w e e

@@ -59,7 +59,8 @@ module _ (t : Step) (z : Lazy) (e : Held) (to : ℕ) (b : Belongs t (Op.Sweep z)
 
   -- the edges stay as they are
   pub wait_edges : HasSwept t e e to
-  wait_edges = early_edges t (Op.Sweep z) e to b z.window short (subst (λ k. k ≤ℤ z.window.high) (sym (here t z e to b).back) (let lt = b.stands.1 in omega (arith, ints, lt)))
+  wait_edges = early_edges t (Op.Sweep z) e to b z.window short
+      (subst (λ k. k ≤ℤ z.window.high) (sym (here t z e to b).back) (let lt = b.stands.1 in omega (arith, ints, lt)))
       (here t z e to b).reads (here t z e to b).only
 
   -- it stands at the time of the turn

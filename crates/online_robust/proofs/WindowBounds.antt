@@ -3,12 +3,12 @@ use Rattle.std.proofs.Common.{◌≡◌, ◌⊎◌, inl, inr, ℕ, ℤ, pos, ◌
 use Rattle.std.proofs.Common.{[], ◌∷◌, Option, Some, None, refl, sym, subst, arith}
 use Rattle.std.specs.Prelude.{neg_ℤ, ◌≤ℤ◌, ◌<ℤ◌, ◌-ℤ◌, IsTrue}
 use Rattle.std.proofs.lemmas.Int.{ints}
-use Rattle.rational.specs.Time.{Rational, ◌≤ʳ◌, shifted}
+use Rattle.rational.specs.Time.{Rational, shifted}
 use Rattle.rational.specs.Extended.{minus_infinity, infinity, value_at}
 use Rattle.rational.specs.Affine.{IsBounded}
 use Rattle.rational.specs.Windows.{Function}
 use Rattle.rational.proofs.AffineLemmas.{bounded_same}
-use Rattle.rational.proofs.Order.{ge_of_same, le_of_lt, le_refl, le_trans, lt_of_lt_of_le}
+use Rattle.rational.proofs.Order.{ge_of_same, le_of_lt, le_refl, lt_of_lt_of_le}
 use Rattle.frac128.specs.Value.{value}
 use Rattle.frac128.specs.declared.frac.Frac.{Frac}
 use Rattle.value_laws.specs.Margins.{is_ramp, margin_base, margin_function}
@@ -18,15 +18,13 @@ use Rattle.pl_signal.specs.declared.joining.Side.{Side}
 use Rattle.pl_signal.specs.declared.joining.Side.TheVariants.{Least, Greatest}
 use Rattle.envelope.specs.Turns.{none_of}
 use Rattle.stl_syntax.specs.Trace.{start}
-use Rattle.online_robust.specs.Held.{Held}
-use Rattle.online_robust.specs.Queues.{IsAmong, StandsFor}
-use Rattle.online_robust.specs.Sweeping.{AreFrozen, EndsAt, IsBefore, IsUpTo, Mark, Runs}
+use Rattle.online_robust.specs.Queues.{IsAmong}
+use Rattle.online_robust.specs.Sweeping.{AreFrozen, EndsAt, IsBefore, Mark, Runs}
 use Rattle.online_robust.specs.Told.{IsMovedBy}
-use Rattle.online_robust.specs.Windows.{IsAt, IsShifted, IsTopOf, Scope, high_at, input_of, low_at}
+use Rattle.online_robust.specs.Windows.{IsShifted, Scope, input_of}
 use Rattle.online_robust.specs.declared.ends.Rim.{Rim}
-use Rattle.online_robust.specs.declared.window.Sweep.{Sweep}
 use Rattle.online_robust.specs.declared.window.Window.{Window}
-use Rattle.online_robust.proofs.WindowLaw.{last_on_of, runs_on, up_to_before, up_to_end}
+use Rattle.online_robust.proofs.WindowLaw.{runs_on, up_to_before, up_to_end}
 
 -- the value of no times is bounded
 pub none_bounded : (side : Side) → IsBounded (2 ^ 31) (none_of side minus_infinity infinity)
@@ -66,37 +64,6 @@ frozen_bounded x w from low (k ∷ marks) cs runs (inr (knot, (d, others, is, fr
         (bounded_same (2 ^ 31) (value_at (margin_function d) t) (value_at (margin_function frozen.of) (value k.at)) (frozen.constant t)
         (bounded frozen.of frozen.one))
     by_one (inr rest) go = go rest
-
-module _ (x : Scope) (s : Sweep) (e : Held) (at : IsAt x s e) where
-  -- the best of the constants is bounded
-  pub top_bounded : (top : Margin)
-      → ((cs : List Margin) → StandsFor margin_function s.among.older.items s.among.newer.items s.among.side s.among.best cs
-      → IsTopOf margin_function s.among.side s.none cs top) → (t : Rational) → IsBounded (2 ^ 31) (value_at (margin_function top) t)
-  top_bounded top tops t = by_kind (tops at.spread.constants at.spread.among)
-    where
-      by_kind : IsTopOf margin_function s.among.side s.none at.spread.constants top → IsBounded (2 ^ 31) (value_at (margin_function top) t)
-      by_kind (inl b) = frozen_bounded x s.window at.spread.from s.place.low at.spread.marks at.spread.constants at.spread.runs at.spread.frozen top
-          b.one t
-      by_kind (inr b) = subst (λ (m : Margin). IsBounded (2 ^ 31) (value_at (margin_function m) t)) (sym b.1)
-          (bounded_same (2 ^ 31) (value_at (margin_function s.none) t) (none_of s.window.side minus_infinity infinity) (at.spread.none_value t)
-          (none_bounded s.window.side))
-
-  -- the margin under the low end is bounded
-  pub low_bounded : (u : Rational) → low_at x s.window ≤ʳ shifted u s.window.low → IsUpTo (shifted u s.window.low) s.place.low.until
-      → IsBounded (2 ^ 31) (value_at (margin_function s.place.low.shape) (shifted u s.window.low))
-  low_bounded u later up =
-      (runs_on (input_of x s.window.side) x.reach at.spread.from s.place.low at.spread.marks at.spread.runs).bounded (shifted u s.window.low)
-      (le_trans at.spread.begun later) up
-
-  -- the margin under the high end is bounded
-  pub high_bounded : low_at x s.window ≤ʳ high_at x s.window → (u : Rational) → high_at x s.window ≤ʳ shifted u s.window.high
-      → IsUpTo (shifted u s.window.high) s.place.high.until
-      → IsBounded (2 ^ 31) (value_at (margin_function s.place.high.shape) (shifted u s.window.high))
-  high_bounded order u later up =
-      subst (λ (g : Rim). IsBounded (2 ^ 31) (value_at (margin_function g.shape) (shifted u s.window.high))) (sym at.spread.last)
-      ((last_on_of (input_of x s.window.side) x.reach at.spread.from (high_at x s.window) s.place.low at.spread.marks (le_trans at.spread.begun order)
-      at.spread.by at.spread.runs).bounded (shifted u s.window.high) later
-      (subst (λ (g : Rim). IsUpTo (shifted u s.window.high) g.until) at.spread.last up))
 
 -- a moved shape is bounded where the shape is
 pub shifted_bounded : (p : Margin) (k : ℤ) (q : Margin) (u : Rational) → IsShifted p k q → IsBounded (2 ^ 31) (value_at (margin_function p) (shifted u k))
@@ -148,14 +115,3 @@ frozen_still side limit low (k ∷ marks) cs (inr (knot, (d, others, is, frozen,
     by_one : (c ≡ d) ⊎ IsAmong others c → (IsAmong others c → is_ramp c ≡ false) → is_ramp c ≡ false
     by_one (inl e) go = subst (λ (m : Margin). is_ramp m ≡ false) (sym e) frozen.still
     by_one (inr rest) go = go rest
-
--- the best of the constants may be moved
-pub top_moved : (x : Scope) (s : Sweep) (e : Held) → IsAt x s e → (top : Margin)
-    → ((cs : List Margin) → StandsFor margin_function s.among.older.items s.among.newer.items s.among.side s.among.best cs
-    → IsTopOf margin_function s.among.side s.none cs top) → IsMovedBy x.reach top
-top_moved x s e at top tops = by_kind (tops at.spread.constants at.spread.among)
-  where
-    by_kind : IsTopOf margin_function s.among.side s.none at.spread.constants top → IsMovedBy x.reach top
-    by_kind (inl b) = still_moved x.reach top (frozen_still s.window.side (shifted (start x.trace) s.window.low) s.place.low at.spread.marks
-        at.spread.constants at.spread.frozen top b.one)
-    by_kind (inr b) = subst (IsMovedBy x.reach) (sym b.1) at.spread.none_moved

@@ -228,7 +228,8 @@ module _ (t : Step) (z : Lazy) (e : Held) (to : ℕ) (b : Belongs t (Op.Sweep z)
         subst (λ (k : Node). Stands k t.nodes t.place t.trace (Some (pos to)) (Op.Sweep z') (seen_by k e')) (same_Some _ _ (sym b.at ∙ found)) (
           subst (IsWindowOf b.node) (sym window) b.stands.0,
           subst (λ (v : Window). v.low <ℤ v.high) (sym window) b.stands.1,
-          subst (λ (o : Option Sweep). MatchOption o ((seen_by b.node e' ≡ []) × HasWaited z'.window z'.told (begin_of t) (reach_before t + own) (Some (pos to)))
+          subst (λ (o : Option Sweep). MatchOption o
+              ((seen_by b.node e' ≡ []) × HasWaited z'.window z'.told (begin_of t) (reach_before t + own) (Some (pos to)))
               (λ s. (s.window ≡ z'.window) × HasSweptTo t.nodes t.place t.trace z'.window.of own s (seen_by b.node e') (pos to))) (sym is)
               (s_window ∙ old_window ∙ sym window, swept),
         )
@@ -248,5 +249,7 @@ module _ (t : Step) (z : Lazy) (e : Held) (to : ℕ) (b : Belongs t (Op.Sweep z)
         seen_is = ap (λ (v : Window). (edge_at e' v.of).seen) (s_window ∙ old_window) ∙ sym (here.seen e')
 
         swept : HasSweptTo t.nodes t.place t.trace z'.window.of own s (seen_by b.node e') (pos to)
-        swept = subst (λ (v : Window). HasSweptTo t.nodes t.place t.trace v.of own s (seen_by b.node e') (pos to)) (sym window)
-            (subst (λ l. StoodOver child t.trace (reach_before t) own (whole (pos to)) s l) seen_is over, subst (λ (v : Window). pos (begin_of t) ≤ℤ (pos to +ℤ v.high)) (sym (s_window ∙ old_window)) late)
+        swept = subst (λ (v : Window). HasSweptTo t.nodes t.place t.trace v.of own s (seen_by b.node e') (pos to)) (sym window) (
+          subst (λ l. StoodOver child t.trace (reach_before t) own (whole (pos to)) s l) seen_is over,
+          subst (λ (v : Window). pos (begin_of t) ≤ℤ (pos to +ℤ v.high)) (sym (s_window ∙ old_window)) late,
+        )

@@ -10,22 +10,20 @@ use Rattle.frac128.specs.Value.{value}
 use Rattle.frac128.specs.declared.frac.Frac.{Frac}
 use Rattle.value_laws.specs.Margins.{is_ramp, margin_function}
 use Rattle.value_laws.specs.declared.margin.Margin.{Margin}
-use Rattle.pl_signal.specs.declared.joining.Side.{Side}
 use Rattle.envelope.specs.Turns.{none_of}
 use Rattle.stl_syntax.specs.Formula.{Subformula}
 use Rattle.stl_syntax.specs.SupInf.{Robustness}
 use Rattle.stl_syntax.specs.Trace.{Trace, first_time, start, stop}
 use Rattle.online_robust.specs.Held.{Held, edge_at, fresh_at, held_at}
-use Rattle.online_robust.specs.Queues.{StandsFor}
 use Rattle.online_robust.specs.Steps.{AreInputs}
 use Rattle.online_robust.specs.Sweeping.{AreBy, IsOn, IsUpTo, Mark}
 use Rattle.online_robust.specs.Told.{AreFit, AreTold, IsTick}
 use Rattle.online_robust.specs.Waiting.{IsBegun}
 use Rattle.online_robust.specs.Windows.{IsFitWindow, IsOwned, IsSpan, IsSpread, IsToCome, Scope, before_start, input_of, scope_at}
+use Rattle.online_robust.specs.Queues.{Constants}
 use Rattle.online_robust.specs.declared.ends.Rim.{Rim}
 use Rattle.online_robust.specs.declared.line.MarginLine.{MarginLine}
 use Rattle.online_robust.specs.declared.line.Reached.{Reached}
-use Rattle.online_robust.specs.declared.queue.Queue.{Queue}
 use Rattle.online_robust.specs.declared.window.Sweep.{Sweep}
 use Rattle.online_robust.specs.declared.window.Window.{Window}
 use Rattle.online_robust.proofs.WindowBounds.{none_bounded, still_moved}
@@ -169,7 +167,6 @@ first_spread turn s e k can nil fit tick up =
       none_moved = still_moved turn.reach s.none k.still;
       from = low;
       marks = [];
-      constants = [];
       begun = le_refl low;
       runs = (none_on x s.window s.start s.none low k.none k.still k.begins, low_early);
       by = tt;
@@ -177,9 +174,8 @@ first_spread turn s e k can nil fit tick up =
       last = refl;
       low_later = le_of_lt low_early;
       high_later = up;
-      frozen = refl;
+      frozen = k.none_among;
       side = k.side;
-      among = subst (λ (d : Side). StandsFor margin_function s.among.older.items s.among.newer.items d s.among.best []) (sym k.side) k.among;
       standing = tt;
       seen_is = refl;
       low_stands = inr (inr refl);
@@ -198,7 +194,7 @@ by_later [] le by = tt
 by_later (k ∷ marks) le by = (le_trans by.0 le, by_later marks le by.1)
 
 -- the window stands over an input that is told further, and its ends may have moved on within their gaps
-pub spread_told : (x y : Scope) {w : Window} {begin : Frac} {none : Margin} {low high : Rim} {q : Queue Margin} {seen fresh : List MarginLine}
+pub spread_told : (x y : Scope) {w : Window} {begin : Frac} {none : Margin} {low high : Rim} {q : Constants Margin} {seen fresh : List MarginLine}
     {l h l' h' : Rational} (more : List MarginLine) → IsSpread x w begin none low high q seen fresh l h → l ≤ʳ l' → IsUpTo l' low.until → h ≤ʳ h'
     → IsUpTo h' high.until → (start x.trace ≤ʳ y.front) × (y.front ≤ʳ stop x.trace) → (y.bound ≤ʳ y.front) ⊎ (y.front ≈ stop x.trace)
     → IsToCome (told_as x y) high.until more → IsSpread (told_as x y) w begin none low high q seen more l' h'
@@ -212,7 +208,6 @@ spread_told x y more s le up le' up' within ended to_come = record {
   none_moved = s.none_moved;
   from = s.from;
   marks = s.marks;
-  constants = s.constants;
   begun = le_trans s.begun le;
   runs = s.runs;
   by = by_later s.marks le' s.by;
@@ -222,7 +217,6 @@ spread_told x y more s le up le' up' within ended to_come = record {
   high_later = up';
   frozen = s.frozen;
   side = s.side;
-  among = s.among;
   standing = s.standing;
   seen_is = s.seen_is;
   low_stands = s.low_stands;

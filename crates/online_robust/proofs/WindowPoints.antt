@@ -1,7 +1,7 @@
 -- The points under the ends of a window.
 use Rattle.std.proofs.Common.{◌≡◌, ◌⊎◌, ◌<◌, inl, inr, ℕ, ℤ, pos, ◌+◌, ◌≤◌, ◌^◌, Bool, true, false, List, Option}
-use Rattle.std.proofs.Common.{Some, None, refl, sym, ap, subst, ◌∙◌, slice_get, arith, w64, lit<, to_z, of_z, Result}
-use Rattle.std.specs.Prelude.{neg_ℤ, ◌≤ℤ◌, ◌-ℤ◌, IsTrue, IfOk}
+use Rattle.std.proofs.Common.{Some, None, refl, sym, ap, subst, ◌∙◌, slice_get, arith, w64, lit<, to_z, of_z}
+use Rattle.std.specs.Prelude.{neg_ℤ, ◌≤ℤ◌, ◌-ℤ◌, IsTrue}
 use Rattle.std.specs.Int.RustNames.{unsigned_abs}
 use Rattle.std.proofs.lemmas.Int.{ints}
 use Rattle.std.proofs.lemmas.Option.{same_Some}
@@ -16,7 +16,6 @@ use Rattle.rational.proofs.Order.{lt_or_same_or_gt, not_lt_of_le, same_sym}
 use Rattle.rational.proofs.TimeLemmas.{shifted-add, lt_offsets}
 use Rattle.frac128.specs.Value.{value}
 use Rattle.frac128.specs.declared.frac.Frac.{Frac}
-use Rattle.frac128.specs.declared.memory.Memory.{Memory}
 use Rattle.value_laws.specs.Margins.{is_ramp, margin_base, margin_function}
 use Rattle.value_laws.specs.declared.margin.Margin.{Margin}
 use Rattle.online_robust.specs.Lines.{margin_of}
@@ -166,11 +165,11 @@ low_under x s low w same inside m n there is values bases = (
 )
 
 -- at the time it goes by
-pub point_at : (x : Scope) (s : Sweep) (t : Rational) → x.at ≡ t → (result : Result (Option Margin) Memory)
-    → IfOk result (IsPointOf (input_of x s.window.side) x.reach s.window.low_in s.window.low s.place.low x.at)
-    → IfOk result (IsPointOf (input_of x s.window.side) x.reach s.window.low_in s.window.low s.place.low t)
+pub point_at : (x : Scope) (s : Sweep) (t : Rational) → x.at ≡ t → (result : Option Margin)
+    → IsPointOf (input_of x s.window.side) x.reach s.window.low_in s.window.low s.place.low x.at result
+    → IsPointOf (input_of x s.window.side) x.reach s.window.low_in s.window.low s.place.low t result
 point_at x s t here result h =
-    subst (λ (z : Rational). IfOk result (IsPointOf (input_of x s.window.side) x.reach s.window.low_in s.window.low s.place.low z)) here h
+    subst (λ (z : Rational). IsPointOf (input_of x s.window.side) x.reach s.window.low_in s.window.low s.place.low z result) here h
 
 -- no line is gone
 pub no_sheds : (limit : Rational) (i : ℕ) (e : Held) → Sheds limit i e e

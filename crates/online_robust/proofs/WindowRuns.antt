@@ -1,5 +1,5 @@
 -- How a window goes on over a stretch.
-use Rattle.std.proofs.Common.{◌≡◌, ◌⊎◌, inl, inr, ℕ, ◌+◌, ◌<◌, List, [], ◌∷◌, Option, Some, None, refl, sym, subst, ◌∙◌}
+use Rattle.std.proofs.Common.{◌≡◌, ◌⊎◌, inl, inr, ℕ, ◌+◌, List, [], ◌∷◌, Option, Some, None, refl, sym, subst, ◌∙◌}
 use Rattle.rational.specs.Time.{Rational, shifted, ◌≈◌, ◌≤ʳ◌, ◌<ʳ◌}
 use Rattle.rational.proofs.Order.{ge_of_same, le_of_lt, le_of_same, le_refl, le_trans}
 use Rattle.rational.proofs.Order.{lt_of_lt_of_le, not_lt_of_le, same_of_le, same_sym, same_trans}
@@ -11,12 +11,12 @@ use Rattle.pl_signal.specs.declared.faults.OpFault.{OpFault}
 use Rattle.envelope.specs.declared.best.Best.{Best}
 use Rattle.stl_syntax.specs.Trace.{start}
 use Rattle.window_ops.proofs.Ends.{le_shifted, lt_shifted}
-use Rattle.online_robust.specs.Held.{Held, edge_at}
+use Rattle.online_robust.specs.Held.{Held}
 use Rattle.online_robust.specs.ReadLines.{IsBuilt, IsThere}
 use Rattle.online_robust.specs.Sweeping.{IsBefore, IsUpTo}
 use Rattle.online_robust.specs.Told.{IsTick}
 use Rattle.online_robust.specs.Windows.{CanSweep, Goes, HasCome, HasTold, IsAt, IsGoing, IsGone, IsOwned, IsSpan}
-use Rattle.online_robust.specs.Windows.{IsUnfixedHigh, IsUnmet, IsWindowFault, Scope, Sheds, at_time, best_of, steps_left}
+use Rattle.online_robust.specs.Windows.{IsUnfixedHigh, IsUnmet, IsWindowFault, Scope, Sheds, at_time, best_of}
 use Rattle.online_robust.specs.declared.line.Reached.{Reached}
 use Rattle.online_robust.specs.declared.window.Sweep.{Sweep}
 use Rattle.online_robust.specs.declared.window.Window.{Window}
@@ -241,10 +241,3 @@ goes_on s s' s'' k g = record {
 -- a window that does not move stays as it is
 pub goes_none : (s : Sweep) → Goes s s
 goes_none s = record { window = refl; start = refl; none = refl; last = refl }
-
--- a step fewer is left, by the window after the step
-pub falls : (old new : Sweep) (x y : Held) (to : Rational) → new.window ≡ old.window
-    → steps_left old.window new.place (edge_at y old.window.of) to < steps_left old.window old.place (edge_at x old.window.of) to
-    → steps_left new.window new.place (edge_at y new.window.of) to < steps_left old.window old.place (edge_at x old.window.of) to
-falls old new x y to same less =
-    subst (λ (w : Window). steps_left w new.place (edge_at y w.of) to < steps_left old.window old.place (edge_at x old.window.of) to) (sym same) less

@@ -19,7 +19,6 @@ use Rattle.envelope.specs.declared.best.Best.{Best}
 use Rattle.stl_syntax.specs.Trace.{start}
 use Rattle.window_ops.proofs.Ends.{le_shifted}
 use Rattle.online_robust.specs.Held.{Held, fresh_at}
-use Rattle.online_robust.specs.Queues.{StandsFor}
 use Rattle.online_robust.specs.Sweeping.{AreBy, AreTicks, EndsAt, IsBefore, IsUpTo, Mark, Runs, last_gap}
 use Rattle.online_robust.specs.Told.{AreFit, IsMovedBy, IsTick}
 use Rattle.online_robust.specs.Windows.{Goes, IsAt, IsCore, IsGoing, IsInPlayOver, IsNextStop, IsOpen}
@@ -101,7 +100,7 @@ module _ (x : Scope) (s : Sweep) (e : Held) (at : IsAt x s e) (to : Rational) (o
     none_moved = at.spread.none_moved;
     from = at.spread.from;
     marks = at.spread.marks;
-    constants = at.spread.constants;
+    constants = s.among.constants;
     begun = at.spread.begun;
     runs = at.spread.runs;
     by = subst (λ (z : Rational). AreBy (shifted z s.window.high) at.spread.marks) o.behind at.spread.by;
@@ -142,11 +141,10 @@ module _ (x : Scope) (s : Sweep) (e : Held) (at : IsAt x s e) (to : Rational) (o
   at_low = at_moved x s e at t x.behind (le_shifted s.window.low (le_of_lt later)) stop.low (le_refl (high_at x s.window)) at.spread.high_later
 
   module _ (best : Best Margin)
-      (tops : (cs : List Margin) → StandsFor margin_function s.among.older.items s.among.newer.items s.among.side s.among.best cs
-      → IsTopOf margin_function s.among.side s.none cs best.top)
+      (tops : IsTopOf margin_function s.among.side s.none s.among.constants best.top)
       (lows : IsSomeAnd best.low (IsShifted s.place.low.shape s.window.low)) (highs : IsSomeAnd best.high (IsShifted s.place.high.shape s.window.high)) where
-    top : IsTopOf margin_function s.window.side s.none at.spread.constants best.top
-    top = subst (λ (k : Side). IsTopOf margin_function k s.none at.spread.constants best.top) at.spread.side (tops at.spread.constants at.spread.among)
+    top : IsTopOf margin_function s.window.side s.none s.among.constants best.top
+    top = subst (λ (k : Side). IsTopOf margin_function k s.none s.among.constants best.top) at.spread.side tops
 
     -- between here and there what counts is the best over the window
     pub between : (u : Rational) → x.at <ʳ u → u <ʳ t → start x.trace ≤ʳ u → (v : Extended)
@@ -174,8 +172,7 @@ module _ (x : Scope) (s : Sweep) (e : Held) (at : IsAt x s e) (to : Rational) (o
         (subst (λ (w : Window). IsUpTo (shifted t w.high) s.place.high.until) (sym keeps.window) stop.high))
 
     module _ (best : Best Margin)
-        (tops : (cs : List Margin) → StandsFor margin_function s'.among.older.items s'.among.newer.items s'.among.side s'.among.best cs
-        → IsTopOf margin_function s'.among.side s'.none cs best.top)
+        (tops : IsTopOf margin_function s'.among.side s'.none s'.among.constants best.top)
         (lows : IsSomeAnd best.low (IsShifted s'.place.low.shape s'.window.low)) (highs : IsSomeAnd best.high (IsShifted s'.place.high.shape s'.window.high))
         (at_high at_low : Option Margin)
         (high_is : IsPointOf (input_of x s.window.side) x.reach s.window.high_in s.window.high s.place.high t at_high)
@@ -194,7 +191,7 @@ module _ (x : Scope) (s : Sweep) (e : Held) (at : IsAt x s e) (to : Rational) (o
           none_moved = at'.spread.none_moved;
           from = at'.spread.from;
           marks = at'.spread.marks;
-          constants = at'.spread.constants;
+          constants = s'.among.constants;
           begun = at'.spread.begun;
           runs = at'.spread.runs;
           by = at'.spread.by;
@@ -203,7 +200,7 @@ module _ (x : Scope) (s : Sweep) (e : Held) (at : IsAt x s e) (to : Rational) (o
           high_later = at'.spread.high_later;
           frozen = at'.spread.frozen;
         },
-        subst (λ (k : Side). IsTopOf margin_function k s'.none at'.spread.constants best.top) at'.spread.side (tops at'.spread.constants at'.spread.among),
+        subst (λ (k : Side). IsTopOf margin_function k s'.none s'.among.constants best.top) at'.spread.side tops,
       )
 
       now_at : At s.window s.none s.place.high x.at

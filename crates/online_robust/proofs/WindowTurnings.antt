@@ -50,7 +50,8 @@ module _ (t : Step) (z : Lazy) (e : Held) (to : ℕ) (b : Belongs t (Op.Sweep z)
   turn_on = turn_of t z e to b
 
   state : (s.window ≡ z.window) × IsSomeAnd t.before (HasSweptTo t.nodes t.place t.trace z.window.of (own t z e to b) s (seen_by b.node e))
-  state = subst (λ (o : Option Sweep). MatchOption o ((seen_by b.node e ≡ []) × HasWaited z.window z.told (begin_of t) (reach_before t + own t z e to b) t.before)
+  state = subst (λ (o : Option Sweep). MatchOption o
+      ((seen_by b.node e ≡ []) × HasWaited z.window z.told (begin_of t) (reach_before t + own t z e to b) t.before)
       (λ s. (s.window ≡ z.window) × IsSomeAnd t.before (HasSweptTo t.nodes t.place t.trace z.window.of (own t z e to b) s (seen_by b.node e)))) is b.stands.2
 
   -- the window that goes on is the node's
@@ -118,7 +119,8 @@ module _ (t : Step) (z : Lazy) (e : Held) (to : ℕ) (b : Belongs t (Op.Sweep z)
           let lt = forth.1 in
           absurd (omega (arith, ints, come, lt, short))
 
-      by_state : (o : Option Sweep) → MatchOption o ((seen_by b.node e ≡ []) × HasWaited z.window z.told (begin_of t) (reach_before t + own t z e to b) t.before)
+      by_state : (o : Option Sweep) → MatchOption o
+          ((seen_by b.node e ≡ []) × HasWaited z.window z.told (begin_of t) (reach_before t + own t z e to b) t.before)
           (λ s. (s.window ≡ z.window) × IsSomeAnd t.before (HasSweptTo t.nodes t.place t.trace z.window.of (own t z e to b) s (seen_by b.node e))) → o ≡ None
       by_state None h = refl
       by_state (Some s) (window, h) = absurd (by_before s window t.before b.forth h)
@@ -126,7 +128,8 @@ module _ (t : Step) (z : Lazy) (e : Held) (to : ℕ) (b : Belongs t (Op.Sweep z)
 module _ (t : Step) (z : Lazy) (e : Held) (to : ℕ) (b : Belongs t (Op.Sweep z) e to) (none : z.sweep ≡ None) where
   -- a window that waited has seen nothing
   pub waited : (seen_by b.node e ≡ []) × HasWaited z.window z.told (begin_of t) (reach_before t + own t z e to b) t.before
-  waited = subst (λ (o : Option Sweep). MatchOption o ((seen_by b.node e ≡ []) × HasWaited z.window z.told (begin_of t) (reach_before t + own t z e to b) t.before)
+  waited = subst (λ (o : Option Sweep). MatchOption o
+      ((seen_by b.node e ≡ []) × HasWaited z.window z.told (begin_of t) (reach_before t + own t z e to b) t.before)
       (λ s. (s.window ≡ z.window) × IsSomeAnd t.before (HasSweptTo t.nodes t.place t.trace z.window.of (own t z e to b) s (seen_by b.node e)))) none b.stands.2
 
   -- its edge has read nothing

@@ -1,8 +1,9 @@
 -- Constants that come and leave in order, and the best of them.
-use Rattle.std.specs.Prelude.{◌≡◌, ◌⊎◌, List, [], ◌∷◌, ◌++◌, pos, Option, MatchOption}
+use Rattle.std.specs.Prelude.{◌≡◌, ◌⊎◌, List, [], ◌∷◌, pos, Option, MatchOption}
 use Rattle.rational.specs.Rational.{whole}
-use Rattle.rational.specs.Extended.{Affine, Extended, value_at}
+use Rattle.rational.specs.Extended.{Affine, Extended, opposite, value_at, ◌≈ᵉ◌}
 use Rattle.pl_signal.specs.declared.joining.Side.{Side}
+use Rattle.pl_signal.specs.declared.joining.Side.TheVariants.{Least, Greatest}
 use Rattle.envelope.specs.Turns.{IsNoBetter}
 
 -- the value of a constant
@@ -34,15 +35,18 @@ pub record IsBest {P : Type 0} (function : P → Affine) (side : Side) (cs : Lis
 abbrev pub IsBestOf : {P : Type 0} → (P → Affine) → Side → List P → Option P → Type 0
 IsBestOf function side cs best = MatchOption best (cs ≡ []) (IsBest function side cs)
 
--- the best from each place on, the first place last
-abbrev pub AreBests : {P : Type 0} → (P → Affine) → Side → List P → List P → Type 0
-AreBests function side bests [] = bests ≡ []
-AreBests {P} function side bests (c ∷ cs) =
-    (rest : List P) × (b : P) × (bests ≡ rest ++ b ∷ []) × IsBest function side (c ∷ cs) b × AreBests function side rest cs
+-- the constants of a queue in the order in which they came, and which of them is wanted
+pub record Constants (P : Type 0) : Type 0 where
+  pub side : Side
+  pub constants : List P
 
--- the blocks of a queue stand for the constants that came and have not left: first those of the older block
-pub record StandsFor {P : Type 0} (function : P → Affine) (older newer : List P) (side : Side) (best : Option P) (cs : List P) : Type 0 where
-  pub old : List P
-  pub is : cs ≡ old ++ newer
-  pub bests : AreBests function side older old
-  pub newest : IsBestOf function side newer best
+-- the constant itself, or one with its opposite value where the least is wanted
+abbrev pub IsTurned : {P : Type 0} → (P → Affine) → Side → P → P → Type 0
+IsTurned function Greatest c turned = turned ≡ c
+IsTurned function Least c turned = constant_of function turned ≈ᵉ opposite (constant_of function c)
+
+-- the same of each of the constants
+abbrev pub AreTurned : {P : Type 0} → (P → Affine) → Side → List P → List P → Type 0
+AreTurned function side [] turned = turned ≡ []
+AreTurned {P} function side (c ∷ cs) turned =
+    (t : P) × (rest : List P) × (turned ≡ t ∷ rest) × IsTurned function side c t × AreTurned function side cs rest

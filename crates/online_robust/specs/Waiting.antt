@@ -9,7 +9,6 @@ use Rattle.value_laws.specs.Margins.{is_ramp, margin_function}
 use Rattle.envelope.specs.Turns.{none_of}
 use Rattle.pl_signal.specs.declared.joining.Side.{Side}
 use Rattle.online_robust.specs.Glances.{nothing_of}
-use Rattle.online_robust.specs.Queues.{StandsFor}
 use Rattle.online_robust.specs.Windows.{before_start}
 use Rattle.online_robust.specs.declared.endless.Endless.{Endless}
 use Rattle.online_robust.specs.declared.lazy.Lazy.{Lazy}
@@ -44,7 +43,7 @@ pub record IsBegun (w : Window) (start : ℕ) (reached : Option Reached) (s : Sw
   pub low : s.place.low ≡ before_start s.none s.start
   pub high : s.place.high ≡ before_start s.none s.start
   pub side : s.among.side ≡ w.side
-  pub among : StandsFor margin_function s.among.older.items s.among.newer.items w.side s.among.best []
+  pub none_among : s.among.constants ≡ []
   pub told : HasTold start reached s
 
 -- the same of a window without a low end

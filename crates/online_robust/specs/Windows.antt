@@ -26,7 +26,7 @@ use Rattle.stl_syntax.specs.Formula.{Subformula}
 use Rattle.stl_syntax.specs.SupInf.{Robustness}
 use Rattle.online_robust.specs.Lines.{end_of, margin_of, IsOneLine}
 use Rattle.online_robust.specs.Held.{Edge, Held, edge_at, fresh_at, held_at}
-use Rattle.online_robust.specs.Queues.{IsBest, StandsFor}
+use Rattle.online_robust.specs.Queues.{Constants, IsBest}
 use Rattle.online_robust.specs.ReadLines.{IsThere}
 use Rattle.online_robust.specs.Told.{AreFit, AreJoined, AreTold, IsMovedBy, IsTick}
 use Rattle.online_robust.specs.Sweeping.{AreBy, AreFrozen, AreTicks, EndsAt, IsBefore, IsOn, IsUpTo, Mark, Runs, last_gap, with_outside}
@@ -34,7 +34,6 @@ use Rattle.online_robust.specs.declared.ends.Rim.{Rim}
 use Rattle.online_robust.specs.declared.line.MarginLine.{MarginLine}
 use Rattle.online_robust.specs.declared.line.Reached.{Reached}
 use Rattle.online_robust.specs.declared.line.MarginLine.TheVariants as L
-use Rattle.online_robust.specs.declared.queue.Queue.{Queue}
 use Rattle.online_robust.specs.declared.window.Place.{Place}
 use Rattle.online_robust.specs.declared.window.Sweep.{Sweep}
 use Rattle.online_robust.specs.declared.window.Window.{Window}
@@ -108,7 +107,8 @@ abbrev pub no_gap : Margin → Rim
 no_gap none = record { shape = none; until = None; stands = false }
 
 -- a window with its ends at two times: the gap about each end, the marks between, and what of them stands where
-pub record IsSpread (x : Scope) (w : Window) (begin : Frac) (none : Margin) (low high : Rim) (q : Queue Margin) (seen fresh : List MarginLine) (l h : Rational)
+pub record IsSpread (x : Scope) (w : Window) (begin : Frac) (none : Margin) (low high : Rim) (q : Constants Margin)
+    (seen fresh : List MarginLine) (l h : Rational)
     : Type 0 where
   pub fit : IsFitWindow w x.reach
   pub tick : IsTick (value begin)
@@ -119,7 +119,6 @@ pub record IsSpread (x : Scope) (w : Window) (begin : Frac) (none : Margin) (low
   pub none_moved : IsMovedBy x.reach none
   pub from : Rational
   pub marks : List Mark
-  pub constants : List Margin
   pub begun : from ≤ʳ l
   pub runs : Runs (input_of x w.side) x.reach from low marks
   pub by : AreBy h marks
@@ -127,9 +126,8 @@ pub record IsSpread (x : Scope) (w : Window) (begin : Frac) (none : Margin) (low
   pub last : high ≡ last_gap low marks
   pub low_later : IsUpTo l low.until
   pub high_later : IsUpTo h high.until
-  pub frozen : AreFrozen w.side (shifted (start x.trace) w.low) low marks constants
+  pub frozen : AreFrozen w.side (shifted (start x.trace) w.low) low marks q.constants
   pub side : q.side ≡ w.side
-  pub among : StandsFor margin_function q.older.items q.newer.items q.side q.best constants
   pub standing : AreStanding none marks
   pub seen_is : AreSeen low marks seen
   pub low_stands : (low.stands ≡ true) ⊎ (low ≡ no_gap none) ⊎ (low ≡ before_start none begin)

@@ -14,6 +14,7 @@ ghost use Rattle.online_robust.specs.Held.{Held, edge_at, with_edge, without};
 ghost use Rattle.online_robust.specs.Sweeping.{EndsAt, IsBefore};
 ghost use Rattle.online_robust.specs.ReadLines.{IsBuilt, IsStretch, IsThere};
 ghost use Rattle.online_robust.specs.Told.{IsMovedBy};
+ghost use Rattle.online_robust.specs.Queues.{IsBetterOf};
 ghost use Rattle.online_robust.specs.Windows.{IsGone, IsOwned, IsPointOf, IsShifted, IsUnfixedUnder, IsUnmet, IsWindowFault};
 ghost use Rattle.online_robust.specs.Windows.{Scope, Sheds, at_time, before_start, best_of, input_of, lines_left};
 ghost use Rattle.online_robust.specs.WindowPasts.{CanPass, HasPassed, IsFitPast, IsPassing, IsPastAt, KeepsPoint, StaysPast, past_steps};
@@ -22,14 +23,30 @@ ghost use Rattle.online_robust.specs.Refusing.{told_by};
 use crate::edges::Edges;
 use crate::ends::{Rim, is_one};
 use crate::line::Reached;
-use crate::queue::better_of;
 use crate::room::Room;
 use crate::window::{Gone, Window, enter, first_of, frozen, worth};
 use envelope::{Best, of_none, write};
 use frac128::{Frac, Memory};
-use pl_signal::{Builder, Signal, WidePair};
+use pl_signal::{Builder, Side, Signal, WidePair, chosen};
 use std::cmp::Ordering;
 use value_laws::{Margin, Shape};
+
+/// The better of two constants.
+fn better<P: Shape>(side: Side, p: P, q: P) -> P
+    ensures { IsBetterOf P.function side p q result }
+{
+    chosen(side, &p, &q, &Frac::of(0))
+}
+
+/// The better of a constant and another, if there is one.
+fn better_of<P: Shape>(side: Side, p: P, other: Option<P>) -> P
+    ensures { MatchOption other (result ≡ p) (λ q. IsBetterOf P.function side p q result) }
+{
+    match other {
+        Some(q) => better(side, p, q),
+        None => p,
+    }
+}
 
 /// What a window without a low end keeps in mind.
 #[derive(Drop)]

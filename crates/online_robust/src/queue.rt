@@ -1,54 +1,80 @@
 //! The best of constants that come at the one end of a window and leave at the other.
-//!
-//! Two blocks: of the older one the best from each place on is kept, and of the newer one the constants and their best. Once the
-//! older one is used up, the newer one becomes the older. Each constant is compared at most twice.
-ghost use Rattle.std.specs.Prelude.{◌≡◌, ◌++◌, ◌∷◌, [], List, Option, OnOk, MatchOption, None, true, false};
-ghost use Rattle.online_robust.specs.Queues.{AreBests, IsBestOf, IsBetterOf, StandsFor};
+ghost use Rattle.std.specs.Prelude.{◌≡◌, ◌^◌, ◌<◌, ◌≤◌, ◌∷◌, ◌++◌, [], drop, length, OnErr, OnOk};
+ghost use Rattle.rational.specs.Affine.{HasBoundedLevel, IsSteady};
+ghost use Rattle.online_robust.specs.Queues.{IsBestOf, IsTurned};
 
-use frac128::{Frac, Memory};
-use pl_signal::{Side, chosen};
+use frac128::{Memory, Steps};
+use pl_signal::Side;
 use std::alloc::Global;
-use value_laws::Shape;
+use std::collections::VecDeque;
+use std::marker::{Brand, Model};
+use std::sync::ledger::{Blank, Ledger};
+use value_laws::{Counted, Shape};
+use window_extrema::RangeMax;
 
-/// Constants in the order in which they came, of which the first leave first. `StandsFor` says for which.
+/// Constants in the order in which they came, of which the first leave first.
+///
+/// The greatest of them, or of their negations where the least is wanted, is kept by a `RangeMax`. Its items can only be compared, so the
+/// constants stand beside it.
 #[derive(Drop)]
 pub(crate) struct Queue<P: Shape> {
     side: Side,
-    /// The best from each place of the older block on, the first place last.
-    older: Vec<P>,
-    newer: Vec<P>,
-    /// The best of the newer block.
-    best: Option<P>,
+    constants: VecDeque<P>,
+    range: RangeMax<P>,
 }
 
-/// The better of two constants.
-fn better<P: Shape>(side: Side, p: P, q: P) -> P
-    ensures { IsBetterOf P.function side p q result }
-{
-    chosen(side, &p, &q, &Frac::of(0))
+impl<P: Shape> Model for Queue<P> {
+    ghost use Rattle.std.specs.Prelude.{◌≡◌, length};
+    ghost use Rattle.online_robust.specs.Queues.{AreTurned, Constants};
+
+    ghost Value = { Constants P };
+
+    ghost view = { λ q. record { side = q.side; constants = q.constants.items } };
+
+    ghost invariant = { λ q.
+        AreTurned P.function q.side q.constants.items q.range.items
+        × (q.range.low ≡ 0)
+        × (q.range.high ≡ length q.range.items) };
 }
 
-/// The better of a constant and another, if there is one.
-pub(crate) fn better_of<P: Shape>(side: Side, p: P, other: Option<P>) -> P
-    ensures { MatchOption other (result ≡ p) (λ q. IsBetterOf P.function side p q result) }
+/// The constant, or its negation where the least is wanted: so the best is the greatest.
+fn turned<P: Shape>(side: Side, constant: &P) -> P
+    requires { HasBoundedLevel (2 ^ 31) (P.function constant.now) }
+    ensures turned { IsTurned P.function side constant.now result }
+    ensures steady { IsSteady (P.function constant.now) → IsSteady (P.function result) }
 {
-    match other {
-        Some(q) => better(side, p, q),
-        None => p,
+    match side {
+        Side::Greatest => *constant,
+        Side::Least => constant.neg(),
     }
+}
+
+/// Has the range reach over all of its items.
+fn reach<P: Shape, L: Ledger>(range: &mut RangeMax<P>, count: usize, blank: Blank)
+    requires name { blank.name ≡ L.name }
+    requires parts { blank.parts ≡ L.parts }
+    requires some { 0 < blank.parts }
+    requires low { range.old.low ≡ 0 }
+    requires high { range.old.high ≤ length range.old.items }
+    requires count { count ≡ length range.old.items }
+    ensures items { range.new.items ≡ range.old.items }
+    ensures low { range.new.low ≡ 0 }
+    ensures high { range.new.high ≡ length range.new.items }
+{
+    let mut steps = Steps::<L>::new(blank);
+    let _ = range.ask(0, count, &mut steps);
 }
 
 impl<P: Shape> Queue<P> {
     /// No constant yet. It takes no memory.
     pub(crate) fn new(alloc: Global, side: Side) -> Queue<P>
         ensures side { result.side ≡ side }
-        ensures stands { StandsFor P.function result.older.items result.newer.items side result.best [] }
+        ensures none { result.constants ≡ [] }
     {
         Queue {
             side,
-            older: Vec::new(alloc),
-            newer: Vec::new(alloc),
-            best: None,
+            constants: VecDeque::new(alloc),
+            range: RangeMax::empty(alloc),
         }
     }
 
@@ -56,81 +82,38 @@ impl<P: Shape> Queue<P> {
     ///
     /// # Errors
     ///
-    /// `Memory` where there is no memory. The queue is of no use then.
+    /// `Memory` where there is no memory, and then nothing changes.
     pub(crate) fn come(&mut self, constant: P) -> Result<(), Memory>
+        requires steady { IsSteady (P.function constant) }
+        requires level { HasBoundedLevel (2 ^ 31) (P.function constant) }
         ensures side { self.new.side ≡ self.old.side }
-        ensures stands { OnOk result ((cs : List P)
-            → StandsFor P.function self.old.older.items self.old.newer.items self.old.side self.old.best cs
-            → StandsFor P.function self.new.older.items self.new.newer.items self.old.side self.new.best (cs ++ constant ∷ [])) }
+        ensures come { OnOk result (self.new.constants ≡ self.old.constants ++ constant ∷ []) }
+        ensures memory { OnErr result (self.new.constants ≡ self.old.constants) }
     {
-        let Ok(()) = self.newer.push(constant) else {
-            return Err(Memory);
-        };
-        self.best = Some(better_of(self.side, constant, self.best));
+        self.constants.reserve(1)?;
+        self.range.push(Counted::of(turned(self.side, &constant)))?;
+        self.constants.push_back_reserved(constant);
+        reach::<P, Brand>(&mut self.range, self.constants.len(), Blank::new(1));
         Ok(())
     }
 
     /// The constant leaves that came first.
-    ///
-    /// # Errors
-    ///
-    /// `Memory` where there is no memory. The queue is of no use then.
-    pub(crate) fn leave(&mut self) -> Result<(), Memory>
+    pub(crate) fn leave(&mut self)
+        requires { 0 < length self.old.constants }
         ensures side { self.new.side ≡ self.old.side }
-        ensures stands { OnOk result ((c : P) (cs : List P)
-            → StandsFor P.function self.old.older.items self.old.newer.items self.old.side self.old.best (c ∷ cs)
-            → StandsFor P.function self.new.older.items self.new.newer.items self.old.side self.new.best cs) }
+        ensures left { self.new.constants ≡ drop 1 self.old.constants }
     {
-        if self.leave_older() {
-            return Ok(());
-        }
-        self.turn()?;
-        let _ = self.leave_older();
-        Ok(())
-    }
-
-    /// The constant leaves that came first of the older block. False where that block is used up, and then nothing changed.
-    fn leave_older(&mut self) -> bool
-        ensures side { self.new.side ≡ self.old.side }
-        ensures newer { self.new.newer.items ≡ self.old.newer.items }
-        ensures best { self.new.best ≡ self.old.best }
-        ensures stands { result ≡ true → (newer : List P) (best : Option P) (c : P) (cs : List P)
-            → StandsFor P.function self.old.older.items newer self.old.side best (c ∷ cs)
-            → StandsFor P.function self.new.older.items newer self.old.side best cs }
-        ensures none { result ≡ false → (self.old.older.items ≡ []) × (self.new.older.items ≡ []) }
-    {
-        match self.older.pop() {
-            Some(_) => true,
-            None => false,
-        }
-    }
-
-    /// The newer block becomes the older.
-    fn turn(&mut self) -> Result<(), Memory>
-        requires { self.old.older.items ≡ [] }
-        ensures side { self.new.side ≡ self.old.side }
-        ensures older { OnOk result (AreBests P.function self.old.side self.new.older.items self.old.newer.items) }
-        ensures newer { OnOk result (self.new.newer.items ≡ []) }
-        ensures best { OnOk result (self.new.best ≡ None) }
-    {
-        while let Some(constant) = self.newer.pop() {
-            let best = better_of(self.side, constant, self.older.last().copied());
-            let Ok(()) = self.older.push(best) else {
-                return Err(Memory);
-            };
-        }
-        self.best = None;
-        Ok(())
+        self.range.leave_before(1);
+        let _ = self.constants.pop_front();
     }
 
     /// The best of those that are there.
     pub(crate) fn top(&self) -> Option<P>
-        ensures { (cs : List P) → StandsFor P.function self.now.older.items self.now.newer.items self.now.side self.now.best cs
-            → IsBestOf P.function self.now.side cs result }
+        ensures { IsBestOf P.function self.now.side self.now.constants result }
     {
-        match self.older.last() {
-            Some(older) => Some(better_of(self.side, *older, self.best)),
-            None => self.best,
+        match self.range.greatest() {
+            Some(place) => Some(self.constants[place]),
+            None => None,
         }
     }
 }

@@ -6,7 +6,7 @@ ghost use Rattle.std.specs.Prelude.{OnOk, IfSome, IsSomeAnd, MatchBool, MatchOpt
 ghost use Rattle.rational.specs.Rational.{Rational, IsWithin, ◌≈◌, whole};
 ghost use Rattle.rational.specs.Time.{◌<ʳ◌, ◌≤ʳ◌, shifted};
 ghost use Rattle.rational.specs.Extended.{value_at, minus_infinity, infinity, ◌≈ᵉ◌};
-ghost use Rattle.rational.specs.Affine.{IsBounded};
+ghost use Rattle.rational.specs.Affine.{HasBoundedLevel, IsBounded, IsSteady};
 ghost use Rattle.frac128.specs.Value.{value};
 ghost use Rattle.value_laws.specs.Margins.{is_ramp, margin_function};
 ghost use Rattle.envelope.specs.Turns.{none_of};
@@ -17,7 +17,6 @@ ghost use Rattle.online_robust.specs.ReadLines.{IsBuilt, IsStretch, IsThere};
 ghost use Rattle.pl_signal.specs.Knots.{stop as last_of};
 ghost use Rattle.stl_syntax.specs.Trace.{start as start_of};
 ghost use Rattle.online_robust.specs.Told.{IsMovedBy, IsTick};
-ghost use Rattle.online_robust.specs.Queues.{StandsFor};
 ghost use Rattle.online_robust.specs.Windows.{CanSweep, Goes, HasCome, IsAt, IsWindowFault, IsBetterOf, IsFitWindow, IsGoing};
 ghost use Rattle.online_robust.specs.Windows.{IsGone, IsHigh, IsUnfixed, IsUnfixedHigh, IsUnmet, Keeps, Scope, Sheds, IsLow};
 ghost use Rattle.online_robust.specs.Windows.{IsNextStop, IsOpen, IsOutcome, IsOwned, IsPointOf, IsShifted, IsTickEnd};
@@ -133,6 +132,8 @@ pub(crate) fn frozen(
     requires after { IsBounded (2 ^ 31) (value_at (margin_function after.now) (value u.now)) }
     requires unset { fault.old ≡ None }
     ensures frozen { IfOk result (IsFrozen side before.now point.now after.now (value u.now)) }
+    ensures steady { IfOk result (λ c. IsSteady (margin_function c)) }
+    ensures level { IfOk result (λ c. HasBoundedLevel (2 ^ 31) (margin_function c)) }
     ensures still { OnOk result (fault.new ≡ None) }
     ensures fault { OnErr result (IsUnfixed before.now point.now after.now u.now (told_by fault.new)) }
 {
@@ -233,7 +234,7 @@ impl Sweep {
         ensures at { value result.place.at ≈ whole (pos start -ℤ pos 4294967296) }
         ensures last { result.last ≡ None }
         ensures side { result.among.side ≡ window.side }
-        ensures among { StandsFor margin_function result.among.older.items result.among.newer.items window.side result.among.best [] }
+        ensures among { result.among.constants ≡ [] }
     {
         let begin = i64::from(start);
         let start = Frac::of(begin);
@@ -341,16 +342,16 @@ impl Sweep {
     }
 
     /// The low end stands on a point, and goes on. It gives the margin of the point.
-    fn go_low(&mut self, edges: &mut Edges) -> Result<Margin, Memory>
+    fn go_low(&mut self, edges: &mut Edges) -> Margin
         requires { (x : Scope) × IsAt x self.old edges.old × IsLow x self.old }
         ensures stands { (x : Scope) → IsAt x self.old edges.old → IsLow x self.old
-            → OnOk result (IsAt x self.new edges.new × IsBefore (low_at x self.new.window) self.new.place.low.until) }
+            → IsAt x self.new edges.new × IsBefore (low_at x self.new.window) self.new.place.low.until }
         ensures point { (x : Scope) → IsAt x self.old edges.old → IsLow x self.old
-            → IfOk result (IsThere (input_of x self.old.window.side) x.reach (low_at x self.old.window)) }
-        ensures kept { OnOk result (Keeps self.old self.new × (self.new.place.high ≡ self.old.place.high)) }
+            → IsThere (input_of x self.old.window.side) x.reach (low_at x self.old.window) result }
+        ensures kept { Keeps self.old self.new × (self.new.place.high ≡ self.old.place.high) }
         ensures shed { (x : Scope) → IsAt x self.old edges.old → IsLow x self.old
-            → OnOk result (Sheds (low_at x self.old.window) self.old.window.of edges.old edges.new) }
-        ensures fewer { OnOk result (lines_left (edge_at edges.new self.old.window.of) < lines_left (edge_at edges.old self.old.window.of)) }
+            → Sheds (low_at x self.old.window) self.old.window.of edges.old edges.new }
+        ensures fewer { lines_left (edge_at edges.new self.old.window.of) < lines_left (edge_at edges.old self.old.window.of) }
     {
         self.drop_gap(edges);
         let Some(line) = edges.ahead(self.window.of) else {
@@ -362,19 +363,17 @@ impl Sweep {
         let next = front(edges, self.window.of, self.none);
         if self.is_plain(&self.place.low.shape, &point, &next.shape, &u) {
             self.place.low = next;
-            return Ok(point);
+            return point;
         }
-        self.among.leave()?;
+        self.among.leave();
         self.place.low = next;
-        Ok(point)
+        point
     }
 
     /// The best of the constants between the ends, or the value of no times.
     #[inline(always)]
     fn top(&self) -> Margin
-        ensures { (cs : List Margin)
-            → StandsFor margin_function self.now.among.older.items self.now.among.newer.items self.now.among.side self.now.among.best cs
-            → IsTopOf margin_function self.now.among.side self.now.none cs result }
+        ensures { IsTopOf margin_function self.now.among.side self.now.none self.now.among.constants result }
     {
         match self.among.top() {
             Some(top) => top,
@@ -387,9 +386,7 @@ impl Sweep {
     fn best(&self) -> Best<Margin>
         requires { (x : Scope) × IsFitWindow self.now.window x.reach × IsMovedBy x.reach self.now.place.low.shape
             × IsMovedBy x.reach self.now.place.high.shape }
-        ensures top { (cs : List Margin)
-            → StandsFor margin_function self.now.among.older.items self.now.among.newer.items self.now.among.side self.now.among.best cs
-            → IsTopOf margin_function self.now.among.side self.now.none cs result.top }
+        ensures top { IsTopOf margin_function self.now.among.side self.now.none self.now.among.constants result.top }
         ensures low { IsSomeAnd result.low (IsShifted self.now.place.low.shape self.now.window.low) }
         ensures high { IsSomeAnd result.high (IsShifted self.now.place.high.shape self.now.window.high) }
     {
@@ -444,45 +441,45 @@ impl Sweep {
     }
 
     /// The low end comes to the time: where it stands on a point it goes on, and the point is given if that end is in.
-    fn low_point(&mut self, edges: &mut Edges, t: &Frac) -> Result<Option<Margin>, Memory>
+    fn low_point(&mut self, edges: &mut Edges, t: &Frac) -> Option<Margin>
         requires at { (x : Scope) × IsAt x self.old edges.old × (x.at ≡ value t.now) }
         requires within { IsWithin (2 ^ 34) (value t.now) }
         requires reaches { IsUpTo (shifted (value t.now) self.old.window.high) self.old.place.high.until }
         ensures stands { (x : Scope) → IsAt x self.old edges.old → x.at ≡ value t.now
-            → OnOk result (IsAt x self.new edges.new × IsBefore (low_at x self.new.window) self.new.place.low.until) }
+            → IsAt x self.new edges.new × IsBefore (low_at x self.new.window) self.new.place.low.until }
         ensures point { (x : Scope) → IsAt x self.old edges.old → x.at ≡ value t.now
-            → IfOk result (IsPointOf (input_of x self.old.window.side) x.reach self.old.window.low_in self.old.window.low self.old.place.low (value t.now)) }
-        ensures kept { OnOk result (Keeps self.old self.new × (self.new.place.high ≡ self.old.place.high)) }
+            → IsPointOf (input_of x self.old.window.side) x.reach self.old.window.low_in self.old.window.low self.old.place.low (value t.now) result }
+        ensures kept { Keeps self.old self.new × (self.new.place.high ≡ self.old.place.high) }
         ensures shed { (x : Scope) → IsAt x self.old edges.old → x.at ≡ value t.now
-            → OnOk result (Sheds (low_at x self.old.window) self.old.window.of edges.old edges.new) }
-        ensures stays { ¬ EndsAt self.old.place.low.until (shifted (value t.now) self.old.window.low) → OnOk result (self.new ≡ self.old) }
+            → Sheds (low_at x self.old.window) self.old.window.of edges.old edges.new }
+        ensures stays { ¬ EndsAt self.old.place.low.until (shifted (value t.now) self.old.window.low) → self.new ≡ self.old }
         ensures fewer { EndsAt self.old.place.low.until (shifted (value t.now) self.old.window.low)
-            → OnOk result (lines_left (edge_at edges.new self.old.window.of) < lines_left (edge_at edges.old self.old.window.of)) }
-        ensures no_more { OnOk result (lines_left (edge_at edges.new self.old.window.of) ≤ lines_left (edge_at edges.old self.old.window.of)) }
+            → lines_left (edge_at edges.new self.old.window.of) < lines_left (edge_at edges.old self.old.window.of) }
+        ensures no_more { lines_left (edge_at edges.new self.old.window.of) ≤ lines_left (edge_at edges.old self.old.window.of) }
     {
         if self.place.low.ends_at(self.window.low, t) {
             return self.under_low(edges);
         }
-        Ok(None)
+        None
     }
 
     /// The low end stands on a point, and goes on. It gives the margin of the point, if that end is in.
-    fn under_low(&mut self, edges: &mut Edges) -> Result<Option<Margin>, Memory>
+    fn under_low(&mut self, edges: &mut Edges) -> Option<Margin>
         requires { (x : Scope) × IsAt x self.old edges.old × IsLow x self.old }
         ensures stands { (x : Scope) → IsAt x self.old edges.old → IsLow x self.old
-            → OnOk result (IsAt x self.new edges.new × IsBefore (low_at x self.new.window) self.new.place.low.until) }
+            → IsAt x self.new edges.new × IsBefore (low_at x self.new.window) self.new.place.low.until }
         ensures point { (x : Scope) → IsAt x self.old edges.old → IsLow x self.old
-            → IfOk result (IsPointOf (input_of x self.old.window.side) x.reach self.old.window.low_in self.old.window.low self.old.place.low x.at) }
-        ensures kept { OnOk result (Keeps self.old self.new × (self.new.place.high ≡ self.old.place.high)) }
+            → IsPointOf (input_of x self.old.window.side) x.reach self.old.window.low_in self.old.window.low self.old.place.low x.at result }
+        ensures kept { Keeps self.old self.new × (self.new.place.high ≡ self.old.place.high) }
         ensures shed { (x : Scope) → IsAt x self.old edges.old → IsLow x self.old
-            → OnOk result (Sheds (low_at x self.old.window) self.old.window.of edges.old edges.new) }
-        ensures fewer { OnOk result (lines_left (edge_at edges.new self.old.window.of) < lines_left (edge_at edges.old self.old.window.of)) }
+            → Sheds (low_at x self.old.window) self.old.window.of edges.old edges.new }
+        ensures fewer { lines_left (edge_at edges.new self.old.window.of) < lines_left (edge_at edges.old self.old.window.of) }
     {
-        let point = self.go_low(edges)?;
+        let point = self.go_low(edges);
         if self.window.low_in {
-            return Ok(Some(point.shift(self.window.low)));
+            return Some(point.shift(self.window.low));
         }
-        Ok(None)
+        None
     }
 
     /// Where the high end stands on a point, it goes on.
@@ -513,31 +510,31 @@ impl Sweep {
     }
 
     /// Both ends stand within their gaps. Goes on to the next time at which what counts may change, or to the time `to`.
-    fn go_to(&mut self, edges: &mut Edges, to: &Frac) -> Result<Gone, Memory>
+    fn go_to(&mut self, edges: &mut Edges, to: &Frac) -> Gone
         requires { (x : Scope) × IsAt x self.old edges.old × IsOpen x self.old (value to.now) }
         ensures stands { (x : Scope) → IsAt x self.old edges.old → IsOpen x self.old (value to.now)
-            → OnOk result (IsAt (at_time x (value self.new.place.at) (value self.new.place.at)) self.new edges.new
-            × IsBefore (shifted (value self.new.place.at) self.new.window.low) self.new.place.low.until) }
+            → IsAt (at_time x (value self.new.place.at) (value self.new.place.at)) self.new edges.new
+            × IsBefore (shifted (value self.new.place.at) self.new.window.low) self.new.place.low.until }
         ensures told { (x : Scope) → IsAt x self.old edges.old → IsOpen x self.old (value to.now)
-            → IfOk result (λ gone. IsGone x self.old.window (value to.now) (value self.new.place.at) gone.best gone.to) }
-        ensures kept { OnOk result (Goes self.old self.new) }
+            → IsGone x self.old.window (value to.now) (value self.new.place.at) result.best result.to }
+        ensures kept { Goes self.old self.new }
         ensures shed { (x : Scope) → IsAt x self.old edges.old → IsOpen x self.old (value to.now)
-            → OnOk result (Sheds (shifted (value self.new.place.at) self.old.window.low) self.old.window.of edges.old edges.new) }
+            → Sheds (shifted (value self.new.place.at) self.old.window.low) self.old.window.of edges.old edges.new }
         ensures fewer { (x : Scope) → IsAt x self.old edges.old → IsOpen x self.old (value to.now)
-            → OnOk result (steps_left self.old.window self.new.place (edge_at edges.new self.old.window.of)
-            (value to.now) < 2 * lines_left (edge_at edges.old self.old.window.of) + 2) }
+            → steps_left self.old.window self.new.place (edge_at edges.new self.old.window.of)
+            (value to.now) < 2 * lines_left (edge_at edges.old self.old.window.of) + 2 }
     {
         let t = self.next_stop(to);
         let before = self.best();
         let at_high = self.high_point(edges, &t);
-        let at_low = self.low_point(edges, &t)?;
+        let at_low = self.low_point(edges, &t);
         let after = self.best();
         let value = worth(self.window.side, &after, &at_high, &at_low, &t);
         self.place.at = t;
-        Ok(Gone {
+        Gone {
             best: before,
             to: Reached { at: t, value },
-        })
+        }
     }
 
     /// Goes on to the next time at which what counts may change, or to the time `to`.
@@ -561,11 +558,11 @@ impl Sweep {
         ensures fewer { OnOk result (steps_left self.old.window self.new.place (edge_at edges.new self.old.window.of) (value to.now)
             < steps_left self.old.window self.old.place (edge_at edges.old self.old.window.of) (value to.now)) }
         ensures still { OnOk result (fault.new ≡ None) }
-        ensures wide { (x : Scope) → IsAt x self.old edges.old → IsGoing x self.old (value to.now) → OnErr result (IsUnfixedHigh x self.old (told_by fault.new)) }
+        ensures wide { (x : Scope) → IsAt x self.old edges.old → IsGoing x self.old (value to.now)
+            → OnErr result (IsUnfixedHigh x self.old (told_by fault.new)) }
     {
         self.high_on(edges, fault)?;
-        let gone = self.go_to(edges, to)?;
-        Ok(gone)
+        Ok(self.go_to(edges, to))
     }
 
     /// Where it was told before; or goes on to the start.

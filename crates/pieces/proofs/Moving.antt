@@ -85,19 +85,24 @@ module _ {P : Type 0} (shape : ShapeOf P) (laws : ShapeLaws shape) (chain : Chai
       reached = reached;
     }
 
-  -- a window that has told up to where its high end comes to a place, at most, has come no further than that place
-  pub reached_on : (c reach a b next : Place) → ((t : Rational) → Before reach (high shape laws chain way normal t)
-      → Before c (high shape laws chain way normal t))
-      → (AtMost a chain.from ⊎ ((t : Rational) → Upto a t → ¬ Before c (high shape laws chain way normal t))) → AtMost b next
-      → (AtMost next a ⊎ ((t : Rational) → Upto next t → ¬ Before reach (high shape laws chain way normal t)))
-      → AtMost b chain.from ⊎ ((t : Rational) → Upto b t → ¬ Before reach (high shape laws chain way normal t))
-  reached_on c reach a b next further before upto one = elim one [
-    | inl h ↦ elim before [
-      | inl k ↦ inl (at_most_trans b a chain.from (at_most_trans b next a upto h) k)
-      | inr k ↦ inr (λ t u f. k t (h t (upto t u)) (further t f))
-    ]
-    | inr h ↦ inr (λ t u. h t (upto t u))
-  ]
+  -- its high end has come no further than a later place either
+  pub keeps_further : (met reach further left : Place) (s : Sliding P) → AtMost reach further → Keeps shape chain way met reach left s
+      → Keeps shape chain way met further left s
+  keeps_further met reach further left s most k = record {
+    normal = k.normal;
+    begins = k.begins;
+    on = k.on;
+    upto = k.upto;
+    told = k.told;
+    steps = k.steps;
+    gives = k.gives;
+    sees = k.sees;
+    none = k.none;
+    reached = elim k.reached [
+      | inl h ↦ inl h
+      | inr h ↦ inr (λ t u b. h t u (before_of_at_most reach further (high shape laws chain way normal t) most b))
+    ];
+  }
 
   -- what is told where the shape is never better than no value
   pub best_with_none : (met left : Place) (gap : P) (old : Sliding P) → Stands shape chain way met left old → AtMost met left

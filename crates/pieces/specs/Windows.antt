@@ -1,10 +1,11 @@
 -- A window that moves with the time over a chain of pieces: what is seen from a time, the best of it, and what has been met.
 use Rattle.std.specs.Prelude.{◌≡◌, ◌⊎◌, ◌^◌, ℕ, Option, Bool, ℤ, ◌≤ℤ◌, ◌<ℤ◌, ◌-ℤ◌, pos, neg_ℤ, not, IsTrue}
-use Rattle.rational.specs.Rational.{add, whole}
+use Rattle.rational.specs.Rational.{IsWithin, add, whole}
 use Rattle.rational.specs.Time.{Rational, ◌≤ʳ◌, ◌≈◌}
 use Rattle.rational.specs.Extended.{Extended, value_at}
 use Rattle.rational.specs.Places.{Place, After, Upto, Before, AtMost}
 use Rattle.rational.specs.Windows.{Function, Ahead, Behind, IsSupOver, IsInfOver}
+use Rattle.frac128.specs.Cuts.{place}
 use Rattle.value_laws.specs.Members.{ShapeOf}
 use Rattle.pl_signal.specs.declared.joining.Side.{Side}
 use Rattle.pieces.specs.declared.piece.Piece.{Piece}
@@ -54,6 +55,19 @@ pub record IsSmall (over : Reach) : Type 0 where
 -- some time may lie in the window
 abbrev pub IsNonEmpty : Reach → Type 0
 IsNonEmpty over = (over.low <ℤ over.high) ⊎ ((over.low ≡ over.high) × IsTrue over.low_in × IsTrue over.high_in)
+
+-- up to the place e, and no further, the window on its way begins before the place c, in the domain
+pub record IsLeft (way : Way) (c e : Place) : Type 0 where
+  pub upto : (t : Rational) → Upto e t → Before (low_place way.over.low way.over.low_in t) c × Upto (place way.to) t
+  pub after : (t : Rational) → After e t → Upto (place way.to) t → ¬ Before (low_place way.over.low way.over.low_in t) c
+  pub within : IsWithin (2 ^ 34) e.at
+
+-- up to the place e, and no further, it ends no later than the place c, in the domain
+pub record IsReached (way : Way) (c e : Place) : Type 0 where
+  pub upto : AtMost e (place way.to)
+  pub before : (t : Rational) → Upto e t → ¬ Before c (high_place way.over.high way.over.high_in t)
+  pub after : (t : Rational) → After e t → Upto (place way.to) t → Before c (high_place way.over.high way.over.high_in t)
+  pub within : IsWithin (2 ^ 34) e.at
 
 module _ {P : Type 0} (shape : ShapeOf P) where
   -- each base is a time from -2^32 to 2^33

@@ -35,9 +35,13 @@ pub fn until_to_end<P: Shape>(a: &Pieces<P>, b: &Pieces<P>) -> Result<Pieces<P>,
     // For the proof alone: that both are normal is a clause of `len`.
     let _ = a.len();
     let _ = b.len();
-    let left = run_back(a)?;
-    let right = run_back(b)?;
-    match since_from_start(&left, &right) {
+    // Both sides that run back are gone before the since runs back.
+    let told = {
+        let left = run_back(a)?;
+        let right = run_back(b)?;
+        since_from_start(&left, &right)
+    };
+    match told {
         Ok(since) => Ok(run_back(&since)?),
         Err(fault) => Err(fault.mirrored(0)),
     }

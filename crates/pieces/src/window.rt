@@ -14,7 +14,7 @@ ghost use Rattle.pieces.specs.Chains.{IsLimited, Tells, end, stop};
 ghost use Rattle.pieces.specs.Over.{BasesOver, HasBreaks, HasCauseOver, IsCauseOver, Plays};
 ghost use Rattle.pieces.specs.Sliding.{last_end};
 ghost use Rattle.pieces.specs.Steps.{AreSteps, HideTo};
-ghost use Rattle.pieces.specs.Windows.{AreNear, Best, BestOver, CanSlide, HasEntered, IsAtEnd, IsBestEnd, IsNonEmpty, IsPieceFrom, IsSmall};
+ghost use Rattle.pieces.specs.Windows.{AreNear, Best, BestOver, CanSlide, HasEntered, IsAtEnd, IsBestEnd, IsLeft, IsNonEmpty, IsPieceFrom, IsReached, IsSmall};
 ghost use Rattle.pieces.specs.Windows.{Keeps, Stands, high_place, low_place};
 
 use crate::reach::{Reach, Way, at_high, at_low, entering, leaving};
@@ -89,19 +89,21 @@ fn slide_over<P: Shape>(
     }
     let mut from = s.from();
     enter(s, way, &from, window, fault)?;
+    let mut gone = left(way, &from);
     for i in 0..s.len() {
         let piece = s.piece(i);
-        meet(s, way, &from, piece, window, fault)?;
+        meet(s, way, &from, &mut gone, piece, window, fault)?;
         from = piece.until;
     }
     window.tell(way.side, &none, true, &way.to, fault)
 }
 
-/// Lets the window meet the next piece, which begins at `from`.
+/// Lets the window meet the next piece, which begins at `from`, the place that it has left at `gone`.
 fn meet<P: Shape>(
     s: &Pieces<P>,
     way: &Way,
     from: &Cut,
+    gone: &mut Cut,
     piece: &Piece<P>,
     window: &mut Sliding<P>,
     fault: &mut Option<WidePair<P>>,
@@ -110,6 +112,7 @@ fn meet<P: Shape>(
     requires to { place way.now.to ≡ stop s.now }
     requires some { IsNonEmpty way.now.over }
     requires piece { IsPieceFrom P.Shape s.now (place from.now) piece.now }
+    requires gone { IsLeft way.now (place from.now) (place gone.old) }
     requires stands { Stands P.Shape s.now way.now (place from.now) (place from.now) window.old }
     requires entered { HasEntered P.Shape s.now way.now (place from.now) window.old }
     requires breaks { HasBreaks P.Shape s.now (place from.now) piece.now }
@@ -117,24 +120,29 @@ fn meet<P: Shape>(
     requires none { fault.old ≡ None }
     ensures stands { OnOk result (Stands P.Shape s.now way.now (end piece.now) (end piece.now) window.new) }
     ensures entered { OnOk result (HasEntered P.Shape s.now way.now (end piece.now) window.new) }
+    ensures gone { OnOk result (IsLeft way.now (end piece.now) (place gone.new)) }
     ensures still { OnOk result (fault.new ≡ None) }
     ensures plays { OnOk result (Plays P.Shape s.now way.now.over window.new) }
     ensures wide { OnErr result (IfSome fault.new (IsCauseOver P.Shape s.now way.now.over)) }
 {
+    let until = left(way, &piece.until);
     match trend(way.side, &piece.shape) {
         Ordering::Equal => {
-            steady(s, way, from, piece, window)?;
-            enter(s, way, &piece.until, window, fault)
+            steady(s, way, from, piece, &until, window)?;
+            enter(s, way, &piece.until, window, fault)?;
         }
-        Ordering::Greater => rising(s, way, from, piece, window, fault),
+        Ordering::Greater => rising(s, way, from, piece, &until, window, fault)?,
         Ordering::Less => {
-            falling(s, way, from, piece, window, fault)?;
-            enter(s, way, &piece.until, window, fault)
+            falling(s, way, from, gone, piece, &until, window, fault)?;
+            enter(s, way, &piece.until, window, fault)?;
         }
     }
+    *gone = until;
+    Ok(())
 }
 
 /// Tells up to where the window reaches past the place: up to there no more comes into it.
+#[inline(always)]
 fn enter<P: Shape>(
     s: &Pieces<P>,
     way: &Way,
@@ -157,7 +165,9 @@ fn enter<P: Shape>(
 {
     // For the proof alone: over which chain the window moves.
     let _ = s;
-    let next = reached(way, met, &window.out.until());
+    let Some(next) = reached(way, met, &window.out.until()) else {
+        return Ok(());
+    };
     window.tell(way.side, &of_none(way.side), true, &next, fault)
 }
 
@@ -167,6 +177,7 @@ fn steady<P: Shape>(
     way: &Way,
     from: &Cut,
     piece: &Piece<P>,
+    until: &Cut,
     window: &mut Sliding<P>,
 ) -> Result<(), Memory>
     requires can { CanSlide P.Shape s.now way.now.over }
@@ -177,6 +188,7 @@ fn steady<P: Shape>(
     requires stands { Stands P.Shape s.now way.now (place from.now) (place from.now) window.old }
     requires entered { HasEntered P.Shape s.now way.now (place from.now) window.old }
     requires breaks { HasBreaks P.Shape s.now (place from.now) piece.now }
+    requires left { IsLeft way.now (end piece.now) (place until.now) }
     requires plays { Plays P.Shape s.now way.now.over window.old }
     ensures stands { OnOk result (Stands P.Shape s.now way.now (place piece.now.until) (place piece.now.until) window.new) }
     ensures plays { OnOk result (Plays P.Shape s.now way.now.over window.new) }
@@ -184,11 +196,10 @@ fn steady<P: Shape>(
     // For the proof alone: where the piece stands in the chain.
     let _ = s;
     let _ = from;
-    let until = left(way, &piece.until);
     let at = window.out.until();
-    if at.precedes(&until) {
+    if at.precedes(until) {
         let level = at_high(&way.over, &piece.shape);
-        return count(way.side, &at, &mut window.steps, &level, &until);
+        return count(way.side, &at, &mut window.steps, &level, until);
     }
     Ok(())
 }
@@ -199,6 +210,7 @@ fn rising<P: Shape>(
     way: &Way,
     from: &Cut,
     piece: &Piece<P>,
+    until: &Cut,
     window: &mut Sliding<P>,
     fault: &mut Option<WidePair<P>>,
 ) -> Result<(), Memory>
@@ -210,6 +222,7 @@ fn rising<P: Shape>(
     requires stands { Stands P.Shape s.now way.now (place from.now) (place from.now) window.old }
     requires entered { HasEntered P.Shape s.now way.now (place from.now) window.old }
     requires breaks { HasBreaks P.Shape s.now (place from.now) piece.now }
+    requires left { IsLeft way.now (end piece.now) (place until.now) }
     requires plays { Plays P.Shape s.now way.now.over window.old }
     requires none { fault.old ≡ None }
     ensures stands { OnOk result (Stands P.Shape s.now way.now (end piece.now) (end piece.now) window.new) }
@@ -218,10 +231,12 @@ fn rising<P: Shape>(
     ensures plays { OnOk result (Plays P.Shape s.now way.now.over window.new) }
     ensures wide { OnErr result (IfSome fault.new (IsCauseOver P.Shape s.now way.now.over)) }
 {
+    let Some(next) = reached(way, &piece.until, &window.out.until()) else {
+        return hold(s, way, from, piece, &piece.until, until, window, fault);
+    };
     let gap = at_high(&way.over, &piece.shape);
-    let next = reached(way, &piece.until, &window.out.until());
     window.tell(way.side, &gap, false, &next, fault)?;
-    hold(s, way, from, piece, &piece.until, window, fault)
+    hold(s, way, from, piece, &piece.until, until, window, fault)
 }
 
 /// A piece that gets worse counts by its first value, and then as itself while the window's low end moves over it.
@@ -229,7 +244,9 @@ fn falling<P: Shape>(
     s: &Pieces<P>,
     way: &Way,
     from: &Cut,
+    gone: &Cut,
     piece: &Piece<P>,
+    until: &Cut,
     window: &mut Sliding<P>,
     fault: &mut Option<WidePair<P>>,
 ) -> Result<(), Memory>
@@ -241,6 +258,8 @@ fn falling<P: Shape>(
     requires stands { Stands P.Shape s.now way.now (place from.now) (place from.now) window.old }
     requires entered { HasEntered P.Shape s.now way.now (place from.now) window.old }
     requires breaks { HasBreaks P.Shape s.now (place from.now) piece.now }
+    requires gone { IsLeft way.now (place from.now) (place gone.now) }
+    requires left { IsLeft way.now (end piece.now) (place until.now) }
     requires plays { Plays P.Shape s.now way.now.over window.old }
     requires none { fault.old ≡ None }
     ensures stands { OnOk result (Stands P.Shape s.now way.now (end piece.now) (end piece.now) window.new) }
@@ -248,20 +267,21 @@ fn falling<P: Shape>(
     ensures plays { OnOk result (Plays P.Shape s.now way.now.over window.new) }
     ensures wide { OnErr result (IfSome fault.new (IsCauseOver P.Shape s.now way.now.over)) }
 {
-    hold(s, way, from, piece, from, window, fault)?;
+    hold(s, way, from, piece, from, gone, window, fault)?;
     let slope = at_low(&way.over, &piece.shape);
-    let until = left(way, &piece.until);
     let at = window.out.until();
-    slide(way.side, &at, &mut window.steps, &slope, &until)
+    slide(way.side, &at, &mut window.steps, &slope, until)
 }
 
 /// The best value of a piece, which it has at that one of its ends, counts until the window has left that end.
+#[inline(always)]
 fn hold<P: Shape>(
     s: &Pieces<P>,
     way: &Way,
     from: &Cut,
     piece: &Piece<P>,
     best: &Cut,
+    until: &Cut,
     window: &mut Sliding<P>,
     fault: &mut Option<WidePair<P>>,
 ) -> Result<(), Memory>
@@ -273,6 +293,7 @@ fn hold<P: Shape>(
     requires keeps { Keeps P.Shape s.now way.now (place from.now) (place best.now) (place from.now) window.old }
     requires entered { HasEntered P.Shape s.now way.now (place best.now) window.old }
     requires breaks { HasBreaks P.Shape s.now (place from.now) piece.now }
+    requires left { IsLeft way.now (place best.now) (place until.now) }
     requires plays { Plays P.Shape s.now way.now.over window.old }
     requires none { fault.old ≡ None }
     ensures stands { OnOk result (Stands P.Shape s.now way.now (end piece.now) (place best.now) window.new) }
@@ -286,16 +307,15 @@ fn hold<P: Shape>(
     // For the proof alone: where the piece stands in the chain.
     let _ = s;
     let _ = from;
-    let until = left(way, best);
     let at = window.out.until();
-    if !at.precedes(&until) {
+    if !at.precedes(until) {
         return Ok(());
     }
-    if is_hidden(way, &at, &window.steps, &piece.shape, &best.time, &until) {
+    if is_hidden(way, &at, &window.steps, &piece.shape, &best.time, until) {
         return Ok(());
     }
-    let value = constant(way, &piece.shape, &best.time, &at, &until, fault)?;
-    count(way.side, &at, &mut window.steps, &value, &until)
+    let value = constant(way, &piece.shape, &best.time, &at, until, fault)?;
+    count(way.side, &at, &mut window.steps, &value, until)
 }
 
 /// Whether the last step goes on to the place, and what it gives is no worse than the value of the shape at the time, which then need not
@@ -457,25 +477,23 @@ fn at_end<P: Shape>(over: &Reach, shape: &P, time: &Frac, here: &Frac) -> P
     }
 }
 
-/// The place from which on the window reaches past the place `met`, in the domain, and no earlier than `at`.
+/// The place from which on the window reaches past the place `met`, in the domain; none where it does so from `at` on.
 #[inline(always)]
-fn reached(way: &Way, met: &Cut, at: &Cut) -> Cut
+fn reached(way: &Way, met: &Cut, at: &Cut) -> Option<Cut>
     requires from { whole (pos 0) ≤ʳ value_of met.now.time }
     requires to { value_of met.now.time ≤ʳ whole (pos (2 ^ 32)) }
     requires small { IsSmall way.now.over }
-    requires at_within { IsWithin (2 ^ 34) (value_of at.now.time) }
     requires to_within { IsWithin (2 ^ 34) (value_of way.now.to.time) }
-    ensures on { AtMost (place at.now) (place result) }
-    ensures upto { AtMost (place at.now) (place way.now.to) → AtMost (place result) (place way.now.to) }
-    ensures before { (t : Rational) → After (place at.now) t → Upto (place result) t
-        → ¬ Before (place met.now) (high_place way.now.over.high way.now.over.high_in t) }
-    ensures after { (t : Rational) → After (place result) t → Upto (place way.now.to) t
+    ensures none { result ≡ None → (t : Rational) → After (place at.now) t
         → Before (place met.now) (high_place way.now.over.high way.now.over.high_in t) }
-    ensures one { AtMost (place result) (place at.now)
-        ⊎ ((t : Rational) → Upto (place result) t → ¬ Before (place met.now) (high_place way.now.over.high way.now.over.high_in t)) }
-    ensures within { IsWithin (2 ^ 34) (value_of result.time) }
+    ensures on { IfSome result (λ e. AtMost (place at.now) (place way.now.to) → AtMost (place at.now) (place e)) }
+    ensures some { IfSome result (λ e. IsReached way.now (place met.now) (place e)) }
 {
-    entering(&way.over, met).earlier(way.to).later(*at)
+    let past = entering(&way.over, met);
+    if !at.precedes(&past) {
+        return None;
+    }
+    Some(past.earlier(way.to))
 }
 
 /// The place up to which the window begins before the place, in the domain.
@@ -485,11 +503,7 @@ fn left(way: &Way, c: &Cut) -> Cut
     requires to { value_of c.now.time ≤ʳ whole (pos (2 ^ 32)) }
     requires small { IsSmall way.now.over }
     requires to_within { IsWithin (2 ^ 34) (value_of way.now.to.time) }
-    ensures upto { (t : Rational) → Upto (place result) t
-        → Before (low_place way.now.over.low way.now.over.low_in t) (place c.now) × Upto (place way.now.to) t }
-    ensures after { (t : Rational) → After (place result) t → Upto (place way.now.to) t
-        → ¬ Before (low_place way.now.over.low way.now.over.low_in t) (place c.now) }
-    ensures within { IsWithin (2 ^ 34) (value_of result.time) }
+    ensures { IsLeft way.now (place c.now) (place result) }
 {
     leaving(&way.over, c).earlier(way.to)
 }

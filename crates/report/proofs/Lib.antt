@@ -33,3 +33,4 @@ pub mod JsonItems
 pub mod ReportTexts
 pub mod FaultLines
 pub mod Blocks
+pub mod RoomTexts

@@ -1,5 +1,5 @@
 -- The text of a span from its parts.
-use Rattle.std.proofs.Common.{◌≡◌, ℕ, List, ◌++◌, Bool, if◌then◌else◌, codes, append_assoc, refl}
+use Rattle.std.proofs.Common.{◌≡◌, ◌≤◌, ℕ, List, ◌++◌, Bool, true, false, if◌then◌else◌, codes, length, append_assoc, refl, arith}
 use Rattle.frac128.specs.Value.{value}
 use Rattle.frac128.specs.declared.span.Span.{Span}
 use Rattle.stl_syntax.specs.declared.scale.Scale.{Scale}
@@ -35,3 +35,10 @@ line_is scale v from to p q =
   where
     together : (a b c d e : List ℕ) → a ++ (b ++ c ++ d ++ e) ≡ a ++ b ++ c ++ d ++ e
     together a b c d e = simp append_assoc
+
+-- an ending is short
+pub end_short : (a b : Bool) → length ((if a then codes "]" else codes ")") ++ codes " " ++ bool_text b ++ newline) ≤ 8
+end_short true true = omega arith
+end_short true false = omega arith
+end_short false true = omega arith
+end_short false false = omega arith

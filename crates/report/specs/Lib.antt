@@ -22,3 +22,4 @@ pub mod After
 pub mod Shown
 pub mod Forms
 pub mod Blocks
+pub mod Rooms

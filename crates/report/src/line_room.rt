@@ -1,12 +1,13 @@
 //! Lines of an answer on their way to the output, in a room that is taken once.
-ghost use Rattle.std.specs.Prelude.{◌≡◌, ◌≤◌, ◌+◌, ◌++◌, ◌↔◌, [], length, IfOk, IsTrue};
+ghost use Rattle.std.specs.Prelude.{◌≡◌, ◌≤◌, ◌+◌, ◌++◌, ◌↔◌, [], length, IfOk, IfSome, IsTrue};
+ghost use Rattle.frac128.specs.Value.{value};
 ghost use Rattle.stl_syntax.specs.Texts.{IsVerdictLine, start_line};
 ghost use Rattle.report.specs.Appended.{Grew};
+ghost use Rattle.report.specs.Rooms.{IsTextAt};
 
-use crate::after::add_part;
-use crate::time_text::TimeText;
+use crate::after::{TEXT_ROOM, add_part};
+use crate::line_after::{TextAt, add_line};
 use crate::verdict::start_word;
-use crate::verdict_lines::add_verdict;
 use frac128::Memory;
 use std::alloc::Global;
 use std::marker::Model;
@@ -24,7 +25,7 @@ const FULL: usize = 65_536;
 /// is full. No line needs memory, so nothing but the output can stop an answer that has begun.
 #[derive(Drop)]
 pub struct LineRoom {
-    last: TimeText,
+    made: [u8; TEXT_ROOM],
     used: usize,
     bytes: Vec<u8>,
 }
@@ -51,7 +52,7 @@ impl LineRoom {
             return Err(Memory);
         };
         Ok(LineRoom {
-            last: TimeText::new(),
+            made: [b'0'; TEXT_ROOM],
             used: 0,
             bytes,
         })
@@ -79,14 +80,19 @@ impl LineRoom {
         self.used <= FULL
     }
 
-    /// Puts the line of a verdict, with times in units of the scale.
+    /// Puts the line of a verdict, with times in units of the scale, and answers where the text of the time stands at which it ends. A line
+    /// that begins there takes it over: `last` says so.
     #[inline(always)]
-    pub fn put_verdict(&mut self, v: &Verdict, scale: Scale)
+    pub fn put_verdict(&mut self, v: &Verdict, scale: Scale, last: Option<TextAt>) -> TextAt
         requires digits { scale.time ≤ 6 }
         requires room { length self.old ≤ 65536 }
-        ensures { Grew (IsVerdictLine scale v.now) self.old self.new }
+        requires last { IfSome last (IsTextAt scale.time (value v.now.on.from) self.old) }
+        ensures line { Grew (IsVerdictLine scale v.now) self.old self.new }
+        ensures to { IsTextAt scale.time (value v.now.on.to) self.new result }
     {
-        self.used = add_verdict(&mut self.bytes, self.used, &mut self.last, v, scale);
+        let line = add_line(&mut self.bytes, self.used, &mut self.made, v, scale, last);
+        self.used = line.end;
+        line.to
     }
 
     /// Puts the line of the truth at the start.

@@ -169,7 +169,7 @@ pub fn put_verdicts(text: &mut Text, s: &Signal<Truth>, scale: Scale) -> Result<
 {
     let knots = s.len();
     let mut span = OpenSpan::start(s.knot_in_place(0));
-    let mut lines = VerdictLines::new();
+    let mut lines = VerdictLines::new(s.alloc())?;
     for i in 1..knots {
         put_line_past(
             text,

@@ -1,5 +1,5 @@
 //! Lines of verdicts one after another, over one buffer.
-ghost use Rattle.std.specs.Prelude.{◌≡◌, ◌≤◌, ◌+◌, ◌∷◌, [], ◌++◌, if◌then◌else◌, length, codes};
+ghost use Rattle.std.specs.Prelude.{◌≡◌, ◌≤◌, ◌+◌, ◌∷◌, [], ◌++◌, if◌then◌else◌, length, codes, IfOk};
 ghost use Rattle.stl_syntax.specs.Texts.{bool_text, newline, IsVerdictLine};
 ghost use Rattle.report.specs.Appended.{Grew};
 ghost use Rattle.report.specs.After.{IsAdded, Adds};
@@ -9,6 +9,7 @@ use crate::after::{add_byte, add_part};
 use crate::time_text::TimeText;
 use crate::waiting::Waiting;
 use frac128::Memory;
+use std::alloc::Global;
 use std::marker::Model;
 use stl_syntax::{Scale, Text, Verdict};
 
@@ -48,7 +49,7 @@ fn add_open(buf: &mut [u8], at: usize, holds: bool) -> usize
 
 /// Puts what a line has after its two times.
 #[inline(always)]
-fn add_ending(buf: &mut [u8], at: usize, v: &Verdict) -> usize
+pub(crate) fn add_ending(buf: &mut [u8], at: usize, v: &Verdict) -> usize
     requires { at + 8 ≤ length buf.old }
     ensures { IsAdded (line_end v.now) buf.old at buf.new result }
 {
@@ -80,15 +81,23 @@ pub(crate) fn add_verdict(
     add_ending(buf, end, v)
 }
 
+/// Lines that were written and not yet appended, and the text of the time that was written last.
+#[derive(Drop)]
+struct Made {
+    last: TimeText,
+    lines: Waiting,
+}
+
 /// Lines of verdicts that were written and not yet appended to a text. Contracts see their bytes.
 ///
 /// Who writes many verdicts keeps one and goes on over its buffer: `put` writes a line behind the others, so that the text grows once for
 /// some hundred lines, and the text of a time at which one line ends and the next begins is made once. It appends those before where there
 /// is no room; at the end `hand_over` appends those that are left.
+///
+/// The buffer stands on the heap: who keeps one is small, and moves a pointer with it.
 #[derive(Drop)]
 pub struct VerdictLines {
-    last: TimeText,
-    lines: Waiting,
+    made: Box<Made>,
 }
 
 impl Model for VerdictLines {
@@ -96,19 +105,27 @@ impl Model for VerdictLines {
 
     ghost Value = { List ℕ };
 
-    ghost view = { λ l. l.lines };
+    ghost view = { λ l. l.made.value.lines };
 }
 
 impl VerdictLines {
     ghost use Rattle.std.specs.Prelude.{ℕ, List, OnOk, OnErr};
 
-    /// No lines yet.
-    pub fn new() -> VerdictLines
-        ensures { result ≡ [] }
+    /// No lines yet, and room for some. It is a call of its own, since a function takes a place on the stack for each move of the buffer.
+    ///
+    /// # Errors
+    /// Want of memory.
+    #[inline(never)]
+    pub fn new(alloc: Global) -> Result<VerdictLines, Memory>
+        ensures { IfOk result (λ l. l ≡ []) }
     {
-        VerdictLines {
+        let made = Made {
             last: TimeText::new(),
             lines: Waiting::new(),
+        };
+        match Box::new(alloc, made) {
+            Ok(made) => Ok(VerdictLines { made }),
+            Err(_) => Err(Memory),
         }
     }
 
@@ -124,8 +141,9 @@ impl VerdictLines {
         ensures begins { (front : List ℕ) × (text.new ≡ text.old ++ front) }
         ensures err { OnErr result ((text.new ≡ text.old) × (self.new ≡ self.old)) }
     {
-        self.lines.make_room(text)?;
-        self.lines.put_verdict(&mut self.last, v, scale);
+        let made: &mut Made = &mut self.made;
+        made.lines.make_room(text)?;
+        made.lines.put_verdict(&mut made.last, v, scale);
         Ok(())
     }
 
@@ -138,6 +156,7 @@ impl VerdictLines {
         ensures none { OnOk result (self.new ≡ []) }
         ensures err { OnErr result ((text.new ≡ text.old) × (self.new ≡ self.old)) }
     {
-        self.lines.hand_over(text)
+        let made: &mut Made = &mut self.made;
+        made.lines.hand_over(text)
     }
 }

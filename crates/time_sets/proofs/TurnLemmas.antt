@@ -12,12 +12,16 @@ use Rattle.std.specs.declared.cmp.Ordering.{Ordering}
 use Rattle.std.specs.declared.cmp.Ordering.TheVariants.{Less, Equal, Greater}
 use Rattle.std.specs.Ordering.{int_cmp, nat_cmp}
 use Rattle.std.proofs.lemmas.Cmp.{ranked, int_ranked}
-use Rattle.rational.specs.Rational.{mixed, fraction, ◌≈◌}
+use Rattle.rational.specs.Rational.{mixed, fraction, whole, part_above, part_below, ◌≈◌}
 use Rattle.rational.specs.Places.{Place, Before, Same}
 use Rattle.rational.proofs.PlaceLemmas.{before_trans, not_before_itself}
 use Rattle.rational.proofs.Mixed.{floor_split, floor_value, lt_by_whole, lt_by_rest, same_by_rest}
 use Rattle.time_sets.specs.Twice.{floor_of, is_after}
 use Rattle.time_sets.specs.Turns.{IsPlaceOrder}
+
+-- a number with no rest
+pub whole_mixed : (w v : ℤ) (r d : ℕ) (p : 0 < d) → w ≡ v → r ≡ 0 → whole w ≈ mixed v r d p
+whole_mixed w v r d p e h = record { same = omega (arith, h, ap (λ k. part_above k * d) e, ap (λ k. part_below k * d) e) }
 
 -- the lowest bit
 abbrev bit : ℤ → ℕ

@@ -54,6 +54,9 @@ impl Turn {
     pub fn time(&self) -> Frac
         ensures { value result ≈ (place self.now).at }
     {
+        if self.rest == 0 {
+            return Frac::of(self.floor());
+        }
         Frac::mixed(self.floor(), u64::from(self.rest), u64::from(self.den))
     }
 

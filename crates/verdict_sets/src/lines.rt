@@ -31,7 +31,8 @@ pub struct Told {
 fn verdict_of(from: Frac, stretch: &Stretch) -> Verdict
     requires order { Before (place stretch.now.from) (place stretch.now.to) }
     requires from { value from ≈ (place stretch.now.from).at }
-    ensures { IsVerdictOf stretch.now result }
+    ensures is { IsVerdictOf stretch.now result }
+    ensures from { result.on.from ≡ from }
 {
     Verdict {
         on: Span {
@@ -57,13 +58,15 @@ impl LinesLeft for Told {
     fn put_some(&mut self, room: &mut LineRoom) -> bool {
         let mut from = self.from;
         let mut next = self.next;
+        let mut last = None;
         while room.has_room() {
             let Some(stretch) = self.judged.times.span(&self.judged.on, next) else {
                 room.put_start(self.holds);
                 return false;
             };
             let verdict = verdict_of(from, &stretch);
-            room.put_verdict(&verdict, self.scale);
+            let text = room.put_verdict(&verdict, self.scale, last);
+            last = Some(text);
             from = verdict.on.to;
             next += 1;
         }

@@ -196,6 +196,7 @@ impl Watcher {
             → IfOk result (λ w. IsWatched false w c) }
     {
         let net = Net::joining(alloc, &formula, bound)?;
+        let lines = VerdictLines::new(alloc)?;
         let horizon = formula.horizon();
         Ok(Watcher {
             network: Network {
@@ -206,7 +207,7 @@ impl Watcher {
             horizon,
             times: Vec::new(alloc),
             pending: Pending::new(alloc),
-            lines: VerdictLines::new(),
+            lines,
         })
     }
 

@@ -1,9 +1,10 @@
 //! Where a ramp meets another ramp or a constant.
 ghost use Rattle.std.specs.Prelude.{◌≡◌, ◌≤◌, ◌<◌, ◌*◌, ◌^◌, ◌↔◌, IsTrue, IfSome, MatchOption, MatchResult};
 ghost use Rattle.std.specs.Int.RustNames.{unsigned_abs};
-ghost use Rattle.rational.specs.Rational.{Rational, fraction};
+ghost use Rattle.rational.specs.Rational.{Rational, fraction, ◌<ʳ◌};
 ghost use Rattle.rational.specs.Line.{AreOpposite};
 ghost use Rattle.frac128.specs.Lowest.{HasDenominator};
+ghost use Rattle.frac128.specs.Value.{value};
 
 use super::Ramp;
 use super::difference::Difference;
@@ -13,10 +14,10 @@ use crate::ratio::Ratio;
 use std::cmp::Ordering;
 
 impl Ramp {
-    ghost use Rattle.frac128.specs.Value.{denominator, value};
+    ghost use Rattle.frac128.specs.Value.{denominator};
     ghost use Rattle.frac128.specs.Line.{line, rise_in_run};
     ghost use Rattle.rational.specs.Line.{AreParallel, CrossAt, Level, MeetAt, constant};
-    ghost use Rattle.rational.specs.Rational.{IsWithin, ◌<ʳ◌};
+    ghost use Rattle.rational.specs.Rational.{IsWithin};
 
     /// The one time at which both ramps have one value. None exactly where their slopes are equal.
     pub fn cross_ramp(&self, other: &Ramp) -> Option<Ratio>
@@ -59,12 +60,15 @@ impl Ramp {
             (λ e. (t : Rational) × CrossAt (line self.now) (line other.now) (value from.now) (value to.now) t × HasDenominator t e.den × (2 ^ 60 ≤ e.den)) }
     {
         let gap = Difference::of(self, other);
-        if !are_opposite(gap.sign_at(from), gap.sign_at(to)) {
-            return Ok(None);
-        }
         let Some(time) = gap.root() else {
             return Ok(None);
         };
+        if let Some(t) = time.small() {
+            return Ok(between(t, from, to));
+        }
+        if !are_opposite(gap.sign_at(from), gap.sign_at(to)) {
+            return Ok(None);
+        }
         match time.frac() {
             Ok(t) => Ok(Some(t)),
             Err(wide) => Err(wide),
@@ -89,16 +93,34 @@ impl Ramp {
             (λ e. (t : Rational) × CrossAt (line self.now) (constant (value c.now)) (value from.now) (value to.now) t
             × HasDenominator t e.den × (2 ^ 60 ≤ e.den)) }
     {
-        if !are_opposite(self.cmp_const(c, from), self.cmp_const(c, to)) {
-            return Ok(None);
-        }
         let Some(time) = self.cross_const(c) else {
             return Ok(None);
         };
+        if let Some(t) = time.small() {
+            return Ok(between(t, from, to));
+        }
+        if !are_opposite(self.cmp_const(c, from), self.cmp_const(c, to)) {
+            return Ok(None);
+        }
         match time.frac() {
             Ok(t) => Ok(Some(t)),
             Err(wide) => Err(wide),
         }
+    }
+}
+
+/// The time, where it lies strictly between the two others.
+fn between(t: Frac, from: &Frac, to: &Frac) -> Option<Frac>
+    ensures { MatchOption result
+        (¬ ((value from.now <ʳ value t) × (value t <ʳ value to.now)))
+        (λ f. (f ≡ t) × (value from.now <ʳ value t) × (value t <ʳ value to.now)) }
+{
+    match from.cmp(&t) {
+        Ordering::Less => match t.cmp(to) {
+            Ordering::Less => Some(t),
+            _ => None,
+        },
+        _ => None,
     }
 }
 

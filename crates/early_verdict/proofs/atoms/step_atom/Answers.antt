@@ -5,13 +5,18 @@ use Rattle.early_verdict.specs.Adding.{AfterRow, before_row}
 use Rattle.early_verdict.specs.BlockRows.{own_row, previous_row}
 use Rattle.frac128.specs.Cuts.{place}
 use Rattle.frac128.proofs.Wholes.{same_at_tick}
-use Rattle.early_verdict.proofs.AtomSets.{atom_fits, atom_stepped, grown_of, grown_then, near_of}
+use Rattle.early_verdict.proofs.AtomSets.{atom_fits, atom_shown, atom_stepped, grown_of, grown_then, near_of}
 use Rattle.early_verdict.proofs.TurningLemmas.{adds_row}
 use Rattle.early_verdict.proofs.atoms.step_atom.Goals as goal
 
 pub returns-clause-stepped : goal.returns-clause-stepped
 returns-clause-stepped c =
     atom_stepped c.args.own.now c.rest.new.own c.add_truth.new.own c.rest.ensures
+    (grown_then c.in_ok-pending.ensures.grown (grown_of c.in_ok-add_truth.ensures))
+
+pub returns-clause-shown : goal.returns-clause-shown
+returns-clause-shown c =
+    atom_shown c.args.own.now c.rest.new.own c.add_truth.new.own c.rest.ensures
     (grown_then c.in_ok-pending.ensures.grown (grown_of c.in_ok-add_truth.ensures))
 
 pub returns-clause-fits : goal.returns-clause-fits

@@ -1,10 +1,11 @@
-use Rattle.std.proofs.Common.{◌≡◌, sym, ap, subst, ◌∙◌, ◌-◌, ◌<◌, Some, List, length, arith}
+use Rattle.std.proofs.Common.{◌≡◌, sym, ap, subst, ◌∙◌, ◌-◌, Some, List, length, arith}
 use Rattle.stl_syntax.specs.Trace.{Row, Trace}
 use Rattle.atom_lines.specs.Rows.{row_of}
 use Rattle.early_verdict.specs.Deciding.{last_after, last_of, IsVerdict}
 use Rattle.early_verdict.specs.Standing.{AllTidy}
 use Rattle.early_verdict.specs.declared.sets.Sets.{Sets}
 use Rattle.early_verdict.proofs.BlockLemmas.{last_place}
+use Rattle.early_verdict.proofs.NodeSets.{own_few}
 use Rattle.early_verdict.proofs.GoingOn.{leaves_bound}
 use Rattle.early_verdict.proofs.Undecided.{end_some, end_truth}
 use Rattle.early_verdict.proofs.entries.end_sets.Goals as goal
@@ -32,7 +33,10 @@ is_last c r rows ends =
     ∙ ap (λ n. row_of block n) (c.new-last.ensures.at ∙ ap (λ n. n - 1) c.rows.ensures.count) ∙ (last_place block.rows (last_after r rows) ends).1)
 
 pub step_sets-requires-clause-count : goal.step_sets-requires-clause-count
-step_sets-requires-clause-count c = c.requires.open.3.sets_are.1.have.count
+step_sets-requires-clause-count c =
+    let a = c.requires.open.3.sets_are.1.have.count in
+    let b = own_few c.args.formula.now.nodes c.args.net.now.live.items c.args.net.now.shown.items in
+    omega (arith, a, b)
 
 pub step_sets-requires-clause-shown_count : goal.step_sets-requires-clause-shown_count
 step_sets-requires-clause-shown_count c = c.requires.open.3.sets_are.1.have.shown_count

@@ -1,7 +1,8 @@
-use Rattle.std.proofs.Common.{◌≡◌, ◌<◌, ◌∙◌, subst, Some, arith}
+use Rattle.std.proofs.Common.{◌≡◌, ◌<◌, ◌∙◌, subst, arith}
 use Rattle.std.specs.Prelude.{IfSome}
 use Rattle.early_verdict.specs.BlockRows.{own_row}
 use Rattle.early_verdict.proofs.BlockLemmas.{own_later, own_wide}
+use Rattle.early_verdict.proofs.NodeSets.{own_few}
 use Rattle.early_verdict.proofs.GoingOn.{next_stand, leaves_bound}
 use Rattle.early_verdict.proofs.entries.take_next.Goals as goal
 
@@ -14,7 +15,10 @@ next_entry-entry-requires c =
     omega (arith, later, before, c.time.ensures)
 
 pub step_sets-requires-clause-count : goal.step_sets-requires-clause-count
-step_sets-requires-clause-count c = c.requires.open.3.sets_are.1.have.count
+step_sets-requires-clause-count c =
+    let a = c.requires.open.3.sets_are.1.have.count in
+    let b = own_few c.args.formula.now.nodes c.args.net.now.live.items c.args.net.now.shown.items in
+    omega (arith, a, b)
 
 pub step_sets-requires-clause-shown_count : goal.step_sets-requires-clause-shown_count
 step_sets-requires-clause-shown_count c = c.requires.open.3.sets_are.1.have.shown_count

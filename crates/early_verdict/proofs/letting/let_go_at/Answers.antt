@@ -18,7 +18,8 @@ use Rattle.early_verdict.proofs.Places.{item_at}
 use Rattle.early_verdict.proofs.SinceLooks.{bounded_stands, endless_stands, half_inside, half_tidy}
 use Rattle.early_verdict.proofs.SinceStands.{back_inside, ordered}
 use Rattle.early_verdict.proofs.UntilStands.{parts_inside, until_stands}
-use Rattle.early_verdict.proofs.Narrowing.{are_apart, asked_stands, le_after, live_inside, shed_stands, shown_inside}
+use Rattle.early_verdict.proofs.Narrowing.{are_apart, asked_stands, le_after, shown_inside}
+use Rattle.early_verdict.proofs.NodeSets.{beside_of, few_of, inside_of, mid_there, own_of_node, shed_net, tidy_of}
 use Rattle.early_verdict.proofs.letting.let_go_at.Goals as goal
 
 -- the operands of a since stand before it
@@ -33,16 +34,19 @@ right_there {nodes} {p} {q} {a} {b} i formed h e at =
     let below = child_below i q (Since p q a b) (placed nodes i (Since p q a b) formed.post_order at) (inr refl) in omega (arith, below, h, e)
 
 pub shed_at-requires-clause-live : goal.shed_at-requires-clause-live
-shed_at-requires-clause-live c = let a = c.requires.stands.1.have.count in let b = c.requires.within in omega (arith, a, b)
+shed_at-requires-clause-live c =
+    let a = few_of c.args.live.now c.args.i c.requires.operator c.requires.stands.1 in
+    let b = c.requires.within in
+    omega (arith, a, b)
 
 pub shed_at-requires-clause-shown : goal.shed_at-requires-clause-shown
 shed_at-requires-clause-shown c = let a = c.requires.stands.1.have.shown_count in let b = c.requires.within in omega (arith, a, b)
 
 pub shed_at-requires-clause-tidy : goal.shed_at-requires-clause-tidy
-shed_at-requires-clause-tidy c = c.requires.stands.1.tidy
+shed_at-requires-clause-tidy c = tidy_of c.args.live.now c.args.i c.requires.operator c.requires.stands.1
 
 pub shed_at-requires-clause-inside : goal.shed_at-requires-clause-inside
-shed_at-requires-clause-inside c = live_inside c.requires.stands.1
+shed_at-requires-clause-inside c = inside_of c.args.live.now c.args.i c.requires.operator c.requires.stands.1
 
 pub ask_children-requires-clause-children : goal.ask_children-requires-clause-children
 ask_children-requires-clause-children c =
@@ -104,15 +108,11 @@ shown_at-wide-requires c =
 
 pub cut_run_at-requires-clause-within : goal.cut_run_at-requires-clause-within
 cut_run_at-requires-clause-within c =
-    let a = c.shed_at.ensures.count in
-    let b = c.requires.stands.1.have.count in
-    let d = c.requires.within in
-    omega (arith, a, b, d)
+    mid_there _ _ c.requires.operator c.requires.stands.1 c.shed_at.ensures
 
 pub cut_run_at-requires-clause-tidy : goal.cut_run_at-requires-clause-tidy
 cut_run_at-requires-clause-tidy c =
-    (shed_stands
-    c.shed_at.ensures c.requires.stands.1).tidy
+    tidy_of c.shed_at.new.live c.args.i c.requires.operator (shed_net _ _ c.requires.operator c.requires.stands.1 c.shed_at.ensures)
 
 pub cut_run_at-requires-clause-inside : goal.cut_run_at-requires-clause-inside
 cut_run_at-requires-clause-inside c s is =
@@ -121,10 +121,14 @@ cut_run_at-requires-clause-inside c s is =
     let h = c.ask_both.ensures in
     back_inside c.args.i
     (c.node-node.ensures.node ∙ ap Some u.1) w.1 w.2 h.1 h.2
-    (shed_stands c.shed_at.ensures c.requires.stands.1) is
+    (shed_net _ _ c.requires.operator c.requires.stands.1 c.shed_at.ensures)
+    (own_of_node c.shed_at.new.live c.args.i c.requires.operator (shed_net _ _ c.requires.operator c.requires.stands.1 c.shed_at.ensures) s is)
 
-pub returns-in-Some : goal.returns-in-Some
-returns-in-Some c = λ tr st.
+pub returns-in-Some-clause-count : goal.returns-in-Some-clause-count
+returns-in-Some-clause-count c = c.cut_run_at.ensures.count ∙ c.shed_at.ensures.count
+
+pub returns-in-Some-clause-stands : goal.returns-in-Some-clause-stands
+returns-in-Some-clause-stands c = λ tr st.
     let nodes = c.args.formula.now.nodes in
     let mid = c.shed_at.new.live in
     let back = c.in-Some.back in
@@ -133,26 +137,28 @@ returns-in-Some c = λ tr st.
     let h = c.ask_both.ensures in
     let cut = c.cut_run_at.ensures in
     let at = c.node-node.ensures.node ∙ ap Some u.1 in
-    let l : c.args.i < length mid = let a = c.shed_at.ensures.count in let b = st.have.count in let d = c.requires.within in omega (arith, a, b, d) in
+    let l : c.args.i < length mid = mid_there _ _ c.requires.operator st c.shed_at.ensures in
     let same : c.index-live-at.result ≡ cut.was =
     same_Some c.index-live-at.result cut.was (sym (item_at mid c.args.i c.index-live-at.result l c.index-live-at.is) ∙ cut.at_old) in
     bounded_stands c.requires.formed at
-    (ordered nodes c.requires.formed c.args.i c.requires.within back.left back.right u.0 back.most at) c.cut_before-first.ensures cut w.1 w.2
+    (ordered nodes c.requires.formed c.args.i c.requires.within back.left back.right u.0 back.most at) c.cut_before-first.ensures cut
+    (beside_of c.shed_at.new.live c.args.i c.requires.operator (shed_net _ _ c.requires.operator st c.shed_at.ensures) c.cut_run_at.new.live
+    cut.others cut.count (two_less h.1 h.2) cut.at_old cut.at_new) w.1 w.2
     (λ t o. le_after (place c.bounds-own.result.from) t
     (subst (λ b. Lies b t) (sym c.bounds-own.ensures) (subst (λ (z : Sets). Lies z.no.bounds t) c.index-live-at.is
     (subst (λ (z : Sets). Lies z.no.bounds t) (sym same) o))).0)
-    h.1 h.2 (shed_stands c.shed_at.ensures st)
+    h.1 h.2 (shed_net _ _ c.requires.operator st c.shed_at.ensures)
 
 -- a since without a bound
 pub decisive-requires-clause-own : goal.decisive-requires-clause-own
 decisive-requires-clause-own c =
     let mid = c.shed_at.new.live in
     let st = c.requires.stands in
-    let l : c.args.i < length mid = let a = c.shed_at.ensures.count in let b = st.1.have.count in let d = c.requires.within in omega (arith, a, b, d) in
+    let l : c.args.i < length mid = mid_there _ _ c.requires.operator st.1 c.shed_at.ensures in
     let own = c.index-live-at-in-Some-endless_since in
     subst (λ (z : Sets). AreSetsTidy z) own.is
-    ((shed_stands c.shed_at.ensures st.1).tidy c.args.i
-    own.result (item_at mid c.args.i own.result l own.is))
+    (tidy_of c.shed_at.new.live c.args.i c.requires.operator (shed_net _ _ c.requires.operator st.1 c.shed_at.ensures) own.result
+    (item_at mid c.args.i own.result l own.is))
 
 pub decisive-requires-clause-left : goal.decisive-requires-clause-left
 decisive-requires-clause-left c =
@@ -162,9 +168,8 @@ decisive-requires-clause-left c =
     (left_there c.args.i c.requires.formed c.requires.within
     c.requires.stands.1.have.shown_count (c.node-node.ensures.node ∙ ap Some c.in-Some-endless_since.ensures)) c.index-shown-anew.is)
 
-pub returns-in_default-decisive : goal.returns-in_default-decisive
-returns-in_default-decisive c = λ tr st.
-    shed_stands c.shed_at.ensures st
+pub returns-in_default-decisive-clause-stands : goal.returns-in_default-decisive-clause-stands
+returns-in_default-decisive-clause-stands c = λ tr st. shed_net _ _ c.requires.operator st c.shed_at.ensures
 
 pub ask_both-requires-in-Some-endless_since-clause-left : goal.ask_both-requires-in-Some-endless_since-clause-left
 ask_both-requires-in-Some-endless_since-clause-left c =
@@ -193,36 +198,30 @@ shown_at-wide-requires-in-Some-endless_since c =
 
 pub cut_run_at-requires-in-Some-endless_since-clause-within : goal.cut_run_at-requires-in-Some-endless_since-clause-within
 cut_run_at-requires-in-Some-endless_since-clause-within c =
-    let a = c.shed_at.ensures.count in
-    let b = c.requires.stands.1.have.count in
-    let d = c.requires.within in
-    omega (arith, a, b, d)
+    mid_there _ _ c.requires.operator c.requires.stands.1 c.shed_at.ensures
 
 pub cut_run_at-requires-in-Some-endless_since-clause-tidy : goal.cut_run_at-requires-in-Some-endless_since-clause-tidy
 cut_run_at-requires-in-Some-endless_since-clause-tidy c =
-    (shed_stands
-    c.shed_at.ensures c.requires.stands.1).tidy
+    tidy_of c.shed_at.new.live c.args.i c.requires.operator (shed_net _ _ c.requires.operator c.requires.stands.1 c.shed_at.ensures)
 
 pub cut_run_at-requires-in-Some-endless_since-clause-inside : goal.cut_run_at-requires-in-Some-endless_since-clause-inside
 cut_run_at-requires-in-Some-endless_since-clause-inside c s is =
     let w = c.shown_at-wide-in-Some-endless_since.ensures in
     let h = c.ask_both-in-Some-endless_since.ensures in
     back_inside c.args.i (c.node-node.ensures.node ∙ ap Some c.in-Some-endless_since.ensures) w.1 w.2 h.1 h.2
-    (shed_stands c.shed_at.ensures c.requires.stands.1) is
+    (shed_net _ _ c.requires.operator c.requires.stands.1 c.shed_at.ensures)
+    (own_of_node c.shed_at.new.live c.args.i c.requires.operator (shed_net _ _ c.requires.operator c.requires.stands.1 c.shed_at.ensures) s is)
 
 pub cut_endless_at-requires-clause-within : goal.cut_endless_at-requires-clause-within
 cut_endless_at-requires-clause-within c =
-    let a = c.shed_at.ensures.count in
-    let b = c.requires.stands.1.have.count in
-    let d = c.requires.within in
+    let a = mid_there _ _ c.requires.operator c.requires.stands.1 c.shed_at.ensures in
     let e = c.cut_run_at-in-Some-endless_since.ensures.count in
-    omega (arith, a, b, d, e)
+    omega (arith, a, e)
 
 pub cut_endless_at-requires-clause-tidy : goal.cut_endless_at-requires-clause-tidy
 cut_endless_at-requires-clause-tidy c =
     half_tidy c.cut_run_at-in-Some-endless_since.ensures
-    (shed_stands
-    c.shed_at.ensures c.requires.stands.1).tidy
+    (tidy_of c.shed_at.new.live c.args.i c.requires.operator (shed_net _ _ c.requires.operator c.requires.stands.1 c.shed_at.ensures))
 
 pub cut_endless_at-requires-clause-inside : goal.cut_endless_at-requires-clause-inside
 cut_endless_at-requires-clause-inside c =
@@ -241,8 +240,12 @@ cut_endless_at-requires-clause-spans c =
     let w = less.each anew.right shows.result (item_at new anew.right shows.result l shows.is) in
     subst (λ (z : Sets). AreTidy z.yes.spans.items) shows.is (w.2.tidy (c.requires.stands.1.shown_tidy anew.right w.0 w.1)).yes
 
-pub returns-in-Some-endless_since : goal.returns-in-Some-endless_since
-returns-in-Some-endless_since c = λ tr st.
+pub returns-in-Some-endless_since-clause-count : goal.returns-in-Some-endless_since-clause-count
+returns-in-Some-endless_since-clause-count c =
+    c.cut_endless_at.ensures.count ∙ c.cut_run_at-in-Some-endless_since.ensures.count ∙ c.shed_at.ensures.count
+
+pub returns-in-Some-endless_since-clause-stands : goal.returns-in-Some-endless_since-clause-stands
+returns-in-Some-endless_since-clause-stands c = λ tr st.
     let mid = c.shed_at.new.live in
     let old = c.args.shown.now in
     let new = c.ask_both-in-Some-endless_since.new.shown in
@@ -253,7 +256,7 @@ returns-in-Some-endless_since c = λ tr st.
     let cut = c.cut_run_at-in-Some-endless_since.ensures in
     let half = c.cut_run_at-in-Some-endless_since.new.live in
     let at = c.node-node.ensures.node ∙ ap Some c.in-Some-endless_since.ensures in
-    let l : c.args.i < length mid = let a = c.shed_at.ensures.count in let b = st.have.count in let d = c.requires.within in omega (arith, a, b, d) in
+    let l : c.args.i < length mid = mid_there _ _ c.requires.operator st c.shed_at.ensures in
     let same : c.index-live-at.result ≡ cut.was =
     same_Some c.index-live-at.result cut.was (sym (item_at mid c.args.i c.index-live-at.result l c.index-live-at.is) ∙ cut.at_old) in
     let same_own : c.index-live-at-in-Some-endless_since.result ≡ cut.was =
@@ -265,10 +268,13 @@ returns-in-Some-endless_since c = λ tr st.
     let l_new : anew.right < length new = let d = less.count in omega (arith, below_right, d) in
     let lists = lists_are new anew.right c.index-shown-anew-in-Some-endless_since-2.result (item_at new anew.right
     c.index-shown-anew-in-Some-endless_since-2.result l_new c.index-shown-anew-in-Some-endless_since-2.is) in
-    endless_stands c.requires.formed at c.in-Some-decisive.ensures.0 cut
-    (subst (λ (z : Lists). IsEndlessCutAt c.args.i anew.low z.yes half c.cut_endless_at.new.live) (sym lists)
+    let begun = subst (λ (z : Lists). IsEndlessCutAt c.args.i anew.low z.yes half c.cut_endless_at.new.live) (sym lists)
     (subst (λ (z : Sets). IsEndlessCutAt c.args.i anew.low z.yes.spans.items half c.cut_endless_at.new.live)
-    (sym c.index-shown-anew-in-Some-endless_since-2.is) c.cut_endless_at.ensures)) w.1 w.2
+    (sym c.index-shown-anew-in-Some-endless_since-2.is) c.cut_endless_at.ensures) in
+    endless_stands c.requires.formed at c.in-Some-decisive.ensures.0 cut begun
+    (beside_of c.shed_at.new.live c.args.i c.requires.operator (shed_net _ _ c.requires.operator st c.shed_at.ensures) c.cut_endless_at.new.live
+    (λ j n. begun.others j n ∙ cut.others j n) (begun.count ∙ cut.count) less cut.at_old begun.at_new)
+    w.1 w.2
     (λ t o. le_after (place c.bounds-own.result.from) t
     (subst (λ b. Lies b t) (sym c.bounds-own.ensures) (subst (λ (z : Sets). Lies z.no.bounds t) c.index-live-at.is
     (subst (λ (z : Sets). Lies z.no.bounds t) (sym same) o))).0)
@@ -277,7 +283,7 @@ returns-in-Some-endless_since c = λ tr st.
     (item_at old anew.right c.index-shown-anew-in-Some-endless_since.result below_right c.index-shown-anew-in-Some-endless_since.is)
     (subst (λ (z : Sets). IsDecisive first z c.index-shown-anew.result c.index-shown-anew-in-Some-endless_since.result)
     (sym c.index-live-at-in-Some-endless_since.is ∙ same_own) c.in-Some-decisive.ensures.1)
-    (shed_stands c.shed_at.ensures st)
+    (shed_net _ _ c.requires.operator st c.shed_at.ensures)
 
 -- an until
 pub shown_at-wide-requires-in-Some-left_of_until : goal.shown_at-wide-requires-in-Some-left_of_until
@@ -293,15 +299,11 @@ shown_at-wide-requires-in-Some-left_of_until c =
 
 pub cut_run_at-requires-in-Some-left_of_until-clause-within : goal.cut_run_at-requires-in-Some-left_of_until-clause-within
 cut_run_at-requires-in-Some-left_of_until-clause-within c =
-    let a = c.shed_at.ensures.count in
-    let b = c.requires.stands.1.have.count in
-    let d = c.requires.within in
-    omega (arith, a, b, d)
+    mid_there _ _ c.requires.operator c.requires.stands.1 c.shed_at.ensures
 
 pub cut_run_at-requires-in-Some-left_of_until-clause-tidy : goal.cut_run_at-requires-in-Some-left_of_until-clause-tidy
 cut_run_at-requires-in-Some-left_of_until-clause-tidy c =
-    (shed_stands
-    c.shed_at.ensures c.requires.stands.1).tidy
+    tidy_of c.shed_at.new.live c.args.i c.requires.operator (shed_net _ _ c.requires.operator c.requires.stands.1 c.shed_at.ensures)
 
 pub cut_run_at-requires-in-Some-left_of_until-clause-inside : goal.cut_run_at-requires-in-Some-left_of_until-clause-inside
 cut_run_at-requires-in-Some-left_of_until-clause-inside c s is =
@@ -309,33 +311,41 @@ cut_run_at-requires-in-Some-left_of_until-clause-inside c s is =
     let w = c.shown_at-wide-in-Some-left_of_until.ensures in
     parts_inside c.args.i (c.node-node.ensures.node ∙ ap Some u.3) w.1 w.2
     (subst (λ n. AreAskedBy n (value c.bounds-own.result.from.time) c.args.shown.now c.ask_children.new.shown) u.3 c.ask_children.ensures)
-    (shed_stands c.shed_at.ensures c.requires.stands.1) is
+    (shed_net _ _ c.requires.operator c.requires.stands.1 c.shed_at.ensures)
+    (own_of_node c.shed_at.new.live c.args.i c.requires.operator (shed_net _ _ c.requires.operator c.requires.stands.1 c.shed_at.ensures) s is)
 
-pub returns-in-Some-left_of_until : goal.returns-in-Some-left_of_until
-returns-in-Some-left_of_until c = λ tr st.
+pub returns-in-Some-left_of_until-clause-count : goal.returns-in-Some-left_of_until-clause-count
+returns-in-Some-left_of_until-clause-count c = c.cut_run_at-in-Some-left_of_until.ensures.count ∙ c.shed_at.ensures.count
+
+pub returns-in-Some-left_of_until-clause-stands : goal.returns-in-Some-left_of_until-clause-stands
+returns-in-Some-left_of_until-clause-stands c = λ tr st.
     let mid = c.shed_at.new.live in
     let u = c.in-Some-left_of_until.ensures.some in
     let w = c.shown_at-wide-in-Some-left_of_until.ensures in
     let cut = c.cut_run_at-in-Some-left_of_until.ensures in
-    let l : c.args.i < length mid = let a = c.shed_at.ensures.count in let b = st.have.count in let d = c.requires.within in omega (arith, a, b, d) in
+    let l : c.args.i < length mid = mid_there _ _ c.requires.operator st c.shed_at.ensures in
     let same : c.index-live-at.result ≡ cut.was =
     same_Some c.index-live-at.result cut.was (sym (item_at mid c.args.i c.index-live-at.result l c.index-live-at.is) ∙ cut.at_old) in
     until_stands c.requires.formed
-    (c.node-node.ensures.node ∙ ap Some u.3) cut w.1 w.2
+    (c.node-node.ensures.node ∙ ap Some u.3) cut
+    (beside_of c.shed_at.new.live c.args.i c.requires.operator (shed_net _ _ c.requires.operator st c.shed_at.ensures)
+    c.cut_run_at-in-Some-left_of_until.new.live cut.others cut.count c.ask_children.ensures.less cut.at_old cut.at_new) w.1 w.2
     (λ t o. le_after (place c.bounds-own.result.from) t
     (subst (λ b. Lies b t) (sym c.bounds-own.ensures) (subst (λ (z : Sets). Lies z.no.bounds t) c.index-live-at.is
     (subst (λ (z : Sets). Lies z.no.bounds t) (sym same) o))).0)
     (subst (λ n. AreAskedBy n (value c.bounds-own.result.from.time) c.args.shown.now c.ask_children.new.shown) u.3 c.ask_children.ensures)
-    (shed_stands c.shed_at.ensures st)
+    (shed_net _ _ c.requires.operator st c.shed_at.ensures)
 
-pub returns-in_default-left_of_until : goal.returns-in_default-left_of_until
-returns-in_default-left_of_until c = λ tr st.
+pub returns-in_default-left_of_until-clause-stands : goal.returns-in_default-left_of_until-clause-stands
+returns-in_default-left_of_until-clause-stands c = λ tr st.
     let mid = c.shed_at.new.live in
     let s = c.index-live-at.result in
     let e = c.shed_at.ensures in
-    let l : c.args.i < length mid = let a = e.count in let b = st.have.count in let d = c.requires.within in omega (arith, a, b, d) in
+    let l : c.args.i < length mid = mid_there _ _ c.requires.operator st c.shed_at.ensures in
     asked_stands c.requires.formed c.args.i c.node-node.ensures.node
-    (item_at mid c.args.i s l c.index-live-at.is)
+    (let is = item_at mid c.args.i s l c.index-live-at.is in
+    beside_of c.shed_at.new.live c.args.i c.requires.operator (shed_net _ _ c.requires.operator st c.shed_at.ensures) c.shed_at.new.live
+    (λ j d. refl) refl c.ask_children.ensures.less is is)
     (λ t o. le_after (place c.bounds-own.result.from) t
     (subst (λ b. Lies b t) (sym c.bounds-own.ensures) (subst (λ (z : Sets). Lies z.no.bounds t) c.index-live-at.is o)).0) c.ask_children.ensures
-    (shed_stands e st) c.in_default-left_of_until.ensures.none
+    (shed_net _ _ c.requires.operator st c.shed_at.ensures) c.in_default-left_of_until.ensures.none

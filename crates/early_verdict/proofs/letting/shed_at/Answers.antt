@@ -5,12 +5,12 @@ use Rattle.early_verdict.proofs.letting.shed_at.Goals as goal
 pub shed-requires-clause-tidy : goal.shed-requires-clause-tidy
 shed-requires-clause-tidy c =
     let f = c.split_at_mut-from in
-    c.requires.tidy c.args.i _ (at_split c.args.live.now f.result.1.now c.args.i c.index-from-0.result f.ensures.back c.requires.live)
+    c.requires.tidy _ (at_split c.args.live.now f.result.1.now c.args.i c.index-from-0.result f.ensures.back c.requires.live)
 
 pub shed-requires-clause-inside : goal.shed-requires-clause-inside
 shed-requires-clause-inside c =
     let f = c.split_at_mut-from in
-    c.requires.inside c.args.i _ (at_split c.args.live.now f.result.1.now c.args.i c.index-from-0.result f.ensures.back c.requires.live)
+    c.requires.inside _ (at_split c.args.live.now f.result.1.now c.args.i c.index-from-0.result f.ensures.back c.requires.live)
 
 pub returns : goal.returns
 returns c =

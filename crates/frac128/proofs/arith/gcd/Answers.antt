@@ -16,3 +16,6 @@ returns c =
     let most : g * 2 ^ c.min-twos.result ≤ a = le_of_dvd (omega arith) h.0 in
     let fits : g * 2 ^ c.min-twos.result ≡ g * 2 ^ c.min-twos.result % 2 ^ 64 = omega arith in
     subst (λ n. IsGcd a b n) fits h
+
+pub returns-then-b : goal.returns-then-b
+returns-then-b c = rw c.from.ensures c.gcd_of_small.ensures

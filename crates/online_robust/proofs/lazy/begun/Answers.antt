@@ -14,7 +14,7 @@ returns-in-None c =
       low = is.low;
       high = is.high;
       side = is.side;
-      among = is.among;
+      none_among = is.among;
       told = subst (λ (o : Option Reached). HasTold c.args.start o c.new-sweep.result) (sym c.in-None.is) (is.at, is.last);
     }
 
@@ -30,6 +30,6 @@ returns-in-Some c =
       low = is.low;
       high = is.high;
       side = is.side;
-      among = is.among;
+      none_among = is.among;
       told = (refl, refl);
     }))

@@ -1,4 +1,8 @@
-use Rattle.std.proofs.Common.{refl}
+use Rattle.std.proofs.Common.{refl, ◌^◌}
+use Rattle.rational.specs.Extended.{value_at}
+use Rattle.rational.proofs.AffineLemmas.{bounded_same}
+use Rattle.rational.proofs.Sames.{symᵉ, transᵉ}
+use Rattle.value_laws.specs.Margins.{margin_function}
 use Rattle.frac128.specs.Value.{value}
 use Rattle.online_robust.proofs.FrozenLemmas.{of_three, three_bounded, three_frozen}
 use Rattle.online_robust.proofs.window.frozen.Goals as goal
@@ -12,6 +16,16 @@ pub returns-in-Ok-clause-frozen : goal.returns-in-Ok-clause-frozen
 returns-in-Ok-clause-frozen c = three_frozen c.args.side c.args.before.now c.args.point.now c.args.after.now c.chosen-first.result c.chosen-best.result
     (value c.args.u.now) c.chosen-first.ensures.one c.chosen-first.ensures.value c.chosen-best.ensures.one c.chosen-best.ensures.value
     c.in-Ok.constant c.in-Ok.ensures.value.0 c.in-Ok.ensures.value.1
+
+pub returns-in-Ok-clause-steady : goal.returns-in-Ok-clause-steady
+returns-in-Ok-clause-steady c t u = transᵉ (c.in-Ok.ensures.value.0 t) (symᵉ (c.in-Ok.ensures.value.0 u))
+
+pub returns-in-Ok-clause-level : goal.returns-in-Ok-clause-level
+returns-in-Ok-clause-level c steady t = bounded_same (2 ^ 31) (value_at (margin_function c.in-Ok.constant) t)
+    (value_at (margin_function c.chosen-best.result) (value c.args.u.now)) (c.in-Ok.ensures.value.0 t)
+    (three_bounded c.args.side c.args.before.now c.args.point.now c.args.after.now c.chosen-first.result c.chosen-best.result
+    (value c.args.u.now) c.chosen-first.ensures.one c.chosen-first.ensures.value c.chosen-best.ensures.one c.chosen-best.ensures.value
+    c.requires.before c.requires.point c.requires.after)
 
 pub returns-in-Err-clause-fault : goal.returns-in-Err-clause-fault
 returns-in-Err-clause-fault c =

@@ -14,9 +14,9 @@ backward g c = record {
   of_right = record { normal = c.len-2.ensures.normal; limited = c.requires.right; tells = c.in_ok-right.ensures.worth };
 }
 
-pub since_from_start-requires : goal.since_from_start-requires
-since_from_start-requires g c =
-    let m = backward g (goal.at.since_from_start-requires g c).In_ok-right in record {
+pub since_from_start-told-requires : goal.since_from_start-told-requires
+since_from_start-told-requires g c =
+    let m = backward g (goal.at.since_from_start-told-requires g c).In_ok-right in record {
       left = back_limited m.of_left;
       right = back_limited m.of_right;
       begins = same_trans_places m.of_left.tells.begins (same_trans_places (turned_same c.requires.ends) (same_places m.of_right.tells.begins));
@@ -30,14 +30,14 @@ limited_since g c = since_limited (backward g (goal.at.In-Ok g c).In_ok-right) c
 pub run_back-requires-in-Ok : goal.run_back-requires-in-Ok
 run_back-requires-in-Ok g c = limited_since g (goal.at.run_back-requires-in-Ok g c).In-Ok
 
-pub returns-in-Ok-clause-worth : goal.returns-in-Ok-clause-worth
-returns-in-Ok-clause-worth g c =
-    let at = goal.at.returns-in-Ok-clause-worth g c in
+pub returns-in_ok-run_back-in-Ok-clause-worth : goal.returns-in_ok-run_back-in-Ok-clause-worth
+returns-in_ok-run_back-in-Ok-clause-worth g c =
+    let at = goal.at.returns-in_ok-run_back-in-Ok-clause-worth g c in
     until_told (backward g at.In_ok-right) c.in-Ok.since c.in_ok-run_back-in-Ok.field-0 c.in-Ok.ensures.worth
     (record { normal = c.in-Ok.ensures.worth.normal; limited = limited_since g at.In-Ok; tells = c.in_ok-run_back-in-Ok.ensures.worth })
 
-pub returns-in-Ok-clause-bases : goal.returns-in-Ok-clause-bases
-returns-in-Ok-clause-bases g c =
+pub returns-in_ok-run_back-in-Ok-clause-bases : goal.returns-in_ok-run_back-in-Ok-clause-bases
+returns-in_ok-run_back-in-Ok-clause-bases g c =
     until_bases g.P.Shape c.args.a.now c.args.b.now c.in_ok-left.left c.in_ok-right.right c.in-Ok.since c.in_ok-run_back-in-Ok.field-0
     c.in_ok-left.ensures.bases c.in_ok-right.ensures.bases c.in-Ok.ensures.bases c.in_ok-run_back-in-Ok.ensures.bases
 
@@ -47,14 +47,14 @@ mirrored-requires-clause-pair g c =
     let small = back_limited m.of_left in
     can_mirror m.laws c.in-Err.fault small.begins small.ends c.in-Err.ensures.pair
 
-pub returns-clause-wide : goal.returns-clause-wide
-returns-clause-wide g c =
-    let m = backward g (goal.at.returns-clause-wide g c).In_ok-right in
+pub returns-in-Err-clause-wide : goal.returns-in-Err-clause-wide
+returns-in-Err-clause-wide g c =
+    let m = backward g (goal.at.returns-in-Err-clause-wide g c).In_ok-right in
     cause_back (are_back m) g.P.Shape c.in-Err.fault c.mirrored.result c.mirrored.ensures c.in-Err.ensures.wide
 
-pub returns-clause-pair : goal.returns-clause-pair
-returns-clause-pair g c =
-    let m = backward g (goal.at.returns-clause-pair g c).In_ok-right in
+pub returns-in-Err-clause-pair : goal.returns-in-Err-clause-pair
+returns-in-Err-clause-pair g c =
+    let m = backward g (goal.at.returns-in-Err-clause-pair g c).In_ok-right in
     let left = c.in_ok-left.left in
     pair_turned g.P.Shape c.in-Err.fault c.mirrored.result c.args.a.now.from.at (stop c.args.a.now).at left.from.at (stop left).at
     (begins_back m.of_left).0 (ends_back m.of_left).0 c.mirrored.ensures c.in-Err.ensures.pair

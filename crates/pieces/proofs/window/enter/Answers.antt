@@ -1,4 +1,4 @@
-use Rattle.std.proofs.Common.{◌≡◌, ◌⊎◌, ◌^◌, sym, subst, ◌∙◌}
+use Rattle.std.proofs.Common.{◌≡◌, ◌⊎◌, ◌^◌, inr, refl, sym, subst, ◌∙◌}
 use Rattle.rational.specs.Rational.{IsWithin}
 use Rattle.rational.specs.Time.{Rational}
 use Rattle.rational.specs.Places.{After, Upto, AtMost, Before}
@@ -12,7 +12,7 @@ use Rattle.pieces.specs.Chains.{stop}
 use Rattle.pieces.specs.Windows.{high_place}
 use Rattle.pieces.proofs.Ends.{at_most_itself, at_most_of_same, at_most_trans}
 use Rattle.pieces.proofs.Meeting.{none_last, none_level, none_rises, on_ok_two}
-use Rattle.pieces.proofs.Moving.{best_with_none, keeps_told, reached_on, tells_more}
+use Rattle.pieces.proofs.Moving.{best_with_none, keeps_told, tells_more}
 use Rattle.std.proofs.lemmas.Bool.{false≢true}
 use Rattle.std.proofs.lemmas.Option.{IfSome_then}
 use Rattle.std.proofs.lemmas.Result.{on_err_weaker, on_ok_weaker}
@@ -27,26 +27,27 @@ within g c = within_between (2 ^ 34) c.requires.can.limited.begins c.requires.ca
     (le_of_at_most c.args.s.now.from (stop c.args.window.now.out) c.requires.stands.on)
     (le_of_at_most (stop c.args.window.now.out) (stop c.args.s.now) c.requires.stands.upto)
 
-pub reached-next-requires-clause-from : goal.reached-next-requires-clause-from
-reached-next-requires-clause-from g c = le_trans c.requires.can.first (le_of_at_most c.args.s.now.from (place c.args.met.now) c.requires.begins)
+pub reached-requires-clause-from : goal.reached-requires-clause-from
+reached-requires-clause-from g c = le_trans c.requires.can.first (le_of_at_most c.args.s.now.from (place c.args.met.now) c.requires.begins)
 
-pub reached-next-requires-clause-to : goal.reached-next-requires-clause-to
-reached-next-requires-clause-to g c = le_trans (le_of_at_most (place c.args.met.now) (stop c.args.s.now) c.requires.ends) c.requires.can.last
-
-pub reached-next-requires-clause-at_within : goal.reached-next-requires-clause-at_within
-reached-next-requires-clause-at_within g c = subst (λ s. IsWithin (2 ^ 34) s.at) (sym c.until.ensures.value)
-    (within g (goal.at.reached-next-requires-clause-at_within g c).Start)
+pub reached-requires-clause-to : goal.reached-requires-clause-to
+reached-requires-clause-to g c = le_trans (le_of_at_most (place c.args.met.now) (stop c.args.s.now) c.requires.ends) c.requires.can.last
 
 pub tell-requires-clause-alone : goal.tell-requires-clause-alone
 tell-requires-clause-alone g c = λ h. none_last g.P.Shape (assumption g.met.P.Shape) c.args.way.now.side c.of_none.result c.of_none.ensures.value
 
 pub tell-requires-clause-rises : goal.tell-requires-clause-rises
 tell-requires-clause-rises g c = none_rises g.P.Shape (assumption g.met.P.Shape) c.args.way.now.side c.of_none.result c.of_none.ensures.value
-    (stop c.args.window.now.out).at (value c.reached-next.result.time)
+    (stop c.args.window.now.out).at (value c.in-Some.next.time)
 
 pub tell-requires-clause-level : goal.tell-requires-clause-level
 tell-requires-clause-level g c =
     none_level g.P.Shape (assumption g.met.P.Shape) c.args.way.now.side c.of_none.result c.of_none.ensures.value
+
+pub tell-requires-clause-order : goal.tell-requires-clause-order
+tell-requires-clause-order g c = subst (λ s. AtMost s (place c.in-Some.next)) c.until.ensures.value
+    (c.in-Some.ensures.on (subst (λ s. AtMost s (place c.args.way.now.to)) (sym c.until.ensures.value)
+    (subst (λ s. AtMost (stop c.args.window.now.out) s) (sym c.requires.to) c.requires.stands.upto)))
 
 pub tell-requires-clause-from_within : goal.tell-requires-clause-from_within
 tell-requires-clause-from_within g c = within g (goal.at.tell-requires-clause-from_within g c).Start
@@ -57,28 +58,24 @@ returns-clause-stands g c =
     let s = c.args.s.now in
     let way = c.args.way.now in
     let met = place c.args.met.now in
-    let next = place c.reached-next.result in
+    let next = place c.in-Some.next in
     let old = c.args.window.now in
     let new = c.tell.new.self in
     let st = c.requires.stands in
-    let at : place c.until.result ≡ stop old.out = c.until.ensures.value in
     on_ok_two c.tell.result (λ told ends.
     let upto_next : AtMost (stop new.out) next = at_most_of_same (stop new.out) next ends in
     let upto_end : AtMost (stop new.out) (stop s) = subst (λ x. AtMost (stop new.out) x) c.requires.to (at_most_trans (stop new.out) next (place way.to)
-    upto_next (c.reached-next.ensures.upto (subst (λ x. AtMost x (place way.to)) (sym at)
-    (subst (λ x. AtMost (stop old.out) x) (sym c.requires.to) st.upto)))) in
+    upto_next c.in-Some.ensures.some.upto) in
     keeps_told g.P.Shape laws s way c.requires.can.normal met met met c.of_none.result old new st told met upto_end
     (tells_more g.P.Shape laws s way c.requires.can.normal met met met c.of_none.result old new st told met
-    (λ t a u. c.reached-next.ensures.before t (subst (λ x. After x t) (sym at) a) (upto_next t u))
+    (λ t a u. c.in-Some.ensures.some.before t (upto_next t u))
     (λ t v a u b. best_with_none g.P.Shape laws s way c.requires.can.normal met met c.of_none.result old st (at_most_itself met)
     c.of_none.ensures.value t v (upto_end t u) b))
-    (reached_on g.P.Shape laws s way c.requires.can.normal met met (stop old.out) (stop new.out) next (λ t b. b) st.reached upto_next
-    (subst (λ x. AtMost next x ⊎ ((t : Rational) → Upto next t → ¬ Before met (high_place way.over.high way.over.high_in t))) at
-    c.reached-next.ensures.one))) c.tell.ensures.told c.tell.ensures.ends
+    (inr (λ t u. c.in-Some.ensures.some.before t (upto_next t u)))) c.tell.ensures.told c.tell.ensures.ends
 
 pub returns-clause-entered : goal.returns-clause-entered
-returns-clause-entered g c = on_ok_two c.tell.result (λ ends again t a u. c.reached-next.ensures.after t
-    (after_same (stop c.tell.new.self.out) (place c.reached-next.result) t ends a) (subst (λ x. Upto x t) (sym c.requires.to) u))
+returns-clause-entered g c = on_ok_two c.tell.result (λ ends again t a u. c.in-Some.ensures.some.after t
+    (after_same (stop c.tell.new.self.out) (place c.in-Some.next) t ends a) (subst (λ x. Upto x t) (sym c.requires.to) u))
     c.tell.ensures.ends c.tell.ensures.ends
 
 pub returns-clause-plays : goal.returns-clause-plays
@@ -89,10 +86,12 @@ pub returns-clause-wide : goal.returns-clause-wide
 returns-clause-wide g c =
     let s = c.args.s.now in
     let way = c.args.way.now in
-    let next = place c.reached-next.result in
+    let next = place c.in-Some.next in
     let out = stop c.args.window.now.out in
-    let lasts : AtMost next (stop s) = subst (λ x. AtMost next x) c.requires.to (c.reached-next.ensures.upto (subst (λ x. AtMost x (place way.to))
-    (sym c.until.ensures.value) (subst (λ x. AtMost out x) (sym c.requires.to) c.requires.stands.upto))) in
+    let lasts : AtMost next (stop s) = subst (λ x. AtMost next x) c.requires.to c.in-Some.ensures.some.upto in
     on_err_weaker c.tell.result (λ some. IfSome_then c.tell.new.fault some (told_cause_none g.P.Shape s way.over (assumption g.met.P.Shape) way.side
     c.of_none.result next c.args.window.now c.of_none.ensures.value c.requires.plays (le_of_at_most s.from out c.requires.stands.on)
     (le_of_at_most next (stop s) lasts))) c.tell.ensures.wide
+
+pub returns-in_default-clause-entered : goal.returns-in_default-clause-entered
+returns-in_default-clause-entered g c t a u = c.in_default.ensures.none refl t (subst (λ s. After s t) (sym c.until.ensures.value) a)

@@ -31,13 +31,6 @@ begun g c = at_most_trans c.args.s.now.from (place c.args.from.now) (end c.args.
 pub hold-requires-clause-best : goal.hold-requires-clause-best
 hold-requires-clause-best g c = inl (refl, c.requires.trend)
 
-pub left-until-requires-clause-from : goal.left-until-requires-clause-from
-left-until-requires-clause-from g c = le_trans c.requires.can.first
-    (le_of_at_most c.args.s.now.from (end c.args.piece.now) (begun g (goal.at.left-until-requires-clause-from g c).Start))
-
-pub left-until-requires-clause-to : goal.left-until-requires-clause-to
-left-until-requires-clause-to g c = le_trans (le_of_at_most (end c.args.piece.now) (stop c.args.s.now) c.requires.piece.ends) c.requires.can.last
-
 pub slide-requires-clause-steps : goal.slide-requires-clause-steps
 slide-requires-clause-steps g c = subst (λ s. AreSteps g.P.Shape c.args.way.now.side s c.hold.new.window.steps.items) (sym c.until-at.ensures.value)
     c.in_ok-hold.ensures.stands.steps
@@ -67,11 +60,11 @@ returns-clause-stands g c =
     on_ok_weaker c.slide.result (λ slid. stands_slid g.P.Shape laws s way c.requires.can.normal c.requires.some from piece c.requires.piece old
     (record { out = old.out; steps = c.slide.new.steps }) c.in_ok-hold.ensures.stands refl
     (λ t a u. c.requires.entered t (subst (λ o. After (stop o) t) c.hold.ensures.out a) u) c.in_ok-hold.ensures.past
-    c.at_low-slope.result (place c.left-until.result) c.requires.trend c.at_low-slope.ensures.value
-    (subst (λ b. HasSlid g.P.Shape way.side b old.steps.items c.at_low-slope.result (place c.left-until.result) c.slide.new.steps.items)
+    c.at_low-slope.result (place c.args.until.now) c.requires.trend c.at_low-slope.ensures.value
+    (subst (λ b. HasSlid g.P.Shape way.side b old.steps.items c.at_low-slope.result (place c.args.until.now) c.slide.new.steps.items)
     c.until-at.ensures.value slid)
-    (λ t u. let seen = c.left-until.ensures.upto t u in (seen.0, subst (λ b. Upto b t) c.requires.to seen.1))
-    (λ t a u. c.left-until.ensures.after t a (subst (λ b. Upto b t) (sym c.requires.to) u))) c.slide.ensures
+    (λ t u. let seen = c.requires.left.upto t u in (seen.0, subst (λ b. Upto b t) c.requires.to seen.1))
+    (λ t a u. c.requires.left.after t a (subst (λ b. Upto b t) (sym c.requires.to) u))) c.slide.ensures
 
 pub returns-clause-plays : goal.returns-clause-plays
 returns-clause-plays g c =
@@ -80,8 +73,8 @@ returns-clause-plays g c =
     let from = place c.args.from.now in
     let piece = c.args.piece.now in
     let old = c.hold.new.window in
-    let until = place c.left-until.result in
-    let lasts : AtMost until (stop s) = λ t u. subst (λ b. Upto b t) c.requires.to (c.left-until.ensures.upto t u).1 in
+    let until = place c.args.until.now in
+    let lasts : AtMost until (stop s) = λ t u. subst (λ b. Upto b t) c.requires.to (c.requires.left.upto t u).1 in
     on_ok_weaker c.slide.result (λ slid. plays_slid g.P.Shape s way.over way.side old (record { out = old.out; steps = c.slide.new.steps })
     c.in_ok-hold.ensures.plays refl c.at_low-slope.result until
     (λ order m. let b = c.at_low-slope.ensures.base m in (
@@ -95,7 +88,7 @@ returns-clause-plays g c =
       ),
     ))
     (fall_plays g.P.Shape s way.over c.requires.can.normal c.requires.can.small c.requires.some from piece c.requires.piece (last_end old) until
-    (λ t a u. c.in_ok-hold.ensures.past t a (lasts t u)) (λ t a u. (c.left-until.ensures.upto t u).0)
+    (λ t a u. c.in_ok-hold.ensures.past t a (lasts t u)) (λ t a u. (c.requires.left.upto t u).0)
     (g.P.Shape.function c.at_low-slope.result) c.at_low-slope.ensures.value)
     (subst (λ b. HasSlid g.P.Shape way.side b old.steps.items c.at_low-slope.result until c.slide.new.steps.items) c.until-at.ensures.value slid))
     c.slide.ensures

@@ -54,31 +54,23 @@ told g c = (
   le_trans (le_of_at_most (stop c.args.window.now.out) (stop c.args.s.now) c.requires.keeps.upto) c.requires.can.last,
 )
 
-pub left-until-requires-clause-from : goal.left-until-requires-clause-from
-left-until-requires-clause-from g c = le_trans c.requires.can.first (le_of_at_most c.args.s.now.from (place c.args.best.now)
-    (domain g (goal.at.left-until-requires-clause-from g c).Start).0)
-
-pub left-until-requires-clause-to : goal.left-until-requires-clause-to
-left-until-requires-clause-to g c = le_trans (le_of_at_most (place c.args.best.now) (stop c.args.s.now)
-    (domain g (goal.at.left-until-requires-clause-to g c).Start).1) c.requires.can.last
-
 pub returns-then-not-precedes-clause-stands : goal.returns-then-not-precedes-clause-stands
 returns-then-not-precedes-clause-stands g c =
     let at = stop c.args.window.now.out in
-    let e = place c.left-until.result in
+    let e = place c.args.until.now in
     let start = (goal.at.returns-then-not-precedes-clause-stands g c).Start in
     stands_left g.P.Shape (assumption g.met.P.Shape) c.args.s.now c.args.way.now c.requires.can.normal c.requires.some (place c.args.from.now)
     (place c.args.best.now) (place c.args.best.now) c.args.piece.now c.requires.piece c.args.window.now c.args.window.now c.requires.keeps
     (ends g start) refl refl e
     (λ t a. after_at_most e at t (at_most_of_not_before e at (λ b. false≢true (sym c.if-not-precedes.true ∙ c.precedes.ensures.1
     (subst (λ x. Before x e) (sym c.until-at.ensures.value) b)))) a)
-    (λ t a u. c.left-until.ensures.after t a (subst (λ b. Upto b t) (sym c.requires.to) u)) (begins g start)
+    (λ t a u. c.requires.left.after t a (subst (λ b. Upto b t) (sym c.requires.to) u)) (begins g start)
 
 pub returns-then-not-precedes-clause-past : goal.returns-then-not-precedes-clause-past
 returns-then-not-precedes-clause-past g c t a u =
     let at = stop c.args.window.now.out in
-    let e = place c.left-until.result in
-    c.left-until.ensures.after t (after_at_most e at t (at_most_of_not_before e at (λ b. false≢true (sym c.if-not-precedes.true
+    let e = place c.args.until.now in
+    c.requires.left.after t (after_at_most e at t (at_most_of_not_before e at (λ b. false≢true (sym c.if-not-precedes.true
     ∙ c.precedes.ensures.1 (subst (λ x. Before x e) (sym c.until-at.ensures.value) b))))
     (after_at_most at (last_end c.args.window.now) t (to_end g.P.Shape c.args.way.now.side at c.args.window.now.steps.items c.requires.keeps.steps) a))
     (subst (λ b. Upto b t) (sym c.requires.to) u)
@@ -109,16 +101,16 @@ returns-then-is_hidden-clause-stands g c =
     let best = place c.args.best.now in
     let piece = c.args.piece.now in
     stands_hidden g.P.Shape laws s way c.requires.can.normal c.requires.some from best best piece c.requires.piece c.args.window.now c.args.window.now
-    c.requires.keeps (ends g start) refl refl (value_at (g.P.Shape.function piece.shape) best.at) (place c.left-until.result) (falls g start)
+    c.requires.keeps (ends g start) refl refl (value_at (g.P.Shape.function piece.shape) best.at) (place c.args.until.now) (falls g start)
     (c.is_hidden.ensures c.if-is_hidden.true)
     (λ t a u l. best_there g.P.Shape laws s way c.requires.can.normal from piece c.requires.piece best c.requires.best c.requires.some t
     (c.requires.entered t a u) l)
-    (λ t a u. c.left-until.ensures.after t a (subst (λ b. Upto b t) (sym c.requires.to) u)) (begins g start)
+    (λ t a u. c.requires.left.after t a (subst (λ b. Upto b t) (sym c.requires.to) u)) (begins g start)
 
 pub returns-then-is_hidden-clause-past : goal.returns-then-is_hidden-clause-past
 returns-then-is_hidden-clause-past g c t a u =
-    let e = place c.left-until.result in
-    c.left-until.ensures.after t (after_at_most e (last_end c.args.window.now) t (hide_upto g.P.Shape c.args.way.now.side (stop c.args.window.now.out)
+    let e = place c.args.until.now in
+    c.requires.left.after t (after_at_most e (last_end c.args.window.now) t (hide_upto g.P.Shape c.args.way.now.side (stop c.args.window.now.out)
     c.args.window.now.steps.items (value_at (g.P.Shape.function c.args.piece.now.shape) (place c.args.best.now).at) e
     (c.is_hidden.ensures c.if-is_hidden.true)) a) (subst (λ b. Upto b t) (sym c.requires.to) u)
 
@@ -144,14 +136,14 @@ constant-requires-clause-bounded g c =
     c.requires.piece (place c.args.best.now) c.requires.best c.requires.can.limited
 
 pub constant-requires-clause-order : goal.constant-requires-clause-order
-constant-requires-clause-order g c = le_of_before (place c.until-at.result) (place c.left-until.result) (c.precedes.ensures.0 c.if-not-precedes.false)
+constant-requires-clause-order g c = le_of_before (place c.until-at.result) (place c.args.until.now) (c.precedes.ensures.0 c.if-not-precedes.false)
 
 pub constant-requires-clause-one : goal.constant-requires-clause-one
 constant-requires-clause-one g c same =
     let start = (goal.at.constant-requires-clause-one g c).Start in
     let at = c.until-at.ensures.value in
-    one_end c.args.way.now.over c.requires.can.small (place c.until-at.result) (place c.left-until.result) (place c.args.best.now) c.args.s.now.from
-    (place c.args.way.now.to) c.left-until.ensures.upto c.left-until.ensures.after
+    one_end c.args.way.now.over c.requires.can.small (place c.until-at.result) (place c.args.until.now) (place c.args.best.now) c.args.s.now.from
+    (place c.args.way.now.to) c.requires.left.upto c.requires.left.after
     (λ t a u. c.requires.entered t (subst (λ s. After s t) at a) (subst (λ s. Upto s t) c.requires.to u))
     (subst (λ s. AtMost s c.args.s.now.from ⊎ ((t : Rational) → Upto s t → ¬ Before (place c.args.best.now)
     (high_place c.args.way.now.over.high c.args.way.now.over.high_in t))) (sym at) c.requires.keeps.reached)
@@ -181,13 +173,13 @@ count-requires-clause-last g c =
     let xs = c.args.window.now.steps.items in
     let low = λ (t : Rational). low_place c.args.way.now.over.low c.args.way.now.over.low_in t in
     λ t u. elim (sides at t) [
-      | inl k ↦ upto_of_before at (place c.left-until.result) t (c.precedes.ensures.0 c.if-not-precedes.false) k
-      | inr k ↦ elim (sides (place c.left-until.result) t) [
+      | inl k ↦ upto_of_before at (place c.args.until.now) t (c.precedes.ensures.0 c.if-not-precedes.false) k
+      | inr k ↦ elim (sides (place c.args.until.now) t) [
         | inl h ↦ h
         | inr h ↦ (let x = give_some g.P.Shape c.args.way.now.side at xs t k u in
             let s = c.requires.keeps.sees t x.0 (subst (λ b. StepsGive g.P.Shape c.args.way.now.side b xs t x.0)
             c.until-at.ensures.value x.1) in
-            absurd (c.left-until.ensures.after t h (subst (λ b. Upto b t) (sym c.requires.to) s.1)
+            absurd (c.requires.left.after t h (subst (λ b. Upto b t) (sym c.requires.to) s.1)
             (before_at_most (low t) (place c.args.from.now) (place c.args.best.now) s.0 (begins g start))))
       ]
     ]
@@ -204,42 +196,42 @@ returns-clause-stands g c =
     let at = c.until-at.ensures.value in
     on_ok_weaker c.count.result (λ counted. stands_counted g.P.Shape laws s way c.requires.can.normal c.requires.some from best best piece
     c.requires.piece c.args.window.now (record { out = c.args.window.now.out; steps = c.count.new.steps }) c.requires.keeps (ends g start) refl
-    c.in_ok-value.value (place c.left-until.result)
-    (subst (λ b. HasCounted g.P.Shape way.side b c.args.window.now.steps.items c.in_ok-value.value (place c.left-until.result)
+    c.in_ok-value.value (place c.args.until.now)
+    (subst (λ b. HasCounted g.P.Shape way.side b c.args.window.now.steps.items c.in_ok-value.value (place c.args.until.now)
     c.count.new.steps.items) at counted)
-    (λ t a u. let seen = c.left-until.ensures.upto t u in
+    (λ t a u. let seen = c.requires.left.upto t u in
     best_value (symᵉ (c.in_ok-value.ensures.value t (after_le (place c.until-at.result) t (subst (λ b. After b t) (sym at) a))
-    (upto_le (place c.left-until.result) t u)))
+    (upto_le (place c.args.until.now) t u)))
     (best_there g.P.Shape laws s way c.requires.can.normal from piece c.requires.piece best c.requires.best c.requires.some t
     (c.requires.entered t a (subst (λ b. Upto b t) c.requires.to seen.1)) seen.0))
-    (λ t u. let seen = c.left-until.ensures.upto t u in (seen.0, subst (λ b. Upto b t) c.requires.to seen.1))
-    (λ t a u. c.left-until.ensures.after t a (subst (λ b. Upto b t) (sym c.requires.to) u))) c.count.ensures
+    (λ t u. let seen = c.requires.left.upto t u in (seen.0, subst (λ b. Upto b t) c.requires.to seen.1))
+    (λ t a u. c.requires.left.after t a (subst (λ b. Upto b t) (sym c.requires.to) u))) c.count.ensures
 
 pub returns-clause-past : goal.returns-clause-past
-returns-clause-past g c = on_ok_weaker c.count.result (λ counted t a u. c.left-until.ensures.after t
-    (after_same (steps_end (place c.until-at.result) c.count.new.steps.items) (place c.left-until.result) t counted.ends
+returns-clause-past g c = on_ok_weaker c.count.result (λ counted t a u. c.requires.left.after t
+    (after_same (steps_end (place c.until-at.result) c.count.new.steps.items) (place c.args.until.now) t counted.ends
     (subst (λ b. After (steps_end b c.count.new.steps.items) t) (sym c.until-at.ensures.value) a))
     (subst (λ b. Upto b t) (sym c.requires.to) u)) c.count.ensures
 
 -- the domain does not end while the value counts
-lasts : (g : Over) (c : After-until-at g) → AtMost (place c.left-until.result) (stop c.args.s.now)
-lasts g c t u = subst (λ b. Upto b t) c.requires.to (c.left-until.ensures.upto t u).1
+lasts : (g : Over) (c : After-until-at g) → AtMost (place c.args.until.now) (stop c.args.s.now)
+lasts g c t u = subst (λ b. Upto b t) c.requires.to (c.requires.left.upto t u).1
 
 -- meanwhile its constant is in play
 plays_best : (g : Over) (c : After-until-at g) → PlaysBetween g.P.Shape c.args.s.now c.args.way.now.over (stop c.args.window.now.out).at
-    (place c.left-until.result).at (value_at (g.P.Shape.function c.args.piece.now.shape) (place c.args.best.now).at)
+    (place c.args.until.now).at (value_at (g.P.Shape.function c.args.piece.now.shape) (place c.args.best.now).at)
 plays_best g c = best_plays g.P.Shape c.args.s.now c.args.way.now.over c.requires.can.normal c.requires.can.small c.requires.some (place c.args.from.now)
-    c.args.piece.now c.requires.piece (stop c.args.window.now.out) (place c.left-until.result) c.requires.breaks c.args.way.now.side
-    (place c.args.best.now) c.requires.best (λ t a u. c.requires.entered t a (lasts g c t u)) (λ t a u. (c.left-until.ensures.upto t u).0)
+    c.args.piece.now c.requires.piece (stop c.args.window.now.out) (place c.args.until.now) c.requires.breaks c.args.way.now.side
+    (place c.args.best.now) c.requires.best (λ t a u. c.requires.entered t a (lasts g c t u)) (λ t a u. (c.requires.left.upto t u).0)
 
 pub returns-in_err-value-clause-wide : goal.returns-in_err-value-clause-wide
 returns-in_err-value-clause-wide g c =
     let after = (goal.at.returns-in_err-value-clause-wide g c).After-until-at in
     let out = stop c.args.window.now.out in
     on_err_anyway c.from_residual.result (IfSome_then c.constant.new.fault c.in_err-value.ensures.wide
-    (λ pair x. value_cause g.P.Shape c.args.s.now c.args.way.now.over c.args.piece.now.shape c.args.best.now.time out.at (place c.left-until.result).at
-    (subst (λ b. b.at <ʳ (place c.left-until.result).at) c.until-at.ensures.value x.0) (le_of_at_most c.args.s.now.from out c.requires.keeps.on)
-    (le_of_at_most (place c.left-until.result) (stop c.args.s.now) (lasts g after)) (plays_best g after) pair x.1))
+    (λ pair x. value_cause g.P.Shape c.args.s.now c.args.way.now.over c.args.piece.now.shape c.args.best.now.time out.at (place c.args.until.now).at
+    (subst (λ b. b.at <ʳ (place c.args.until.now).at) c.until-at.ensures.value x.0) (le_of_at_most c.args.s.now.from out c.requires.keeps.on)
+    (le_of_at_most (place c.args.until.now) (stop c.args.s.now) (lasts g after)) (plays_best g after) pair x.1))
 
 pub returns-clause-plays : goal.returns-clause-plays
 returns-clause-plays g c =
@@ -247,7 +239,7 @@ returns-clause-plays g c =
     let s = c.args.s.now in
     let way = c.args.way.now in
     let old = c.args.window.now in
-    let until = place c.left-until.result in
+    let until = place c.args.until.now in
     let here = c.until-at.ensures.value in
     on_ok_weaker c.count.result (λ counted. plays_counted g.P.Shape s way.over way.side old (record { out = old.out; steps = c.count.new.steps })
     c.requires.plays refl c.in_ok-value.value until

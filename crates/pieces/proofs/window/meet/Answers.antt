@@ -1,6 +1,10 @@
+use Rattle.std.proofs.Common.{◌^◌, sym, subst}
+use Rattle.rational.specs.Rational.{IsWithin}
 use Rattle.rational.specs.Places.{AtMost}
+use Rattle.rational.proofs.Order.{le_trans}
+use Rattle.rational.proofs.PlaceLemmas.{le_of_at_most}
 use Rattle.frac128.specs.Cuts.{place}
-use Rattle.pieces.specs.Chains.{end}
+use Rattle.pieces.specs.Chains.{end, stop}
 use Rattle.pieces.proofs.Ends.{at_most_of_before, at_most_trans}
 use Rattle.pieces.proofs.Trends.{no_better_of, no_worse_of, steady_of}
 use Rattle.pieces.specs.Over.{IsCauseOver}
@@ -14,6 +18,16 @@ use Rattle.pieces.proofs.window.meet.Goals as goal
 begun : (g : Over) (c : Start g) → AtMost c.args.s.now.from (end c.args.piece.now)
 begun g c = at_most_trans c.args.s.now.from (place c.args.from.now) (end c.args.piece.now) c.requires.piece.begins
     (at_most_of_before (place c.args.from.now) (end c.args.piece.now) c.requires.piece.order)
+
+pub left-until-requires-clause-from : goal.left-until-requires-clause-from
+left-until-requires-clause-from g c = le_trans c.requires.can.first
+    (le_of_at_most c.args.s.now.from (end c.args.piece.now) (begun g (goal.at.left-until-requires-clause-from g c).Start))
+
+pub left-until-requires-clause-to : goal.left-until-requires-clause-to
+left-until-requires-clause-to g c = le_trans (le_of_at_most (end c.args.piece.now) (stop c.args.s.now) c.requires.piece.ends) c.requires.can.last
+
+pub left-until-requires-clause-to_within : goal.left-until-requires-clause-to_within
+left-until-requires-clause-to_within g c = subst (λ s. IsWithin (2 ^ 34) s.at) (sym c.requires.to) c.requires.can.limited.ends
 
 pub steady-requires-clause-trend : goal.steady-requires-clause-trend
 steady-requires-clause-trend g c = steady_of c.args.way.now.side (g.P.Shape.function c.args.piece.now.shape) c.in-Equal.ensures

@@ -1,4 +1,4 @@
-use Rattle.std.proofs.Common.{arith, ◌≡◌, ◌+◌, ◌^◌, suc, length, sym, ap, ◌∙◌, subst}
+use Rattle.std.proofs.Common.{arith, pos, ◌≡◌, ◌+◌, ◌^◌, suc, length, sym, ap, ◌∙◌, subst}
 use Rattle.rational.specs.Rational.{IsWithin}
 use Rattle.rational.specs.Places.{AtMost}
 use Rattle.rational.proofs.Mixed.{within_between}
@@ -16,8 +16,8 @@ use Rattle.pieces.proofs.Standing.{last_begin, next_begin}
 use Rattle.std.proofs.lemmas.Bool.{false≢true}
 use Rattle.std.proofs.lemmas.Option.{IfSome_then}
 use Rattle.std.proofs.lemmas.Result.{on_err_weaker, on_ok_weaker}
-use Rattle.rational.specs.Time.{◌≤ʳ◌}
-use Rattle.rational.proofs.Order.{le_refl}
+use Rattle.rational.specs.Time.{◌≤ʳ◌, whole}
+use Rattle.rational.proofs.Order.{le_refl, le_trans}
 use Rattle.pieces.specs.Over.{HasBreaks, IsMovedOver}
 use Rattle.pieces.proofs.Breakpoints.{breaks_at}
 use Rattle.pieces.proofs.Played.{plays_told, told_cause_none}
@@ -67,6 +67,17 @@ enter-requires-clause-ends g c = subst (λ s. AtMost s (stop c.args.s.now)) (sym
 pub enter-requires-clause-stands : goal.enter-requires-clause-stands
 enter-requires-clause-stands g c = subst (λ s. Stands g.P.Shape c.args.s.now c.args.way.now s s c.args.window.now) (sym c.from-from.ensures) c.requires.begins
 
+pub left-gone-requires-clause-from : goal.left-gone-requires-clause-from
+left-gone-requires-clause-from g c = subst (λ s. whole (pos 0) ≤ʳ s.at) (sym c.from-from.ensures) c.requires.can.first
+
+pub left-gone-requires-clause-to : goal.left-gone-requires-clause-to
+left-gone-requires-clause-to g c = subst (λ s. s.at ≤ʳ whole (pos (2 ^ 32))) (sym c.from-from.ensures)
+    (le_trans (le_of_at_most c.args.s.now.from (stop c.args.s.now) (to_stop c.args.s.now.from c.args.s.now.pieces c.requires.can.normal.rising))
+    c.requires.can.last)
+
+pub left-gone-requires-clause-to_within : goal.left-gone-requires-clause-to_within
+left-gone-requires-clause-to_within g c = subst (λ s. IsWithin (2 ^ 34) s.at) (sym c.requires.to) c.requires.can.limited.ends
+
 pub meet-requires-clause-piece : goal.meet-requires-clause-piece
 meet-requires-clause-piece g c = subst (λ b. IsPieceFrom g.P.Shape c.args.s.now b c.piece-piece.result.now) (sym c.loop-i.invariant.begins)
     (piece_from g.P.Shape (assumption g.met.P.Shape) c.args.s.now c.args.way.now c.requires.can.normal c.loop-i.i c.piece-piece.result.now
@@ -80,6 +91,7 @@ loop-i-preserved g c =
       begins = sym (subst (λ n. begin_at chain.from chain.pieces n ≡ end c.piece-piece.result.now) next
           (next_begin chain.from chain.pieces c.loop-i.i c.piece-piece.result.now c.piece-piece.ensures));
       stands = c.in_ok-meet.ensures.stands;
+      gone = c.in_ok-meet.ensures.gone;
       entered = c.in_ok-meet.ensures.entered;
       still = c.in_ok-meet.ensures.still;
       plays = c.in_ok-meet.ensures.plays;

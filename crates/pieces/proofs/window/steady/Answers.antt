@@ -31,13 +31,6 @@ begun : (g : Over) (c : Start g) → AtMost c.args.s.now.from (end c.args.piece.
 begun g c = at_most_trans c.args.s.now.from (place c.args.from.now) (end c.args.piece.now) c.requires.piece.begins
     (at_most_of_before (place c.args.from.now) (end c.args.piece.now) c.requires.piece.order)
 
-pub left-until-requires-clause-from : goal.left-until-requires-clause-from
-left-until-requires-clause-from g c = le_trans c.requires.can.first
-    (le_of_at_most c.args.s.now.from (end c.args.piece.now) (begun g (goal.at.left-until-requires-clause-from g c).Start))
-
-pub left-until-requires-clause-to : goal.left-until-requires-clause-to
-left-until-requires-clause-to g c = le_trans (le_of_at_most (end c.args.piece.now) (stop c.args.s.now) c.requires.piece.ends) c.requires.can.last
-
 pub count-requires-clause-from_within : goal.count-requires-clause-from_within
 count-requires-clause-from_within g c = subst (λ s. IsWithin (2 ^ 34) s.at) (sym c.until-at.ensures.value)
     (within_between (2 ^ 34) c.requires.can.limited.begins c.requires.can.limited.ends
@@ -67,13 +60,13 @@ count-requires-clause-last g c =
     let xs = c.args.window.now.steps.items in
     let low = λ (t : Rational). low_place c.args.way.now.over.low c.args.way.now.over.low_in t in
     λ t u. elim (sides at t) [
-      | inl k ↦ upto_of_before at (place c.left-until.result) t (c.precedes.ensures.0 c.if-precedes.true) k
-      | inr k ↦ elim (sides (place c.left-until.result) t) [
+      | inl k ↦ upto_of_before at (place c.args.until.now) t (c.precedes.ensures.0 c.if-precedes.true) k
+      | inr k ↦ elim (sides (place c.args.until.now) t) [
         | inl h ↦ h
         | inr h ↦ (let x = give_some g.P.Shape c.args.way.now.side at xs t k u in
             let s = c.requires.stands.sees t x.0 (subst (λ b. StepsGive g.P.Shape c.args.way.now.side b xs t x.0)
             c.until-at.ensures.value x.1) in
-            absurd (c.left-until.ensures.after t h (subst (λ b. Upto b t) (sym c.requires.to) s.1)
+            absurd (c.requires.left.after t h (subst (λ b. Upto b t) (sym c.requires.to) s.1)
             (before_trans (low t) (place c.args.from.now) (end c.args.piece.now) s.0 c.requires.piece.order)))
       ]
     ]
@@ -89,26 +82,26 @@ returns-then-precedes-clause-stands g c =
     on_ok_weaker c.count.result (λ counted. stands_counted g.P.Shape laws s way c.requires.can.normal c.requires.some from from (end piece) piece
     c.requires.piece c.args.window.now (record { out = c.args.window.now.out; steps = c.count.new.steps }) c.requires.stands
     (at_most_of_before from (end piece) c.requires.piece.order) refl
-    c.at_high-level.result (place c.left-until.result)
-    (subst (λ b. HasCounted g.P.Shape way.side b c.args.window.now.steps.items c.at_high-level.result (place c.left-until.result)
+    c.at_high-level.result (place c.args.until.now)
+    (subst (λ b. HasCounted g.P.Shape way.side b c.args.window.now.steps.items c.at_high-level.result (place c.args.until.now)
     c.count.new.steps.items) c.until-at.ensures.value counted)
-    (λ t a u. let seen = c.left-until.ensures.upto t u in
+    (λ t a u. let seen = c.requires.left.upto t u in
     best_value (transᵉ (c.requires.trend t (add t (whole way.over.high))) (symᵉ (c.at_high-level.ensures.value t)))
     (steady_met g.P.Shape laws s way c.requires.can.normal c.requires.some from piece c.requires.piece t c.requires.trend
     (c.requires.entered t a (subst (λ b. Upto b t) c.requires.to seen.1)) seen.0 t))
-    (λ t u. let seen = c.left-until.ensures.upto t u in (seen.0, subst (λ b. Upto b t) c.requires.to seen.1))
-    (λ t a u. c.left-until.ensures.after t a (subst (λ b. Upto b t) (sym c.requires.to) u))) c.count.ensures
+    (λ t u. let seen = c.requires.left.upto t u in (seen.0, subst (λ b. Upto b t) c.requires.to seen.1))
+    (λ t a u. c.requires.left.after t a (subst (λ b. Upto b t) (sym c.requires.to) u))) c.count.ensures
 
 pub returns-clause-stands : goal.returns-clause-stands
 returns-clause-stands g c =
     let at = stop c.args.window.now.out in
-    let e = place c.left-until.result in
+    let e = place c.args.until.now in
     stands_left g.P.Shape (assumption g.met.P.Shape) c.args.s.now c.args.way.now c.requires.can.normal c.requires.some (place c.args.from.now)
     (place c.args.from.now) (end c.args.piece.now) c.args.piece.now c.requires.piece c.args.window.now c.args.window.now c.requires.stands
     (at_most_of_before (place c.args.from.now) (end c.args.piece.now) c.requires.piece.order) refl refl e
     (λ t a. after_at_most e at t (at_most_of_not_before e at (λ b. false≢true (sym c.if-precedes.false ∙ c.precedes.ensures.1
     (subst (λ x. Before x e) (sym c.until-at.ensures.value) b)))) a)
-    (λ t a u. c.left-until.ensures.after t a (subst (λ b. Upto b t) (sym c.requires.to) u))
+    (λ t a u. c.requires.left.after t a (subst (λ b. Upto b t) (sym c.requires.to) u))
     (at_most_of_before (place c.args.from.now) (end c.args.piece.now) c.requires.piece.order)
 
 pub returns-then-precedes-clause-plays : goal.returns-then-precedes-clause-plays
@@ -117,13 +110,13 @@ returns-then-precedes-clause-plays g c =
     let way = c.args.way.now in
     let old = c.args.window.now in
     let piece = c.args.piece.now in
-    let until = place c.left-until.result in
-    let lasts : AtMost until (stop s) = λ t u. subst (λ b. Upto b t) c.requires.to (c.left-until.ensures.upto t u).1 in
+    let until = place c.args.until.now in
+    let lasts : AtMost until (stop s) = λ t u. subst (λ b. Upto b t) c.requires.to (c.requires.left.upto t u).1 in
     on_ok_weaker c.count.result (λ counted. plays_counted g.P.Shape s way.over way.side old (record { out = old.out; steps = c.count.new.steps })
     c.requires.plays refl c.at_high-level.result until
     (λ m. let b = c.at_high-level.ensures.base m in (piece.shape, c.requires.piece.has, b.0, inl b.1))
     (steady_plays g.P.Shape s way.over c.requires.can.normal c.requires.can.small c.requires.some (place c.args.from.now) piece c.requires.piece
-    (stop old.out) until c.requires.breaks c.requires.trend (λ t a u. c.requires.entered t a (lasts t u)) (λ t a u. (c.left-until.ensures.upto t u).0)
+    (stop old.out) until c.requires.breaks c.requires.trend (λ t a u. c.requires.entered t a (lasts t u)) (λ t a u. (c.requires.left.upto t u).0)
     (g.P.Shape.function c.at_high-level.result) c.at_high-level.ensures.value)
     (subst (λ b. HasCounted g.P.Shape way.side b old.steps.items c.at_high-level.result until c.count.new.steps.items) c.until-at.ensures.value counted))
     c.count.ensures

@@ -24,12 +24,26 @@ use Rattle.report.proofs.Advances.{IsSpelledTo, spelled_start, room_to, spelled_
 use Rattle.report.proofs.signal.put_verdicts.Goals as goal
 use Rattle.report.proofs.signal.put_verdicts.Goals.{After-put_line_past, After-close-end}
 
+-- before the first line there is a first part of the lines: nothing
+pub returns-in_err-lines-clause-err : goal.returns-in_err-lines-clause-err
+returns-in_err-lines-clause-err c =
+    let s = c.args.s.now in
+    let signal = c.len-knots.ensures.signal in
+    let old = c.args.text.now in
+    let begun = spelled_start s c.knot_in_place.result.now c.start-span.result c.knot_in_place.ensures c.start-span.ensures.from c.start-span.ensures.from_in
+    c.start-span.ensures.holds in
+    let some = signal.some in
+    let (later, end, all) = told_to_end s (length s - 1) 0 [] c.start-span.result signal (omega (arith, some)) begun in
+    on_err_anyway _
+    (part_as (AreEntries truth_shape false c.args.scale s) (AreSignalLines truth_shape c.args.scale s) old old (entries_are_lines truth_shape c.args.scale s)
+    (entries_part truth_shape false c.args.scale s [] [] later end old old old all ([], refl, sym (append-nil old)) ([], [], refl, sym (append-nil old))))
+
 pub loop-i-init : goal.loop-i-init
 loop-i-init c = (
   [],
   spelled_start c.args.s.now c.knot_in_place.result.now c.start-span.result c.knot_in_place.ensures c.start-span.ensures.from c.start-span.ensures.from_in
       c.start-span.ensures.holds,
-  ([], refl, ap (λ w. c.args.text.now ++ w) c.new-lines.ensures),
+  ([], refl, ap (λ w. c.args.text.now ++ w) c.in_ok-lines.ensures),
   ([], sym (append-nil c.args.text.now)),
 )
 

@@ -1,16 +1,8 @@
-use Rattle.std.proofs.Common.{Bool, true, false, if◌then◌else◌, ◌≤◌, ◌++◌, codes, length, arith}
-use Rattle.stl_syntax.specs.Texts.{bool_text, newline}
+use Rattle.std.proofs.Common.{arith}
 use Rattle.report.specs.VerdictForms.{line_begin}
 use Rattle.report.proofs.Adding.{add_then, add_as}
-use Rattle.report.proofs.Spans.{line_is}
+use Rattle.report.proofs.Spans.{end_short, line_is}
 use Rattle.report.proofs.verdict_lines.add_verdict.Goals as goal
-
--- an ending is short
-end_short : (a b : Bool) → length ((if a then codes "]" else codes ")") ++ codes " " ++ bool_text b ++ newline) ≤ 8
-end_short true true = omega arith
-end_short true false = omega arith
-end_short false true = omega arith
-end_short false false = omega arith
 
 pub returns : goal.returns
 returns c =

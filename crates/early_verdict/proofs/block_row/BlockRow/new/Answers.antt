@@ -1,4 +1,4 @@
-use Rattle.std.proofs.Common.{◌≡◌, ◌<◌, suc, [], length, get_or, sym, subst, arith}
+use Rattle.std.proofs.Common.{◌<◌, [], length, get_or, sym, subst, arith}
 use Rattle.stl_syntax.specs.Trace.{IsTrace, Row}
 use Rattle.atom_lines.proofs.Columns.{next_row, row_width}
 use Rattle.early_verdict.proofs.block_row.BlockRow.new.Goals as goal

@@ -1,4 +1,4 @@
-use Rattle.std.proofs.Common.{◌≡◌, ◌-◌, [], sym, subst}
+use Rattle.std.proofs.Common.{◌≡◌, [], sym, subst}
 use Rattle.std.specs.Prelude.{IfSome}
 use Rattle.early_verdict.proofs.BlockLemmas.{row_before_is}
 use Rattle.early_verdict.proofs.block_row.BlockRow.time_before.Goals as goal

@@ -1,4 +1,4 @@
-use Rattle.std.proofs.Common.{false, List, length, refl, sym, subst}
+use Rattle.std.proofs.Common.{false, List, refl, sym, subst}
 use Rattle.std.specs.Prelude.{IsSome}
 use Rattle.stl_syntax.specs.Trace.{Row}
 use Rattle.stl_syntax.specs.Formula.{root}

@@ -2,9 +2,8 @@ use Rattle.std.proofs.Common.{◌≡◌, ◌≤◌, ◌<◌, ◌-◌, false, Lis
 use Rattle.std.specs.Prelude.{IfSome}
 use Rattle.stl_syntax.specs.Trace.{Row, Trace}
 use Rattle.stl_syntax.specs.Formula.{root}
-use Rattle.early_verdict.specs.Answers.{newly_decided}
+use Rattle.early_verdict.specs.Standing.{own_of}
 use Rattle.early_verdict.specs.Deciding.{Kept, IsAnswer, Stands, decided_by, last_of}
-use Rattle.early_verdict.specs.declared.early.Decided.{Decided}
 use Rattle.early_verdict.proofs.Answering.{as_open, decided_newly, from_open, row_answer, stands_before, stands_behind}
 use Rattle.early_verdict.proofs.BlockLemmas.{last_kept, later_than, one_kept}
 use Rattle.early_verdict.proofs.Feeding.{as_ended, unended}
@@ -51,7 +50,7 @@ after c = record {
   nodes = c.self.inside.formula.nodes;
   header = c.keep_last.new.self.header;
   bound = c.self.inside.bound;
-  live = c.take_rows.new.self.net.live.items;
+  live = own_of c.self.inside.formula.nodes c.take_rows.new.self.net;
   shown = c.take_rows.new.self.net.shown.items;
   begin = c.take_rows.new.self.begin;
   last = last_of c.keep_last.new.self.rows;

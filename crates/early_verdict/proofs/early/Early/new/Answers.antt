@@ -1,5 +1,6 @@
-use Rattle.std.proofs.Common.{[], None, false, length, ◌≤◌, sym, ap, subst, arith}
+use Rattle.std.proofs.Common.{[], None, false, length, sym, ap, subst, arith}
 use Rattle.stl_syntax.specs.Trace.{Trace}
+use Rattle.early_verdict.specs.Standing.{own_list}
 use Rattle.early_verdict.specs.Deciding.{Stands, last_of}
 use Rattle.early_verdict.proofs.Feeding.{fresh}
 use Rattle.early_verdict.proofs.early.Early.new.Goals as goal
@@ -10,7 +11,7 @@ stands : (c : After-new-3) → Stands (record {
   nodes = c.args.formula.nodes;
   header = c.new.result.header;
   bound = c.args.bound;
-  live = c.new-2.result.items;
+  live = own_list c.args.formula.nodes c.new-2.result.items c.new-3.result.items;
   shown = c.new-3.result.items;
   begin = 0;
   last = last_of c.new.result.rows;
@@ -22,7 +23,7 @@ stands c = subst (λ (t : Trace). Stands (record {
   nodes = c.args.formula.nodes;
   header = t.header;
   bound = c.args.bound;
-  live = c.new-2.result.items;
+  live = own_list c.args.formula.nodes c.new-2.result.items c.new-3.result.items;
   shown = c.new-3.result.items;
   begin = 0;
   last = last_of t.rows;
@@ -30,7 +31,8 @@ stands c = subst (λ (t : Trace). Stands (record {
   ended = false;
   stopped = false;
 }) [] false) (sym c.new.ensures)
-    (fresh c.args.bound c.args.formula c.args.header c.new-2.result.items c.new-3.result.items c.len.ensures.well_formed.nodes
+    (fresh c.args.bound c.args.formula c.args.header (own_list c.args.formula.nodes c.new-2.result.items c.new-3.result.items)
+    c.new-3.result.items c.len.ensures.well_formed.nodes
     c.len.ensures.well_formed.some c.requires)
 
 pub invariant_of-result : goal.invariant_of-result

@@ -1,8 +1,9 @@
-use Rattle.std.proofs.Common.{◌≡◌, ◌≤◌, ◌<◌, ◌-◌, false, List, ◌++◌, length, refl, sym, ap, subst, ◌∙◌, arith, length-append}
+use Rattle.std.proofs.Common.{◌≤◌, ◌<◌, ◌-◌, false, List, ◌++◌, length, refl, sym, ap, subst, ◌∙◌, arith, length-append}
 use Rattle.stl_syntax.specs.Trace.{Row, Trace}
 use Rattle.stl_syntax.specs.Formula.{root}
 use Rattle.trace_reader.specs.Taken.{HasTraceSoFar}
-use Rattle.early_verdict.specs.Deciding.{Kept, HasTakenRows, IsBlockAnswer, Stands, last_of, trace_of}
+use Rattle.early_verdict.specs.Standing.{own_of}
+use Rattle.early_verdict.specs.Deciding.{Kept, IsBlockAnswer, Stands, last_of, trace_of}
 use Rattle.early_verdict.proofs.Answering.{as_open, block_answer, from_open, stands_before, stands_behind}
 use Rattle.early_verdict.proofs.BlockLemmas.{one_kept, so_far_of}
 use Rattle.early_verdict.proofs.Feeding.{as_ended, unended}
@@ -48,7 +49,7 @@ after c = record {
   nodes = c.self.inside.formula.nodes;
   header = c.keep_last.new.self.header;
   bound = c.self.inside.bound;
-  live = c.take_rows-2.new.self.net.live.items;
+  live = own_of c.self.inside.formula.nodes c.take_rows-2.new.self.net;
   shown = c.take_rows-2.new.self.net.shown.items;
   begin = c.take_rows-2.new.self.begin;
   last = last_of c.keep_last.new.self.rows;

@@ -1,10 +1,8 @@
-use Rattle.std.proofs.Common.{◌≡◌, ◌<◌, ℕ, false, Some, None, List, [], ◌∷◌, ◌++◌, length, refl, sym, ap, subst, ◌∙◌}
-use Rattle.std.specs.Prelude.{IfSome}
+use Rattle.std.proofs.Common.{◌<◌, ℕ, false, Some, List, [], ◌∷◌, ◌++◌, length, refl, sym, ap, subst, ◌∙◌}
 use Rattle.stl_syntax.specs.Trace.{Header, Row}
 use Rattle.early_verdict.specs.BlockRows.{own_row, previous_row}
-use Rattle.early_verdict.specs.Standing.{AllTidy}
+use Rattle.early_verdict.specs.Standing.{AllTidy, own_of}
 use Rattle.early_verdict.specs.Deciding.{Kept, IsVerdict, Stands, kept_of}
-use Rattle.early_verdict.specs.declared.progress.Progress.{Progress}
 use Rattle.early_verdict.specs.declared.sets.Sets.{Sets}
 use Rattle.early_verdict.proofs.Answering.{stays_none, stays_same}
 use Rattle.early_verdict.proofs.BlockLemmas.{own_later, own_wide}
@@ -38,7 +36,7 @@ root_verdict-requires-clause-some c =
     let x = kept_of c.args.formula.now c.args.bound.now header (previous_row c.args.next.now) c.args.self.now in
     let o = open_of x c.args.formula.now rows refl st (none_if c.args.self.now.decided (sym c.is_some.ensures ∙ c.if-is_some.false)) in
     subst (λ (xs : List Sets). 0 < length xs) (sym c.deref.ensures.value)
-    (some_shown x.nodes header c.in_ok-begin.begin c.take_row.new.net.live.items c.take_row.new.net.shown.items rows
+    (some_shown x.nodes header c.in_ok-begin.begin (own_of x.nodes c.take_row.new.net) c.take_row.new.net.shown.items rows
     (own_row c.args.next.now) (c.in_ok-begin.ensures header rows o) st.some)
 
 pub root_verdict-requires-clause-tidy : goal.root_verdict-requires-clause-tidy
@@ -47,7 +45,7 @@ root_verdict-requires-clause-tidy c =
     let x = kept_of c.args.formula.now c.args.bound.now header (previous_row c.args.next.now) c.args.self.now in
     let o = open_of x c.args.formula.now rows refl st (none_if c.args.self.now.decided (sym c.is_some.ensures ∙ c.if-is_some.false)) in
     subst (λ (xs : List Sets). AllTidy xs) (sym c.deref.ensures.value)
-    (shown_tidy x.nodes header c.in_ok-begin.begin c.take_row.new.net.live.items c.take_row.new.net.shown.items rows
+    (shown_tidy x.nodes header c.in_ok-begin.begin (own_of x.nodes c.take_row.new.net) c.take_row.new.net.shown.items rows
     (own_row c.args.next.now) (c.in_ok-begin.ensures header rows o))
 
 pub let_go_by-requires : goal.let_go_by-requires
@@ -55,7 +53,7 @@ let_go_by-requires c = λ e.
     let (header, rows, st) = c.requires.stands in
     let x = kept_of c.args.formula.now c.args.bound.now header (previous_row c.args.next.now) c.args.self.now in
     let o = open_of x c.args.formula.now rows refl st (none_if c.args.self.now.decided (sym c.is_some.ensures ∙ c.if-is_some.false)) in
-    net_of x.nodes header c.in_ok-begin.begin c.take_row.new.net.live.items c.take_row.new.net.shown.items rows (own_row c.args.next.now)
+    net_of x.nodes header c.in_ok-begin.begin (own_of x.nodes c.take_row.new.net) c.take_row.new.net.shown.items rows (own_row c.args.next.now)
     (c.in_ok-begin.ensures header rows o)
 
 -- the row is taken
@@ -65,7 +63,7 @@ taken : (c : After-let_go_by) (header : Header) (rows : List Row)
       nodes = c.args.formula.now.nodes;
       header = header;
       bound = c.args.bound.now;
-      live = c.let_go_by.new.net.live.items;
+      live = own_of c.args.formula.now.nodes c.let_go_by.new.net;
       shown = c.let_go_by.new.net.shown.items;
       begin = c.in_ok-begin.begin;
       last = Some (own_row c.args.next.now);
@@ -79,7 +77,7 @@ taken c header rows st =
     let x : Kept = kept_of c.args.formula.now c.args.bound.now header (previous_row y) c.args.self.now in
     let none = none_if c.args.self.now.decided (sym c.is_some.ensures ∙ c.if-is_some.false) in
     let are = c.in_ok-begin.ensures header rows (open_of x c.args.formula.now rows refl st none) in
-    let live = c.take_row.new.net.live.items in
+    let live = own_of x.nodes c.take_row.new.net in
     let shown = c.take_row.new.net.shown.items in
     let is = c.decided_at-decided.ensures ∙ ap (λ (t : ℕ). decided_now t c.root_verdict.result) c.time.ensures in
     (fed_by {x = x} {rows = rows} {r = r} (record {
@@ -91,7 +89,7 @@ taken c header rows st =
       shown = shown;
       are = are;
       says = subst (λ (xs : List Sets). IsVerdict xs c.in_ok-begin.begin c.root_verdict.result) c.deref.ensures.value c.root_verdict.ensures;
-      kept = λ e. sets_as x.nodes header c.in_ok-begin.begin live shown c.let_go_by.new.net.live.items c.let_go_by.new.net.shown.items rows r
+      kept = λ e. sets_as x.nodes header c.in_ok-begin.begin live shown (own_of x.nodes c.let_go_by.new.net) c.let_go_by.new.net.shown.items rows r
           (c.let_go_by.ensures (is ∙ e)) are;
     }) refl is).0
 

@@ -1,5 +1,5 @@
-use Rattle.std.proofs.Common.{◌≡◌, ℕ, suc, ◌+◌, ◌-◌, ◌<◌, ◌++◌, ◌∷◌, [], List, Some, false, length, take, drop, sym, ap, subst, ◌∙◌, arith, append_assoc, append-nil}
-use Rattle.std.proofs.Common.{refl, get_or}
+use Rattle.std.proofs.Common.{◌≡◌, ℕ, suc, ◌+◌, ◌-◌, ◌++◌, ◌∷◌, [], List, Some, false, length, take, drop, sym, ap, subst}
+use Rattle.std.proofs.Common.{◌∙◌, arith, append_assoc, append-nil}
 use Rattle.rational.proofs.Lists.{take_rest}
 use Rattle.stl_syntax.specs.Trace.{Row, Trace}
 use Rattle.atom_lines.specs.Rows.{row_of}
@@ -73,7 +73,8 @@ returns-clause-stands c header rows st =
     let block = c.args.block.now in
     let from = c.args.from in
     let end : c.loop-at.at ≡ length block.rows = omega arith in
-    subst (λ (l : List Row). Stands (kept_of c.args.formula.now c.args.bound.now header (row_before block (length block.rows)) c.loop-at.self) (rows ++ l) false)
+    subst (λ (l : List Row). Stands (kept_of c.args.formula.now c.args.bound.now header (row_before block (length block.rows)) c.loop-at.self)
+    (rows ++ l) false)
     (take_rest block.rows from)
     (subst (λ n. Stands (kept_of c.args.formula.now c.args.bound.now header (row_before block n) c.loop-at.self)
     (rows ++ take (n - from) (drop from block.rows)) false) end (c.loop-at.invariant.stands header rows st))

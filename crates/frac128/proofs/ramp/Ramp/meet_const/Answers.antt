@@ -7,7 +7,7 @@ use Rattle.rational.proofs.Meetings.{parallels_do_not_cross}
 use Rattle.frac128.proofs.RampDifferences.{parallel_of_level}
 use Rattle.frac128.specs.Line.{line}
 use Rattle.frac128.specs.Value.{value}
-use Rattle.frac128.proofs.Meets.{Ends, refuted, uncrossed, crossing_fits, crossing_made, crossing_wide}
+use Rattle.frac128.proofs.Meets.{Ends, between_is, refuted, uncrossed, crossing_fits, crossing_made, crossing_wide}
 use Rattle.frac128.proofs.ramp.Ramp.meet_const.Goals as goal
 
 pub returns-then-not-are_opposite : goal.returns-then-not-are_opposite
@@ -72,3 +72,10 @@ returns-in-Err c =
       at_end = order_same c.cmp_const-2.result (same_refl _) (same_sym (at_constant k _)) c.cmp_const-2.ensures;
     } in
     crossing_wide _ c.in-Err.wide.den e (c.if-not-are_opposite.ensures.0 refl) (c.in-Some.ensures.meets.1) c.in-Err.ensures.wide
+
+pub returns-in-Some-small : goal.returns-in-Some-small
+returns-in-Some-small c =
+    let f = line c.args.self.now in
+    let g = constant (value c.args.c.now) in
+    between_is f g (value c.args.from.now) (value c.args.to.now) _ c.between.result c.in-Some-small.t c.between.ensures c.in-Some.ensures.meets.1
+    c.in-Some-small.ensures

@@ -4,7 +4,7 @@ use Rattle.rational.proofs.Meetings.{order_of_gap, parallels_do_not_cross}
 use Rattle.frac128.proofs.Differences.{meeting}
 use Rattle.frac128.specs.Line.{line}
 use Rattle.frac128.specs.Value.{value}
-use Rattle.frac128.proofs.Meets.{Ends, refuted, uncrossed, crossing_fits, crossing_made, crossing_wide}
+use Rattle.frac128.proofs.Meets.{Ends, between_is, refuted, uncrossed, crossing_fits, crossing_made, crossing_wide}
 use Rattle.frac128.proofs.ramp.Ramp.meet_ramp.Goals as goal
 
 pub returns-then-not-are_opposite : goal.returns-then-not-are_opposite
@@ -65,3 +65,10 @@ returns-in-Err c =
     } in
     crossing_wide _ c.in-Err.wide.den e (c.if-not-are_opposite.ensures.0 refl)
     ((meeting f g _ _ (Some c.in-Some.time) c.of-gap.ensures c.in-Some.ensures).1) c.in-Err.ensures.wide
+
+pub returns-in-Some-small : goal.returns-in-Some-small
+returns-in-Some-small c =
+    let f = line c.args.self.now in
+    let g = line c.args.other.now in
+    between_is f g (value c.args.from.now) (value c.args.to.now) _ c.between.result c.in-Some-small.t c.between.ensures
+    ((meeting f g _ _ (Some c.in-Some.time) c.of-gap.ensures c.in-Some.ensures).1) c.in-Some-small.ensures

@@ -17,7 +17,7 @@ added c =
     let w = c.args.w.now in
     on_good c.add_themselves.result c.add_themselves.ensures.ok (λ a.
     adds_then (adds_then (adds_as (BySome (SeesUpto w (place c.args.before.now))) c.deref.ensures.value c.in_ok-add_all_sure.ensures.ok)
-    c.in_ok-add_seeing_between.ensures.ok) (adds_as (SeesItself w) c.deref-2.ensures.value a))
+    c.in_ok-add_seeing_between.ensures.ok) (adds_as (SeesItself w (place c.args.sure.now)) c.deref-2.ensures.value a))
 
 pub returns-clause-tidy : goal.returns-clause-tidy
 returns-clause-tidy c = on_good c.add_themselves.result (added c) (λ a. a.tidy)

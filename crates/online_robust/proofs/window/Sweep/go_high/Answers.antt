@@ -131,6 +131,12 @@ returns-in_err-constant-clause-wide c x at high =
     (told_by c.frozen.new.fault) c.in_err-constant.ensures.fault in
     on_err_anyway c.from_residual.result h
 
+pub come-requires-clause-steady : goal.come-requires-clause-steady
+come-requires-clause-steady c = c.in_ok-constant.ensures.steady
+
+pub come-requires-clause-level : goal.come-requires-clause-level
+come-requires-clause-level c = c.in_ok-constant.ensures.level
+
 pub returns-in_err-come-clause-wide : goal.returns-in_err-come-clause-wide
 returns-in_err-come-clause-wide c x at high =
     on_err_anyway c.from_residual-in_err-come.result (memory_told (IsUnfixedHigh x c.args.self.now) c.frozen.new.fault c.in_ok-constant.ensures.still tt)
@@ -162,7 +168,7 @@ returns-clause-stands c x at high =
         spread = frozen_spread x c.args.self.now c.args.edges.now c.pass.new.self c.enter-next.new.edges c.in-Some.line.now c.enter-next.result
             at high (sym (rw c.in-Some.is at c.unread.ensures)) (c.pass.ensures.read c.in-Some.line.now (sym (rw c.in-Some.is at c.unread.ensures)))
             c.pass.ensures.start c.enter-next.ensures en c.come.new.self
-            c.in_ok-constant.constant knot frozen c.in_ok-come.ensures.stands c.in_ok-come.ensures.side;
+            c.in_ok-constant.constant knot frozen c.in_ok-come.ensures.come c.in_ok-come.ensures.side;
       },
       before_goes x c.args.self.now c.args.edges.now c.pass.new.self c.enter-next.new.edges c.in-Some.line.now c.enter-next.result
           at high (sym (rw c.in-Some.is at c.unread.ensures))

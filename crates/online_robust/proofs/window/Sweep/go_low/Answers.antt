@@ -1,7 +1,8 @@
 use Rattle.std.proofs.Common.{sym}
 use Rattle.online_robust.proofs.Builts.{tick_within}
 use Rattle.online_robust.proofs.Countdown.{low_fewer}
-use Rattle.online_robust.proofs.LowLemmas.{before_goes, frozen_spread, knot_is, line_tick, plain_is, plain_spread, point_there, shed, some_line, within_new}
+use Rattle.online_robust.proofs.LowLemmas.{before_goes, frozen_spread, knot_is, line_tick, plain_is, plain_spread, point_there}
+use Rattle.online_robust.proofs.LowLemmas.{shed, some_among, some_line, within_new}
 use Rattle.online_robust.proofs.window.Sweep.go_low.Goals as goal
 
 pub unreachable-requires : goal.unreachable-requires
@@ -42,6 +43,16 @@ returns-then-is_plain-clause-shed c x at low =
     shed x c.args.self.now c.args.edges.now c.drop_gap.new.edges at low c.drop_gap.ensures c.skip.new.self c.in-Some.line.now
     c.front-next.result (sym (rw c.in-Some.is at c.ahead.ensures)) c.skip.ensures.taken c.skip.ensures.start c.front-next.ensures
 
+pub leave-requires : goal.leave-requires
+leave-requires c =
+    let (x, at, low) = c.requires in
+    some_among x c.args.self.now c.args.edges.now c.drop_gap.new.edges at low c.drop_gap.ensures c.skip.new.self c.in-Some.line.now
+    c.front-next.result (sym (rw c.in-Some.is at c.ahead.ensures)) c.skip.ensures.taken c.skip.ensures.start c.front-next.ensures
+    (knot_is x c.args.self.now c.args.edges.now c.drop_gap.new.edges at low c.drop_gap.ensures c.skip.new.self c.in-Some.line.now
+    c.front-next.result (sym (rw c.in-Some.is at c.ahead.ensures)) c.skip.ensures.taken c.skip.ensures.start c.front-next.ensures c.end-u.result
+    c.margin-point.result c.end-u.ensures c.margin-point.ensures (c.is_plain.ensures.counts c.if-is_plain.false)
+    (c.is_plain.ensures.knot c.if-is_plain.false))
+
 pub returns-clause-stands : goal.returns-clause-stands
 returns-clause-stands c x at low =
     let knot = knot_is x c.args.self.now c.args.edges.now c.drop_gap.new.edges at low c.drop_gap.ensures c.skip.new.self c.in-Some.line.now
@@ -53,7 +64,7 @@ returns-clause-stands c x at low =
             c.front-next.result (sym (rw c.in-Some.is at c.ahead.ensures)) c.skip.ensures.taken c.skip.ensures.start c.front-next.ensures;
         spread = frozen_spread x c.args.self.now c.args.edges.now c.drop_gap.new.edges at low c.drop_gap.ensures c.skip.new.self c.in-Some.line.now
             c.front-next.result (sym (rw c.in-Some.is at c.ahead.ensures)) c.skip.ensures.taken c.skip.ensures.start c.front-next.ensures
-            c.leave.new.self knot c.in_ok-leave.ensures.side c.in_ok-leave.ensures.stands;
+            c.leave.new.self knot c.leave.ensures.side c.leave.ensures.left;
       },
       before_goes x c.args.self.now c.args.edges.now c.drop_gap.new.edges at low c.drop_gap.ensures c.skip.new.self c.in-Some.line.now
           c.front-next.result (sym (rw c.in-Some.is at c.ahead.ensures)) c.skip.ensures.taken c.skip.ensures.start c.front-next.ensures,

@@ -1,5 +1,4 @@
 use Rattle.std.proofs.Common.{arith, inr, refl, sym, subst}
-use Rattle.std.proofs.lemmas.Result.{on_ok_weaker}
 use Rattle.rational.specs.Time.{shifted}
 use Rattle.frac128.specs.Value.{value}
 use Rattle.online_robust.specs.Sweeping.{EndsAt}
@@ -68,7 +67,7 @@ pub returns-then-ends_at-clause-fewer : goal.returns-then-ends_at-clause-fewer
 returns-then-ends_at-clause-fewer c ends = c.under_low.ensures.fewer
 
 pub returns-then-ends_at-clause-no_more : goal.returns-then-ends_at-clause-no_more
-returns-then-ends_at-clause-no_more c = on_ok_weaker c.under_low.result (λ less. omega (arith, less)) c.under_low.ensures.fewer
+returns-then-ends_at-clause-no_more c = let less = c.under_low.ensures.fewer in omega (arith, less)
 
 pub returns-clause-fewer : goal.returns-clause-fewer
 returns-clause-fewer c ends =

@@ -2,7 +2,7 @@ use Rattle.std.proofs.Common.{inl, inr, refl}
 use Rattle.online_robust.proofs.window.Sweep.top.Goals as goal
 
 pub returns-in-Some : goal.returns-in-Some
-returns-in-Some c cs stands = inl (c.in-Some.ensures cs stands)
+returns-in-Some c = inl c.in-Some.ensures
 
 pub returns-in-None : goal.returns-in-None
-returns-in-None c cs stands = inr (c.in-None.ensures cs stands, refl)
+returns-in-None c = inr (c.in-None.ensures, refl)

@@ -19,7 +19,7 @@ returns c = λ case same bound none.
       emitted = [];
       is_emitted = refl;
       start = refl;
-      no_times = c.new.ensures.items;
-      none_pending = c.new-2.ensures;
-      none_waiting = c.new-3.ensures;
+      no_times = c.new-2.ensures.items;
+      none_pending = c.new-3.ensures;
+      none_waiting = c.in_ok-lines.ensures;
     }
