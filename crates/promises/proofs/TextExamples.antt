@@ -9,7 +9,7 @@ use Rattle.command_line.specs.ErrTexts.{formula_fault_text, trace_fault_text, un
 use Rattle.stl_syntax.specs.Texts.{newline}
 use Rattle.stl_syntax.specs.Limits.{HasLargeConstant}
 use Rattle.stl_syntax.specs.Binding.{IsUnknown, IsUnitFault}
-use Rattle.whole_answers.specs.Generator.{rows_after}
+use Rattle.workload_summary.specs.Generator.{rows_after}
 use Rattle.command_line.specs.Commands.{IsForm, on_formula, robust, of_formula}
 use Rattle.workbench.specs.Sessions.{MuxText, own, tag, IsTagged, followed}
 use Rattle.stl_syntax.specs.declared.scale.Scale.{Scale}

@@ -1,5 +1,3 @@
 pub mod Progress
 pub mod CaseSignals
 mod Measured
-mod Summaries
-mod Fitting

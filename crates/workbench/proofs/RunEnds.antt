@@ -31,8 +31,8 @@ use Rattle.trace_stream.specs.declared.case.Case.{Case}
 use Rattle.workbench.specs.declared.fault.Stop.{Stop}
 use Rattle.workbench.specs.declared.fault.Stop.TheVariants.{Fault as Faulty, Input as FaultyLine, Unread, Unwritten, NoMemory, Wide, TooMany}
 use Rattle.command_line.specs.ErrTexts.{write_fault, out_of_memory}
-use Rattle.whole_answers.specs.Generator.{IsSummary}
-use Rattle.whole_answers.specs.Made.{IsMade, written, cut_off, no_room as no_room_for_it}
+use Rattle.workload_summary.specs.Generator.{IsSummary}
+use Rattle.workload_summary.specs.Made.{IsMade, written, cut_off, no_room as no_room_for_it}
 
 -- ---- words
 

@@ -11,7 +11,7 @@ use Rattle.workbench.specs.InputFaults.{Fault, fault_text, whole_limits, IsInput
 use Rattle.trace_stream.specs.CaseReader.{IsWhole}
 use Rattle.trace_stream.specs.Wides.{IsWideStream}
 use Rattle.workbench.specs.Sessions.{InputFault, FaultOfInput, input_fault_text}
-use Rattle.whole_answers.specs.Generator.{IsSummary}
+use Rattle.workload_summary.specs.Generator.{IsSummary}
 pub use Rattle.whole_answers.specs.Judging.{IsVerdict, TellTruth, Refute, KeptRefute, IsSure, IsNeeded, HasWide}
 use Rattle.command_line.specs.ErrTexts.{wide_text, too_many_cells_text}
 

@@ -8,7 +8,7 @@ use Rattle.workbench.specs.Requests.{Request, no_form, refused, whole, stream, s
 use Rattle.workbench.specs.InputFaults.{Fault, whole_limits, IsInputFault}
 use Rattle.trace_stream.specs.CaseReader.{IsWhole}
 pub use Rattle.session_mux.specs.Inputs.{fault_line, AreLinesBefore, sound, faulted, OwesLines}
-use Rattle.whole_answers.specs.Generator.{IsSummary}
+use Rattle.workload_summary.specs.Generator.{IsSummary}
 pub use Rattle.whole_answers.specs.Judging.{IsUnexplained, HasTooMany}
 
 -- of a command that holds the whole trace: nothing before the end, nothing where the bytes have a fault, and nothing where it would explain too many cells

@@ -39,7 +39,8 @@ use stl_syntax::Formula;
 use trace_reader::Limits;
 use trace_stream::{Case, Live, fault_line};
 use verdict_stream::Verdicts;
-use whole_answers::{Answer, NoAnswer, generate, measure, read_trace, tabulate};
+use whole_answers::{Answer, NoAnswer, measure, read_trace, tabulate};
+use workload_summary::generate;
 
 /// The limits of a trace that is held whole.
 pub(crate) const LIMITS: Limits = Limits {

@@ -7,7 +7,7 @@ use Rattle.report.specs.Report.{check, Out, nodes_for}
 use Rattle.stl_syntax.specs.Stream.{IsStreamText}
 pub use Rattle.workload.specs.Generated.{next_state, state_value, rows_after, generated, row_line, generated_bytes}
 pub use Rattle.workload.specs.Judged.{judged}
-pub use Rattle.workload.specs.Counting.{line_count}
+pub use Rattle.workload_summary.specs.Counting.{line_count}
 
 -- how many rows there are, how many verdict lines `check` and `watch` write before the start line, and the start line
 pub record IsSummary (number rows : ℕ) (text : List ℕ) : Type 0 where

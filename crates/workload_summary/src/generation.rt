@@ -2,7 +2,7 @@
 ghost use Rattle.std.specs.Prelude.{◌≡◌, ◌≢◌, ◌≤◌, ℕ, List};
 ghost use Rattle.io_edge.specs.Calls.{filled};
 ghost use Rattle.command_line.specs.Saying.{IsSaid};
-ghost use Rattle.whole_answers.specs.Made.{IsMade};
+ghost use Rattle.workload_summary.specs.Made.{IsMade};
 
 use crate::summary::summary;
 use command_line::{Workload, no_memory_line, say, write_all, write_fault_line};

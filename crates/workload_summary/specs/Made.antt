@@ -2,7 +2,7 @@
 use Rattle.std.specs.Prelude.{◌≡◌, ℕ, List, []}
 use Rattle.std.specs.Io.KnownBytes.{Appends}
 use Rattle.io_edge.specs.Calls.{Filled, HasRefused}
-use Rattle.whole_answers.specs.Generator.{IsSummary}
+use Rattle.workload_summary.specs.Generator.{IsSummary}
 use Rattle.command_line.specs.Writing.{IsPartWritten}
 use Rattle.command_line.specs.ErrTexts.{out_of_memory, write_fault}
 

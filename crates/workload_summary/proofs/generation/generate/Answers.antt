@@ -2,10 +2,10 @@ use Rattle.std.proofs.Common.{[], refl, subst}
 use Rattle.std.specs.Io.KnownBytes.{Appends}
 use Rattle.std.proofs.KnownBytes.{Appends-nil}
 use Rattle.command_line.specs.ErrTexts.{out_of_memory, write_fault}
-use Rattle.whole_answers.specs.Made.{written, cut_off, no_room}
+use Rattle.workload_summary.specs.Made.{written, cut_off, no_room}
 use Rattle.command_line.specs.Saying.{IsSaid, whole}
 use Rattle.command_line.specs.Writing.{IsPartWritten}
-use Rattle.whole_answers.proofs.generation.generate.Goals as goal
+use Rattle.workload_summary.proofs.generation.generate.Goals as goal
 
 pub returns-in_default-clause-made : goal.returns-in_default-clause-made
 returns-in_default-clause-made g c = (

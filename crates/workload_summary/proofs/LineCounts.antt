@@ -1,0 +1,62 @@
+-- How many lines texts have: two joined, the line of the truth at the start, and a text up to a place.
+use Rattle.std.proofs.Common.{◌≡◌, ◌⊎◌, inl, inr, ℕ, suc, ◌+◌, ◌<◌, ◌≤◌, Bool, true, false, if◌then◌else◌, List, [], ◌∷◌, ◌++◌}
+use Rattle.std.proofs.Common.{length, drop, get_or, refl, sym, ap, ◌∙◌, subst, arith}
+use Rattle.std.specs.Prelude.{◌==◌}
+use Rattle.std.proofs.lemmas.Bool.{cases_Bool, ne_eqb}
+use Rattle.std.proofs.lemmas.List.{drop_more, drop_all}
+use Rattle.stl_syntax.specs.Texts.{start_line}
+use Rattle.workload_summary.specs.Counting.{line_count}
+
+-- the lines of two texts
+count_join : (x y : List ℕ) → line_count (x ++ y) ≡ line_count x + line_count y
+count_join [] y = omega arith
+count_join (c ∷ x) y = by_test (cases_Bool (c == 10)) (count_join x y)
+  where
+    by_test : ((c == 10) ≡ true) ⊎ ((c == 10) ≡ false) → line_count (x ++ y) ≡ line_count x + line_count y
+        → line_count ((c ∷ x) ++ y) ≡ line_count (c ∷ x) + line_count y
+    by_test (inl e) h = rw e (omega (arith, h))
+    by_test (inr e) h = rw e h
+
+one_line : (b : Bool) → line_count (start_line b) ≡ 1
+one_line true = refl
+one_line false = refl
+
+-- a text that ends in the line of the start has a line
+pub ends_in_line : (front line text : List ℕ) (holds : Bool) → text ≡ front ++ line → line ≡ start_line holds → 1 ≤ line_count text
+ends_in_line front line text holds parts is =
+    let whole : line_count text ≡ line_count front + line_count line = ap line_count parts ∙ count_join front line in
+    let one : line_count line ≡ 1 = ap line_count is ∙ one_line holds in
+    omega (arith, whole, one)
+
+-- an LF is a line
+count_line : (c : ℕ) (x : List ℕ) → c ≡ 10 → line_count (c ∷ x) ≡ suc (line_count x)
+count_line c x e = subst (λ k. line_count (k ∷ x) ≡ suc (line_count x)) (sym e) refl
+
+-- another byte is none
+count_other : (c : ℕ) (x : List ℕ) → (c ≡ 10 → ⊥) → line_count (c ∷ x) ≡ line_count x
+count_other c x h = rw (ne_eqb c 10 h) refl
+
+module _ (text : List ℕ) where
+  -- so many lines stand before place i
+  abbrev pub HasCounted : ℕ → ℕ → Type 0
+  HasCounted i n = (n ≤ i) × (n + line_count (drop i text) ≡ line_count text)
+
+  -- a byte more, which is an LF
+  pub counted_line : (i n d : ℕ) → i < length text → get_or text i d ≡ 10 → HasCounted i n → HasCounted (i + 1) (n + 1)
+  counted_line i n d l is (few, sum) =
+      let step : line_count (drop i text) ≡ suc (line_count (drop (i + 1) text)) =
+      ap line_count (drop_more text i d l) ∙ count_line (get_or text i d) (drop (i + 1) text) is in
+      (omega (arith, few), omega (arith, sum, step))
+
+  -- or another
+  pub counted_other : (i n d : ℕ) → i < length text → (get_or text i d ≡ 10 → ⊥) → HasCounted i n → HasCounted (i + 1) n
+  counted_other i n d l other (few, sum) =
+      let step : line_count (drop i text) ≡ line_count (drop (i + 1) text) =
+      ap line_count (drop_more text i d l) ∙ count_other (get_or text i d) (drop (i + 1) text) other in
+      (omega (arith, few), omega (arith, sum, step))
+
+  -- all bytes
+  pub counted_all : (n : ℕ) → HasCounted (length text) n → n ≡ line_count text
+  counted_all n (few, sum) =
+      let none : line_count (drop (length text) text) ≡ 0 = ap line_count (drop_all (length text) text (omega arith)) in
+      omega (arith, sum, none)
