@@ -1,7 +1,6 @@
 pub mod Endings
 pub mod RunEnds
 pub mod Leaving
-pub mod WatchCalls
 pub mod StreamSteps
 mod Beginnings
 pub mod AtRest

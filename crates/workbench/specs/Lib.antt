@@ -1,7 +1,6 @@
 pub mod InputFaults
 pub mod Sessions
 pub mod Stopping
-pub mod MadeWritten
 pub mod Requests
 pub mod Owed
 pub mod Ended
@@ -9,6 +8,5 @@ pub mod Running
 pub mod Keeping
 pub mod Wholes
 pub mod Pushing
-pub mod Watches
 pub mod Many
 pub mod Calm

@@ -5,6 +5,7 @@ ghost use Rattle.workbench.specs.Stopping.{stop_of, stop_for as stop_of_answer, 
 use session_mux::LineFault;
 use trace_stream::{StreamStop, TraceFault};
 use whole_answers::NoAnswer;
+use written_streams::Halt;
 
 /// Why there is no answer, or not all of it was written.
 #[derive(Clone, Copy)]
@@ -26,23 +27,24 @@ pub(crate) enum Stop {
 }
 
 /// The reason to stop that a stream's is.
-pub(crate) fn stop_from(stop: StreamStop) -> Stop
-    ensures { result ≡ stop_of stop }
+fn stop_from(halt: Halt) -> Stop
+    ensures { result ≡ stop_of halt }
 {
-    match stop {
-        StreamStop::Fault(fault) => Stop::Fault(fault),
-        StreamStop::NoMemory => Stop::NoMemory,
-        StreamStop::Wide { node, den } => Stop::Wide { node, den },
+    match halt {
+        Halt::Reader(StreamStop::Fault(fault)) => Stop::Fault(fault),
+        Halt::Reader(StreamStop::NoMemory) => Stop::NoMemory,
+        Halt::Reader(StreamStop::Wide { node, den }) => Stop::Wide { node, den },
+        Halt::Unwritten => Stop::Unwritten,
     }
 }
 
 /// What came of bytes, with the reason of the command.
-pub(crate) fn outcome_from<T: Copy>(outcome: Result<T, StreamStop>) -> Result<T, Stop>
+pub(crate) fn outcome_from<T: Copy>(outcome: Result<T, Halt>) -> Result<T, Stop>
     ensures { result ≡ outcome_of outcome }
 {
     match outcome {
         Ok(x) => Ok(x),
-        Err(stop) => Err(stop_from(stop)),
+        Err(halt) => Err(stop_from(halt)),
     }
 }
 

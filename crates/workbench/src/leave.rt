@@ -5,11 +5,11 @@ ghost use Rattle.workbench.specs.Requests.{stream};
 ghost use Rattle.workbench.specs.Keeping.{Holds};
 
 use crate::kept::Kept;
-use crate::watch::Watch;
 use early_stream::Deciding;
 use margin_stream::Margins;
 use trace_stream::{Follow, Live};
 use verdict_stream::Verdicts;
+use written_streams::Watch;
 
 /// What follows the rows of a stream, and is left to the caller of a run.
 pub(crate) trait Leave: Follow {

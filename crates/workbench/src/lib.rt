@@ -10,10 +10,9 @@ mod live;
 mod many;
 mod stream;
 mod top;
-mod watch;
 
 pub use entry::program;
 pub use kept::Kept;
 pub use top::run;
-pub use watch::{Watch, WatchFault};
 pub use workload::gen_trace;
+pub use written_streams::{Watch, WatchFault};

@@ -5,7 +5,7 @@ use Rattle.command_line.specs.Words.{IsAsked, command_of, verb_of}
 use Rattle.command_line.specs.declared.request.Mode.{Mode}
 use Rattle.early_stream.specs.Deciding.{IsDeciding}
 use Rattle.workbench.specs.Requests.{stream, sessions, verdicts, early}
-use Rattle.workbench.specs.Watches.{WatchesRows}
+use Rattle.verdict_stream.specs.Watching.{WatchesRows}
 use Rattle.workbench.proofs.AtRest.{live_begun, live_asked}
 use Rattle.workbench.proofs.Calmness.{calm_ending, of_held, of_stream}
 use Rattle.workbench.proofs.Leaving.{whole_left}

@@ -1,19 +1,22 @@
 //! Verdicts as the bytes of a trace come.
-ghost use Rattle.std.specs.Prelude.{◌≡◌, ◌≢◌, ◌≤◌, ◌^◌, [], true, false, Err, IfOk};
+ghost use Rattle.std.specs.Prelude.{◌≡◌, ◌≢◌, ◌≤◌, ◌^◌, ℕ, List, Bool, [], true, false, Err, IfOk};
 ghost use Rattle.io_edge.specs.Causes.{Rose};
-ghost use Rattle.workbench.specs.Watches.{Past, with_piece, StandsFor, HasPushed, HasFinished};
-ghost use Rattle.workbench.specs.Watches.{IsCall, Moves, IsLate, IsOpen, IsFaultOf};
-ghost use Rattle.workbench.specs.declared.watch.WatchFault.{WatchFault as Reason};
+ghost use Rattle.trace_reader.specs.InputFaults.{stream_limits};
+ghost use Rattle.trace_stream.specs.Following.{IsDone};
+ghost use Rattle.trace_stream.specs.Streams.{verdicts};
+ghost use Rattle.verdict_stream.specs.Watching.{WatchesEnd};
+ghost use Rattle.written_streams.specs.Watches.{Past, with_piece, StandsFor, StandsForAll, HasPushed, HasFinished};
+ghost use Rattle.written_streams.specs.Watches.{IsCall, Moves, IsLate, IsOpen, IsFaultOf};
+ghost use Rattle.written_streams.specs.declared.watch.WatchFault.{WatchFault as Reason};
 
-use crate::fault::Stop;
-use crate::live::write_made;
+use crate::made::{Halt, write_made};
 use frac128::Memory;
 use io_edge::Sink;
 use std::alloc::Global;
 use std::marker::Model;
 use stl_syntax::{Formula, UnitFault};
 use trace_reader::{Limits, TraceRefusal};
-use trace_stream::{Live, TraceFault};
+use trace_stream::{Live, StreamStop, TraceFault};
 use verdict_stream::Verdicts;
 
 /// Why a call was refused.
@@ -59,7 +62,7 @@ pub struct Watch {
 }
 
 impl Model for Watch {
-    ghost use Rattle.workbench.specs.Watches.{Watched, HasPast};
+    ghost use Rattle.written_streams.specs.Watches.{Watched, HasPast};
 
     ghost Value = { Watched };
 
@@ -69,34 +72,34 @@ impl Model for Watch {
 }
 
 /// The fault that a reason to stop is.
-fn fault_of(stop: Stop) -> WatchFault
-    requires { (x : Reason) × IsFaultOf stop x }
-    ensures { IsFaultOf stop result }
+fn fault_of(halt: Halt) -> WatchFault
+    requires { (x : Reason) × IsFaultOf halt x }
+    ensures { IsFaultOf halt result }
 {
-    match stop {
-        Stop::Fault(TraceFault::Trace(refusal)) => WatchFault::Trace(refusal),
-        Stop::Fault(TraceFault::Unknown { line, atom, term }) => {
+    match halt {
+        Halt::Reader(StreamStop::Fault(TraceFault::Trace(refusal))) => WatchFault::Trace(refusal),
+        Halt::Reader(StreamStop::Fault(TraceFault::Unknown { line, atom, term })) => {
             WatchFault::Unknown { line, atom, term }
         }
-        Stop::Fault(TraceFault::Unit { line, fault }) => match fault {
+        Halt::Reader(StreamStop::Fault(TraceFault::Unit { line, fault })) => match fault {
             UnitFault::Constant { node } => WatchFault::UnitConstant { line, node },
             UnitFault::Reach { sum } => WatchFault::UnitReach { line, sum },
             UnitFault::Memory => unreachable!(),
         },
-        Stop::Unwritten => WatchFault::Write,
-        Stop::NoMemory => WatchFault::Memory,
-        Stop::Input(_) | Stop::Unread | Stop::Wide { .. } | Stop::TooMany { .. } => unreachable!(),
+        Halt::Reader(StreamStop::NoMemory) => WatchFault::Memory,
+        Halt::Reader(StreamStop::Wide { .. }) => unreachable!(),
+        Halt::Unwritten => WatchFault::Write,
     }
 }
 
 /// Stops a watch, and answers the fault that the reason is.
-fn stopped(phase: &mut Phase, stop: Stop) -> WatchFault
-    requires { (x : Reason) × IsFaultOf stop x }
-    ensures fault { IsFaultOf stop result }
+fn stopped(phase: &mut Phase, halt: Halt) -> WatchFault
+    requires { (x : Reason) × IsFaultOf halt x }
+    ensures fault { IsFaultOf halt result }
     ensures now { phase.new ≡ Phase.Stopped }
 {
     *phase = Phase::Stopped;
-    fault_of(stop)
+    fault_of(halt)
 }
 
 /// Refuses a call after a fault, and after the end.
@@ -148,7 +151,7 @@ impl Watch {
         let fed = self.live.feed(piece);
         match write_made(&mut self.live, fed, out) {
             Ok(()) => Ok(()),
-            Err(stop) => Err(stopped(&mut self.phase, stop)),
+            Err(halt) => Err(stopped(&mut self.phase, halt)),
         }
     }
 
@@ -172,13 +175,14 @@ impl Watch {
                 self.phase = Phase::Ended;
                 Ok(holds)
             }
-            Err(stop) => Err(stopped(&mut self.phase, stop)),
+            Err(halt) => Err(stopped(&mut self.phase, halt)),
         }
     }
 
     /// The watch that has taken the bytes of a reader, which has come to their end.
-    pub(crate) fn ended(live: Live<Verdicts>) -> Watch
-        ensures { result ≡ record { live = live; phase = Phase.Ended } }
+    pub fn ended(live: Live<Verdicts>) -> Watch
+        ensures { (bytes text : List ℕ) → IsDone WatchesEnd verdicts live bytes text
+            → (holds : Bool) × StandsForAll (record { formula = live.formula; limits = stream_limits; bytes = bytes; text = text }) holds result }
     {
         Watch {
             live,

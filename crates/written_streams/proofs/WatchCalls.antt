@@ -7,29 +7,24 @@ use Rattle.stl_syntax.specs.Trace.{Trace}
 use Rattle.stl_syntax.specs.Stream.{IsStreamText}
 use Rattle.stl_syntax.specs.declared.scale.UnitFault.TheVariants as unit_fault
 use Rattle.trace_reader.specs.declared.refusal.Limits.{Limits}
-use Rattle.trace_stream.specs.Streams.{HoldsAtStart}
-use Rattle.workbench.specs.Ended.{TellsTruth}
+use Rattle.trace_stream.specs.Streams.{HoldsAtStart, TellsTruth, status_of_truth, verdicts}
 use Rattle.trace_stream.specs.Cases.{IsFault}
-use Rattle.workbench.specs.InputFaults.{Fault, of_trace, unknown, unit, IsInputFault}
-use Rattle.workbench.specs.Keeping.{IsWatchOf}
-use Rattle.workbench.specs.Requests.{verdicts}
-use Rattle.workbench.specs.Wholes.{status_of_truth}
+use Rattle.trace_reader.specs.InputFaults.{stream_limits, Fault, of_trace, unknown, unit, IsInputFault}
 use Rattle.trace_stream.specs.Following.{IsTextOf, IsLive, IsOver, IsDone, IsLiveStop}
-use Rattle.workbench.specs.MadeWritten.{IsMadeWritten, no_room, made_whole, made_in_part}
-use Rattle.workbench.specs.Watches.{Past, with_piece, with_text, IsText, WatchesRows, WatchesEnd, StandsFor}
-use Rattle.workbench.specs.Watches.{HasPushed, HasFinished, HasFault, IsWatchFault, IsCall, IsFaultOf}
+use Rattle.written_streams.specs.MadeWritten.{IsMadeWritten, no_room, made_whole, made_in_part}
+use Rattle.written_streams.specs.Watches.{Past, with_piece, with_text, IsText, WatchesRows, WatchesEnd, StandsFor, StandsForAll}
+use Rattle.written_streams.specs.Watches.{HasPushed, HasFinished, HasFault, IsWatchFault, IsCall, IsFaultOf}
 use Rattle.trace_stream.specs.declared.fault.TraceFault.TheVariants.{Trace as InTrace, Unknown, Unit as InTicks}
 use Rattle.trace_stream.specs.declared.fault.StreamStop.{StreamStop}
 use Rattle.trace_stream.specs.declared.fault.StreamStop.TheVariants as stream_stop
-use Rattle.workbench.specs.Stopping.{stop_of}
-use Rattle.workbench.specs.declared.fault.Stop.{Stop}
-use Rattle.workbench.specs.declared.fault.Stop.TheVariants.{Fault as Faulty, Input as FaultyLine, Unread, Unwritten, NoMemory, Wide, TooMany}
+use Rattle.written_streams.specs.declared.made.Halt.{Halt}
+use Rattle.written_streams.specs.declared.made.Halt.TheVariants.{Reader, Unwritten}
 use Rattle.trace_stream.specs.declared.live.Live.{Live}
 use Rattle.verdict_stream.specs.declared.verdicts.Verdicts.{Verdicts}
-use Rattle.workbench.specs.declared.watch.Phase.{Phase}
-use Rattle.workbench.specs.declared.watch.Phase.TheVariants.{Reading, Ended}
-use Rattle.workbench.specs.declared.watch.WatchFault.{WatchFault}
-use Rattle.workbench.specs.declared.watch.WatchFault.TheVariants as fault
+use Rattle.written_streams.specs.declared.watch.Phase.{Phase}
+use Rattle.written_streams.specs.declared.watch.Phase.TheVariants.{Reading, Ended}
+use Rattle.written_streams.specs.declared.watch.WatchFault.{WatchFault}
+use Rattle.written_streams.specs.declared.watch.WatchFault.TheVariants as fault
 use Rattle.trace_stream.proofs.Told.{told_now, calm_now, live_after, told_over, over_after}
 
 -- ---- faults
@@ -51,57 +46,49 @@ unit_is limits f bytes ended line x e (inl (n, h, at, inr (none, (u, inr (few, (
 unit_is limits f bytes ended line x e (inr (none, (r, first, same))) = let k = sym e ∙ same in cc
 
 -- why the reader under a watch stopped, which wrote this
-abbrev pub IsStoppedBy : Past → Bool → List ℕ → Stop → Type 0
-IsStoppedBy p ended grown (Faulty stored) = (x : Fault) × IsFault p.formula stored x × HasFault p ended x
-IsStoppedBy p ended grown (FaultyLine fault) = ⊥
-IsStoppedBy p ended grown Unread = ⊥
+abbrev pub IsStoppedBy : Past → Bool → List ℕ → Halt → Type 0
+IsStoppedBy p ended grown (Reader (stream_stop.Fault stored)) = (x : Fault) × IsFault p.formula stored x × HasFault p ended x
+IsStoppedBy p ended grown (Reader stream_stop.NoMemory) = grown ≡ []
+IsStoppedBy p ended grown (Reader (stream_stop.Wide i den)) = ⊥
 IsStoppedBy p ended grown Unwritten = (rest : List ℕ) × (rest ≢ []) × IsText (with_text p rest) ended
-IsStoppedBy p ended grown NoMemory = grown ≡ []
-IsStoppedBy p ended grown (Wide i den) = ⊥
-IsStoppedBy p ended grown (TooMany count) = ⊥
 
 -- it is one of a watch's faults
-pub has_fault : (p : Past) (ended : Bool) (grown : List ℕ) (stop : Stop) → IsStoppedBy p ended grown stop → (x : WatchFault) × IsFaultOf stop x
-has_fault p ended grown (Faulty (InTrace r)) s = (fault.Trace r, refl)
-has_fault p ended grown (Faulty (Unknown line atom term)) s = (fault.Unknown line atom term, refl)
-has_fault p ended grown (Faulty (InTicks line (unit_fault.Constant node))) s = (fault.UnitConstant line node, refl)
-has_fault p ended grown (Faulty (InTicks line (unit_fault.Reach sum))) s = (fault.UnitReach line sum, refl)
-has_fault p ended grown (Faulty (InTicks line unit_fault.Memory)) (x, is, h) = absurd (unit_is p.limits p.formula p.bytes ended line x is h.0)
-has_fault p ended grown (FaultyLine fault) s = absurd s
-has_fault p ended grown Unread s = absurd s
+pub has_fault : (p : Past) (ended : Bool) (grown : List ℕ) (halt : Halt) → IsStoppedBy p ended grown halt → (x : WatchFault) × IsFaultOf halt x
+has_fault p ended grown (Reader (stream_stop.Fault (InTrace r))) s = (fault.Trace r, refl)
+has_fault p ended grown (Reader (stream_stop.Fault (Unknown line atom term))) s = (fault.Unknown line atom term, refl)
+has_fault p ended grown (Reader (stream_stop.Fault (InTicks line (unit_fault.Constant node)))) s = (fault.UnitConstant line node, refl)
+has_fault p ended grown (Reader (stream_stop.Fault (InTicks line (unit_fault.Reach sum)))) s = (fault.UnitReach line sum, refl)
+has_fault p ended grown (Reader (stream_stop.Fault (InTicks line unit_fault.Memory))) (x, is, h) =
+    absurd (unit_is p.limits p.formula p.bytes ended line x is h.0)
+has_fault p ended grown (Reader stream_stop.NoMemory) s = (fault.Memory, refl)
+has_fault p ended grown (Reader (stream_stop.Wide i den)) s = absurd s
 has_fault p ended grown Unwritten s = (fault.Write, refl)
-has_fault p ended grown NoMemory s = (fault.Memory, refl)
-has_fault p ended grown (Wide i den) s = absurd s
-has_fault p ended grown (TooMany count) s = absurd s
 
 same_fault : (p : Past) (ended : Bool) (x y : Fault) → x ≡ y → HasFault p ended x → HasFault p ended y
 same_fault p ended x y e h = subst (λ (z : Fault). HasFault p ended z) e h
 
 -- which says what it is
-pub is_watch_fault : (p : Past) (ended : Bool) (grown : List ℕ) (stop : Stop) (w : WatchFault) → IsStoppedBy p ended grown stop
-    → IsFaultOf stop w → IsWatchFault p ended grown w
-is_watch_fault p ended grown (Faulty (InTrace r)) w (x, is, h) e =
+pub is_watch_fault : (p : Past) (ended : Bool) (grown : List ℕ) (halt : Halt) (w : WatchFault) → IsStoppedBy p ended grown halt
+    → IsFaultOf halt w → IsWatchFault p ended grown w
+is_watch_fault p ended grown (Reader (stream_stop.Fault (InTrace r))) w (x, is, h) e =
     subst (λ (v : WatchFault). IsWatchFault p ended grown v) (sym e) (same_fault p ended x (of_trace r) is h)
-is_watch_fault p ended grown (Faulty (Unknown line atom term)) w (x, (name, named, is), h) e =
+is_watch_fault p ended grown (Reader (stream_stop.Fault (Unknown line atom term))) w (x, (name, named, is), h) e =
     subst (λ (v : WatchFault). IsWatchFault p ended grown v) (sym e) (name, named, same_fault p ended x (unknown line atom term name) is h)
-is_watch_fault p ended grown (Faulty (InTicks line (unit_fault.Constant node))) w (x, is, h) e =
+is_watch_fault p ended grown (Reader (stream_stop.Fault (InTicks line (unit_fault.Constant node)))) w (x, is, h) e =
     subst (λ (v : WatchFault). IsWatchFault p ended grown v) (sym e) (same_fault p ended x (unit line (unit_fault.Constant node)) is h)
-is_watch_fault p ended grown (Faulty (InTicks line (unit_fault.Reach sum))) w (x, is, h) e =
+is_watch_fault p ended grown (Reader (stream_stop.Fault (InTicks line (unit_fault.Reach sum)))) w (x, is, h) e =
     subst (λ (v : WatchFault). IsWatchFault p ended grown v) (sym e) (same_fault p ended x (unit line (unit_fault.Reach sum)) is h)
-is_watch_fault p ended grown (Faulty (InTicks line unit_fault.Memory)) w s e = absurd e
-is_watch_fault p ended grown (FaultyLine fault) w s e = absurd s
-is_watch_fault p ended grown Unread w s e = absurd s
+is_watch_fault p ended grown (Reader (stream_stop.Fault (InTicks line unit_fault.Memory))) w s e = absurd e
+is_watch_fault p ended grown (Reader stream_stop.NoMemory) w s e = subst (λ (v : WatchFault). IsWatchFault p ended grown v) (sym e) s
+is_watch_fault p ended grown (Reader (stream_stop.Wide i den)) w s e = absurd s
 is_watch_fault p ended grown Unwritten w s e = subst (λ (v : WatchFault). IsWatchFault p ended grown v) (sym e) s
-is_watch_fault p ended grown NoMemory w s e = subst (λ (v : WatchFault). IsWatchFault p ended grown v) (sym e) s
-is_watch_fault p ended grown (Wide i den) w s e = absurd s
-is_watch_fault p ended grown (TooMany count) w s e = absurd s
 
 -- ---- calls
 
 -- what came of a call: all that was made was written, or it stopped
-abbrev pub HasWritten : {T : Type 0} → Option (List ℕ) → Option (List ℕ) → Past → Bool → List ℕ → (T → Type 0) → Result T Stop → Type 0
+abbrev pub HasWritten : {T : Type 0} → Option (List ℕ) → Option (List ℕ) → Past → Bool → List ℕ → (T → Type 0) → Result T Halt → Type 0
 HasWritten held held_after p ended made Good (Ok x) = Appends held held_after made × Good x
-HasWritten held held_after p ended made Good (Err stop) = (grown : List ℕ) × Appends held held_after grown × IsStoppedBy (with_text p grown) ended grown stop
+HasWritten held held_after p ended made Good (Err halt) = (grown : List ℕ) × Appends held held_after grown × IsStoppedBy (with_text p grown) ended grown halt
 
 module _ {T : Type 0} (held held_after : Option (List ℕ)) (p : Past) (ended : Bool) (made : List ℕ) (Good : T → Type 0) where
   -- the text that was made is that of the rows
@@ -118,13 +105,13 @@ module _ {T : Type 0} (held held_after : Option (List ℕ)) (p : Past) (ended : 
   fault_made (stream_stop.Wide i den) ne h = absurd h
 
   stopped_by : (e : StreamStop) → e ≢ stream_stop.NoMemory → IsLiveStop verdicts p.limits p.formula ended p.bytes (p.text ++ made) e
-      → IsStoppedBy (with_text p made) ended made (stop_of e)
+      → IsStoppedBy (with_text p made) ended made (Reader e)
   stopped_by (stream_stop.Fault stored) ne (x, is, input, t) = (x, is, (input, t))
   stopped_by stream_stop.NoMemory ne h = absurd (ne refl)
   stopped_by (stream_stop.Wide i den) ne h = absurd h
 
   -- by what came of the bytes
-  pub written_call : (outcome : Result T StreamStop) (result : Result T Stop) → IsMadeWritten held held_after made outcome result
+  pub written_call : (outcome : Result T StreamStop) (result : Result T Halt) → IsMadeWritten held held_after made outcome result
       → MatchResult outcome (λ x. Good x × Made) (λ e. IsLiveStop verdicts p.limits p.formula ended p.bytes (p.text ++ made) e)
       → HasWritten held held_after p ended made Good result
   written_call outcome result (no_room kept) h = ([], kept, refl)
@@ -136,14 +123,14 @@ module _ {T : Type 0} (held held_after : Option (List ℕ)) (p : Past) (ended : 
 
 -- a call that stopped
 pub call_stopped : (held held_after : Option (List ℕ)) (p : Past) (ended : Bool) (made : List ℕ) (T : Type 0) (Good : T → Type 0)
-    (Fine : T → Past → Type 0) (stop : Stop) (w : WatchFault)
-    → HasWritten held held_after p ended made Good (Err stop) → IsFaultOf stop w → IsCall held held_after p ended Fine (Err w)
-call_stopped held held_after p ended made T Good Fine stop w (grown, wrote, s) e = (grown, wrote, is_watch_fault (with_text p grown) ended grown stop w s e)
+    (Fine : T → Past → Type 0) (halt : Halt) (w : WatchFault)
+    → HasWritten held held_after p ended made Good (Err halt) → IsFaultOf halt w → IsCall held held_after p ended Fine (Err w)
+call_stopped held held_after p ended made T Good Fine halt w (grown, wrote, s) e = (grown, wrote, is_watch_fault (with_text p grown) ended grown halt w s e)
 
 -- a call that stopped did so for a fault of its kind
-pub fault_there : (held held_after : Option (List ℕ)) (p : Past) (ended : Bool) (made : List ℕ) (T : Type 0) (Good : T → Type 0) (stop : Stop)
-    → HasWritten held held_after p ended made Good (Err stop) → (x : WatchFault) × IsFaultOf stop x
-fault_there held held_after p ended made T Good stop (grown, wrote, s) = has_fault (with_text p grown) ended grown stop s
+pub fault_there : (held held_after : Option (List ℕ)) (p : Past) (ended : Bool) (made : List ℕ) (T : Type 0) (Good : T → Type 0) (halt : Halt)
+    → HasWritten held held_after p ended made Good (Err halt) → (x : WatchFault) × IsFaultOf halt x
+fault_there held held_after p ended made T Good halt (grown, wrote, s) = has_fault (with_text p grown) ended grown halt s
 
 -- ---- a piece
 
@@ -187,7 +174,7 @@ module _ (old mid : Live Verdicts) (p : Past) (piece : List ℕ) (phase : Phase)
       })
 
 -- what came of a piece, once its text was written
-pub push_written : {held held_after : Option (List ℕ)} {p : Past} {fed : Result (Unit {0}) StreamStop} {result : Result (Unit {0}) Stop}
+pub push_written : {held held_after : Option (List ℕ)} {p : Past} {fed : Result (Unit {0}) StreamStop} {result : Result (Unit {0}) Halt}
     (old mid : Live Verdicts) (piece : List ℕ) (phase : Phase) (s : StandsFor p (record { live = old; phase = phase }))
     (formula : mid.formula ≡ old.formula) (limits : mid.rows.limits ≡ old.rows.limits) → IsMadeWritten held held_after mid.text fed result
     → MatchResult fed (λ _. IsLive WatchesRows verdicts mid (p.bytes ++ piece) p.text)
@@ -246,7 +233,7 @@ module _ (old mid : Live Verdicts) (p : Past) (phase : Phase) (s : StandsFor p (
 -- what came of the end, once its text was written
 pub end_written : (held held_after : Option (List ℕ)) (old mid : Live Verdicts) (p : Past) (phase : Phase)
     (s : StandsFor p (record { live = old; phase = phase })) (formula : mid.formula ≡ old.formula)
-    (finished : Result Bool StreamStop) (result : Result Bool Stop) → IsMadeWritten held held_after mid.text finished result
+    (finished : Result Bool StreamStop) (result : Result Bool Halt) → IsMadeWritten held held_after mid.text finished result
     → MatchResult finished (IsOver WatchesEnd verdicts old.rows.limits old.formula mid p.bytes (p.text ++ mid.text))
     (λ e. IsLiveStop verdicts old.rows.limits old.formula true p.bytes (p.text ++ mid.text) e)
     → HasWritten held held_after p true mid.text (IsOver WatchesEnd verdicts p.limits p.formula mid p.bytes (p.text ++ mid.text)) result
@@ -256,7 +243,8 @@ end_written held held_after old mid p phase s formula finished result written ov
 
 -- ---- a source
 
--- a reader that has come to its end leaves a watch that stands for all bytes
+-- a reader that has come to its end is a watch that stands for all bytes
 pub all_done : (live : Live Verdicts) (bytes text : List ℕ) → IsDone WatchesEnd verdicts live bytes text
-    → IsWatchOf live.formula bytes (record { live = live; phase = Ended })
-all_done live bytes text (holds, over) = (text, holds, record { phase = refl; formula = refl; over = over })
+    → (holds : Bool) × StandsForAll (record { formula = live.formula; limits = stream_limits; bytes = bytes; text = text }) holds
+    (record { live = live; phase = Ended })
+all_done live bytes text (holds, over) = (holds, record { phase = refl; formula = refl; over = over })

@@ -1,5 +1,5 @@
 use Rattle.std.proofs.Common.{[], refl}
-use Rattle.workbench.proofs.watch.Watch.new.Goals as goal
+use Rattle.written_streams.proofs.watch.Watch.new.Goals as goal
 
 pub invariant_of-result : goal.invariant_of-result
 invariant_of-result c = λ _. (

@@ -7,22 +7,22 @@ use Rattle.stl_syntax.specs.Stream.{IsStreamText}
 use Rattle.stl_syntax.specs.declared.scale.UnitFault.TheVariants as unit_fault
 use Rattle.trace_reader.specs.declared.refusal.Limits.{Limits}
 use Rattle.report.specs.Report.{nodes_for}
-use Rattle.trace_stream.specs.Streams.{HoldsAtStart}
+use Rattle.trace_stream.specs.Streams.{HoldsAtStart, verdicts}
 use Rattle.trace_stream.specs.Cases.{IsNamed}
-use Rattle.workbench.specs.InputFaults.{Fault, of_trace, unknown, unit, IsInputFault}
+use Rattle.trace_reader.specs.InputFaults.{Fault, of_trace, unknown, unit, IsInputFault}
 use Rattle.trace_stream.specs.CaseReader.{IsSound, IsWhole}
-use Rattle.workbench.specs.Requests.{verdicts}
 use Rattle.trace_stream.specs.Following.{IsTextOf, IsLive, IsOver}
 pub use Rattle.verdict_stream.specs.Watching.{WatchesRows, WatchesEnd}
 use Rattle.trace_stream.specs.declared.fault.TraceFault.TheVariants as trace_fault
-use Rattle.workbench.specs.declared.fault.Stop.{Stop}
-use Rattle.workbench.specs.declared.fault.Stop.TheVariants as stop
+use Rattle.trace_stream.specs.declared.fault.StreamStop.TheVariants as stop
+use Rattle.written_streams.specs.declared.made.Halt.{Halt}
+use Rattle.written_streams.specs.declared.made.Halt.TheVariants.{Reader, Unwritten}
 use Rattle.trace_stream.specs.declared.live.Live.{Live}
 use Rattle.verdict_stream.specs.declared.verdicts.Verdicts.{Verdicts}
-use Rattle.workbench.specs.declared.watch.Phase.{Phase}
-use Rattle.workbench.specs.declared.watch.Phase.TheVariants.{Reading, Stopped, Ended}
-use Rattle.workbench.specs.declared.watch.WatchFault.{WatchFault}
-use Rattle.workbench.specs.declared.watch.WatchFault.TheVariants as fault
+use Rattle.written_streams.specs.declared.watch.Phase.{Phase}
+use Rattle.written_streams.specs.declared.watch.Phase.TheVariants.{Reading, Stopped, Ended}
+use Rattle.written_streams.specs.declared.watch.WatchFault.{WatchFault}
+use Rattle.written_streams.specs.declared.watch.WatchFault.TheVariants as fault
 
 -- what a watch keeps: the reader with what follows its rows, and how far it has come
 pub record Watched : Type 0 where
@@ -122,15 +122,12 @@ IsOpen phase (Err fault.Ended) = phase ≡ Ended
 IsOpen phase (Err e) = ⊥
 
 -- the fault that a reason to stop is
-abbrev pub IsFaultOf : Stop → WatchFault → Type 0
-IsFaultOf (stop.Fault (trace_fault.Trace r)) x = x ≡ fault.Trace r
-IsFaultOf (stop.Fault (trace_fault.Unknown line atom term)) x = x ≡ fault.Unknown line atom term
-IsFaultOf (stop.Fault (trace_fault.Unit line (unit_fault.Constant node))) x = x ≡ fault.UnitConstant line node
-IsFaultOf (stop.Fault (trace_fault.Unit line (unit_fault.Reach sum))) x = x ≡ fault.UnitReach line sum
-IsFaultOf (stop.Fault (trace_fault.Unit line unit_fault.Memory)) x = ⊥
-IsFaultOf (stop.Input fault) x = ⊥
-IsFaultOf stop.Unread x = ⊥
-IsFaultOf stop.Unwritten x = x ≡ fault.Write
-IsFaultOf stop.NoMemory x = x ≡ fault.Memory
-IsFaultOf (stop.Wide i den) x = ⊥
-IsFaultOf (stop.TooMany count) x = ⊥
+abbrev pub IsFaultOf : Halt → WatchFault → Type 0
+IsFaultOf (Reader (stop.Fault (trace_fault.Trace r))) x = x ≡ fault.Trace r
+IsFaultOf (Reader (stop.Fault (trace_fault.Unknown line atom term))) x = x ≡ fault.Unknown line atom term
+IsFaultOf (Reader (stop.Fault (trace_fault.Unit line (unit_fault.Constant node)))) x = x ≡ fault.UnitConstant line node
+IsFaultOf (Reader (stop.Fault (trace_fault.Unit line (unit_fault.Reach sum)))) x = x ≡ fault.UnitReach line sum
+IsFaultOf (Reader (stop.Fault (trace_fault.Unit line unit_fault.Memory))) x = ⊥
+IsFaultOf (Reader stop.NoMemory) x = x ≡ fault.Memory
+IsFaultOf (Reader (stop.Wide i den)) x = ⊥
+IsFaultOf Unwritten x = x ≡ fault.Write

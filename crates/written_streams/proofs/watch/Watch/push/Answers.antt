@@ -1,9 +1,9 @@
 use Rattle.std.proofs.Common.{◌++◌, false, sym, subst}
-use Rattle.workbench.specs.Requests.{verdicts}
+use Rattle.trace_stream.specs.Streams.{verdicts}
 use Rattle.trace_stream.specs.Following.{IsLive}
-use Rattle.workbench.specs.Watches.{Watched, StandsFor, WatchesRows, with_piece, with_text, HasPushed}
-use Rattle.workbench.proofs.WatchCalls.{push_written, has_pushed, call_stopped, fault_there}
-use Rattle.workbench.proofs.watch.Watch.push.Goals as goal
+use Rattle.written_streams.specs.Watches.{Watched, StandsFor, WatchesRows, with_piece, with_text, HasPushed}
+use Rattle.written_streams.proofs.WatchCalls.{push_written, has_pushed, call_stopped, fault_there}
+use Rattle.written_streams.proofs.watch.Watch.push.Goals as goal
 
 pub invariant_of-self : goal.invariant_of-self
 invariant_of-self g c = λ reading.
@@ -20,7 +20,7 @@ stopped-requires g c =
     let (p, s) = c.self.invariant c.in_ok-allow.ensures in
     let mid = c.feed-fed.new.self in
     fault_there (g.K.Sink.written c.args.out.now) (g.K.Sink.written c.write_made.new.out) (with_piece p c.args.piece.now) false mid.text (Unit {0})
-    (λ _. IsLive WatchesRows verdicts mid (p.bytes ++ c.args.piece.now) p.text) c.in-Err.stop
+    (λ _. IsLive WatchesRows verdicts mid (p.bytes ++ c.args.piece.now) p.text) c.in-Err.halt
     (push_written c.self.inside.live mid c.args.piece.now c.self.inside.phase s c.feed-fed.ensures.formula c.feed-fed.ensures.limits
     c.in-Err.ensures.written (c.feed-fed.ensures.taken p.bytes p.text s.live))
 
@@ -41,6 +41,6 @@ returns-in-Err-clause-pushed g c = λ p stands.
     let s = subst (λ (w : Watched). StandsFor p w) (sym c.self.view_is) stands in
     let mid = c.feed-fed.new.self in
     call_stopped (g.K.Sink.written c.args.out.now) (g.K.Sink.written c.write_made.new.out) (with_piece p c.args.piece.now) false mid.text (Unit {0})
-    (λ _. IsLive WatchesRows verdicts mid (p.bytes ++ c.args.piece.now) p.text) (λ _ q. HasPushed q c.args.self.now) c.in-Err.stop c.stopped.result
+    (λ _. IsLive WatchesRows verdicts mid (p.bytes ++ c.args.piece.now) p.text) (λ _ q. HasPushed q c.args.self.now) c.in-Err.halt c.stopped.result
     (push_written c.self.inside.live mid c.args.piece.now c.self.inside.phase s c.feed-fed.ensures.formula c.feed-fed.ensures.limits
     c.in-Err.ensures.written (c.feed-fed.ensures.taken p.bytes p.text s.live)) c.stopped.ensures.fault
