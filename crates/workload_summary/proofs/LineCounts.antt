@@ -28,32 +28,26 @@ ends_in_line front line text holds parts is =
     let one : line_count line ≡ 1 = ap line_count is ∙ one_line holds in
     omega (arith, whole, one)
 
--- an LF is a line
-count_line : (c : ℕ) (x : List ℕ) → c ≡ 10 → line_count (c ∷ x) ≡ suc (line_count x)
-count_line c x e = subst (λ k. line_count (k ∷ x) ≡ suc (line_count x)) (sym e) refl
+-- an LF ends one line
+pub line_ended : (c : ℕ) → c ≡ 10 → 1 ≡ line_count (c ∷ [])
+line_ended c e = subst (λ k. 1 ≡ line_count (k ∷ [])) (sym e) refl
 
--- another byte is none
-count_other : (c : ℕ) (x : List ℕ) → (c ≡ 10 → ⊥) → line_count (c ∷ x) ≡ line_count x
-count_other c x h = rw (ne_eqb c 10 h) refl
+-- and another byte none
+pub none_ended : (c : ℕ) → (c ≡ 10 → ⊥) → 0 ≡ line_count (c ∷ [])
+none_ended c h = rw (ne_eqb c 10 h) refl
 
 module _ (text : List ℕ) where
-  -- so many lines stand before place i
+  -- so many lines end before place i
   abbrev pub HasCounted : ℕ → ℕ → Type 0
   HasCounted i n = (n ≤ i) × (n + line_count (drop i text) ≡ line_count text)
 
-  -- a byte more, which is an LF
-  pub counted_line : (i n d : ℕ) → i < length text → get_or text i d ≡ 10 → HasCounted i n → HasCounted (i + 1) (n + 1)
-  counted_line i n d l is (few, sum) =
-      let step : line_count (drop i text) ≡ suc (line_count (drop (i + 1) text)) =
-      ap line_count (drop_more text i d l) ∙ count_line (get_or text i d) (drop (i + 1) text) is in
-      (omega (arith, few), omega (arith, sum, step))
-
-  -- or another
-  pub counted_other : (i n d : ℕ) → i < length text → (get_or text i d ≡ 10 → ⊥) → HasCounted i n → HasCounted (i + 1) n
-  counted_other i n d l other (few, sum) =
-      let step : line_count (drop i text) ≡ line_count (drop (i + 1) text) =
-      ap line_count (drop_more text i d l) ∙ count_other (get_or text i d) (drop (i + 1) text) other in
-      (omega (arith, few), omega (arith, sum, step))
+  -- with the lines that one more byte ends
+  pub counted_more : (i n k d : ℕ) → i < length text → k ≤ 1 → k ≡ line_count (get_or text i d ∷ []) → HasCounted i n → HasCounted (i + 1) (n + k)
+  counted_more i n k d l one is (few, sum) =
+      let c = get_or text i d in
+      let parts : line_count (drop i text) ≡ line_count (c ∷ []) + line_count (drop (i + 1) text) =
+      ap line_count (drop_more text i d l) ∙ count_join (c ∷ []) (drop (i + 1) text) in
+      (omega (arith, few, one), omega (arith, sum, is, parts))
 
   -- all bytes
   pub counted_all : (n : ℕ) → HasCounted (length text) n → n ≡ line_count text

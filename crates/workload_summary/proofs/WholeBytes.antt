@@ -46,6 +46,12 @@ starved limits f bytes text ended (Faulty fault) sound (x, is, first, told) = me
 starved limits f bytes text ended NoMemory sound held = refl
 starved limits f bytes text ended (Wide i den) sound held = absurd held
 
+-- bytes that are a whole trace are sound, by whatever stands for the limits and the formula
+pub sound_as : {limits : Limits} {f g : Formula} {bytes : List ℕ} {tr : Trace} → limits ≡ whole_limits → g ≡ f → IsWhole whole_limits f bytes tr
+    → IsSound limits g bytes true
+sound_as {g = g} {bytes = bytes} e same whole =
+    subst (λ (l : Limits). IsSound l g bytes true) (sym e) (subst (λ (h : Formula). IsSound whole_limits h bytes true) (sym same) whole.sound)
+
 -- bytes are those of one trace
 one_trace : {limits more : Limits} {f : Formula} {bytes : List ℕ} {tr tr' : Trace} → IsWhole limits f bytes tr → IsWhole more f bytes tr' → tr ≡ tr'
 one_trace {f = f} {bytes = bytes} {tr = tr} {tr' = tr'} a b = Trace-unique bytes f.scale tr tr' a.trace.text b.trace.text
@@ -53,10 +59,10 @@ one_trace {f = f} {bytes = bytes} {tr = tr} {tr' = tr'} a b = Trace-unique bytes
 -- ---- what is written
 
 -- what the sets over all bytes tell is the answer of `check`
-pub answered : {f : Formula} {bytes text : List ℕ} {x : VerdictSets} {told : Told} → IsEndedAs HasSets whole_limits f bytes x
+pub answered : {f : Formula} {bytes text : List ℕ} {x : VerdictSets} (told : Told) → IsEndedAs HasSets whole_limits f bytes x
     → ((g : Formula) (c : Case) (t : List ℕ) → IsCase g c → HasSets x c → IsTrace c.trace → AreLeft told t → IsCheckAnswer g c.trace told.holds t)
     → AreLeft told text → (tr : Trace) → IsWhole whole_limits f bytes tr → IsCheckAnswer f tr told.holds text
-answered {f} {bytes} {text} {x} {told} e tells left tr whole =
+answered {f} {bytes} {text} {x} told e tells left u whole =
     subst (λ (t : Trace). IsCheckAnswer f t told.holds text) (one_trace e.ended.whole whole)
     (tells f e.case text e.ended.case e.for_case e.ended.whole.trace.text.rising left)
 
@@ -67,15 +73,16 @@ check_lines {text = text} a =
     ends_in_line body line text holds parts is
 
 -- what a stream of verdicts made of all bytes and their end is its whole text
-pub streamed : {f : Formula} {bytes text : List ℕ} {live : Live Verdicts} {holds : Bool}
-    → IsOver WatchesEnd verdicts whole_limits f live bytes text holds
+pub streamed : {limits : Limits} {f g : Formula} {bytes text : List ℕ} {live : Live Verdicts} {holds : Bool} → g ≡ f
+    → IsOver WatchesEnd verdicts limits g live bytes text holds
     → (tr : Trace) → IsWhole whole_limits f bytes tr → IsStreamText (root (nodes_for f tr)) tr.header tr.rows true text
-streamed {f} {bytes} {text} over tr whole =
-    subst (λ (t : Trace). IsStreamText (root (nodes_for f t)) t.header t.rows true text) (one_trace over.trace whole)
-    (subst (λ (g : Formula). IsStreamText (root g.nodes) over.case.trace.header over.case.trace.rows true text) over.fits.formula over.complete.told)
+streamed {limits} {f} {g} {bytes} {text} {live} {holds} same over u whole =
+    let k = subst (λ (h : Formula). IsOver WatchesEnd verdicts limits h live bytes text holds) same over in
+    subst (λ (t : Trace). IsStreamText (root (nodes_for f t)) t.header t.rows true text) (one_trace k.trace whole)
+    (subst (λ (h : Formula). IsStreamText (root h.nodes) k.case.trace.header k.case.trace.rows true text) k.fits.formula k.complete.told)
 
 -- it has the line of the start, too
-pub stream_lines : {f : Formula} {tr : Trace} {text : List ℕ} → IsStreamText (root (nodes_for f tr)) tr.header tr.rows true text → 1 ≤ line_count text
-stream_lines {text = text} h =
+pub stream_lines : (f : Formula) (tr : Trace) {text : List ℕ} → IsStreamText (root (nodes_for f tr)) tr.header tr.rows true text → 1 ≤ line_count text
+stream_lines f u {text} h =
     let (during, rest, line, before, at_end, (holds, now, is), parts) = h.1 in
     ends_in_line (during ++ rest) line text holds parts is

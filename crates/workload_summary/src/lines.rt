@@ -1,6 +1,18 @@
 //! How many lines a text has.
-ghost use Rattle.std.specs.Prelude.{◌≡◌, ◌≤◌, suc};
+ghost use Rattle.std.specs.Prelude.{◌≡◌, ◌≤◌, ◌∷◌, [], suc};
 ghost use Rattle.workload_summary.specs.Counting.{line_count as count_of};
+
+/// How many lines a byte ends: an LF one.
+#[inline(always)]
+fn ended(byte: u8) -> usize
+    ensures lines { result ≡ count_of (byte ∷ []) }
+    ensures few { result ≤ 1 }
+{
+    if byte == b'\n' {
+        return 1;
+    }
+    0
+}
 
 /// How many lines a text has: one for each LF.
 fn line_count(text: &[u8]) -> usize
@@ -8,9 +20,7 @@ fn line_count(text: &[u8]) -> usize
 {
     let mut lines = 0;
     for i in 0..text.len() {
-        if text[i] == b'\n' {
-            lines += 1;
-        }
+        lines += ended(text[i]);
     }
     lines
 }

@@ -50,8 +50,9 @@ pub(crate) fn summary(alloc: Global, number: u64, rows: u32) -> Result<Text, Mem
     ensures { IfOk result (IsSummary number rows) }
 {
     let formula = judged_formula(alloc)?;
-    let bytes = gen_trace(alloc, number, rows)?;
-    let (check_lines, holds) = checked(alloc, &formula, bytes.bytes())?;
-    let watch_lines = watched(alloc, formula, bytes.bytes())?;
+    let trace = gen_trace(alloc, number, rows)?;
+    let bytes = trace.bytes();
+    let (check_lines, holds) = checked(alloc, &formula, bytes)?;
+    let watch_lines = watched(alloc, formula, bytes)?;
     counts(alloc, rows, check_lines, watch_lines, holds)
 }
