@@ -18,7 +18,7 @@ use Rattle.agreeing.specs.Joined.{AreJoined}
 use Rattle.agreeing.proofs.OneContent.{json_tells_all}
 use Rattle.agreeing.proofs.JoinLaw.{covers_join}
 use Rattle.workbench.specs.InputFaults.{whole_limits}
-use Rattle.workbench.specs.Answers.{HoldsAtStart}
+use Rattle.trace_stream.specs.Streams.{HoldsAtStart}
 use Rattle.workbench.specs.Owed.{at_end as at_end_owed}
 use Rattle.workbench.specs.Requests.{Stream, verdicts, early, margins}
 use Rattle.workbench.specs.Ended.{TellsTruth, IsAnsweredWhole, IsAnsweredByRow}

@@ -12,7 +12,7 @@ use Rattle.implicants.proofs.KeptCells.{kept_is_needed, certainty_grows}
 use Rattle.report.specs.Report.{explain, json, IsExplained as Described, IsItemLines, AreItemLines, nodes_for}
 use Rattle.report.proofs.JoinedTimes.{SayMore, joined_say, line_without}
 use Rattle.report.proofs.JoinedCells.{cover_as, so_as}
-use Rattle.workbench.specs.Answers.{HoldsAtStart}
+use Rattle.trace_stream.specs.Streams.{HoldsAtStart}
 use Rattle.workbench.specs.Ended.{Refute, KeptRefute, TellsTruth, IsAnsweredWhole}
 use Rattle.promises.specs.Accounts.{AreReasons, IsRefutation, IsAccount, IsReportAccount}
 

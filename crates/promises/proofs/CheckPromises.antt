@@ -15,23 +15,23 @@ use Rattle.stl_grammar.specs.FormulaRefusals.{IsFormulaOf}
 use Rattle.stl_grammar.proofs.LawProofs.{one_formula}
 use Rattle.report.specs.Report.{Command, check, robust, explain, json, table, Out}
 use Rattle.promises.specs.Words.{AskCheck}
-use Rattle.workbench.specs.Commands.{Verb, on_formula, IsForm, of_formula}
-use Rattle.workbench.specs.Commands as word
+use Rattle.command_line.specs.Commands.{Verb, on_formula, IsForm, of_formula}
+use Rattle.command_line.specs.Commands as word
 use Rattle.workbench.specs.Requests.{Request, no_form, refused, whole, stream, sessions, generated, verdicts, early, margins}
 use Rattle.workbench.specs.Requests.{Asks, IsAsked, word_of, IsRefusal, AreHeld, is_held, has_input}
 use Rattle.workbench.specs.Owed.{OwesAtEnd, not_yet, faulty as faulty_at_end, too_many, at_end}
 use Rattle.workbench.specs.Ended.{TellsTruth, bad, faulty, answered, wide, overfull}
 use Rattle.workbench.specs.Running.{IsBegun, IsEnd, by_itself, unread, unwritten, no_memory, HasEnded, IsReadOut, asked, unknown, IsRun}
-use Rattle.workbench.specs.Saying.{IsSaid, whole as all_said, part as part_said}
+use Rattle.command_line.specs.Saying.{IsSaid, whole as all_said, part as part_said}
 use Rattle.workbench.specs.InputFaults.{Fault, fault_text, whole_limits, IsInputFault}
 use Rattle.trace_stream.specs.CaseReader.{IsWhole, IsSound}
-use Rattle.workbench.specs.ErrTexts.{out_of_memory, read_fault, write_fault}
+use Rattle.command_line.specs.ErrTexts.{out_of_memory, read_fault, write_fault}
 use Rattle.promises.specs.Promises as old
 use Rattle.promises.specs.Promises.{AskForBad, AskFor, Drew, Got, IsChecked, IsCutOff, IsErrLine, IsMessage}
-use Rattle.workbench.proofs.NumberWords.{two_words}
+use Rattle.command_line.proofs.NumberWords.{two_words}
 use Rattle.trace_stream.proofs.FaultsStay.{unsound}
 use Rattle.promises.proofs.NoForm.{two_is_none}
-use Rattle.workbench.proofs.RunEnds.{word_form}
+use Rattle.command_line.proofs.AskedWords.{word_form}
 use Rattle.promises.proofs.OneRequest.{one_verb}
 use Rattle.promises.proofs.Completing.{rest_of, truth_status}
 

@@ -14,7 +14,7 @@ use Rattle.workbench.specs.InputFaults.{Fault, whole_limits, IsInputFault}
 use Rattle.workbench.specs.Owed.{limits_of, HasTooMany, OwesLines}
 use Rattle.workbench.specs.Sessions.{InputFault, FaultOfInput}
 use Rattle.trace_stream.specs.CaseReader.{IsSound, IsWhole}
-use Rattle.workbench.specs.Generator.{IsSummary}
+use Rattle.workload_summary.specs.Generator.{IsSummary}
 use Rattle.workbench.specs.Ended.{TellsTruth, IsVerdict, IsLastVerdict, HasFault, IsAnswered, IsAnsweredWhole}
 use Rattle.workbench.specs.Ended.{IsAnsweredByRow, IsWide, IsOverfull, EndsWith, none, bad, faulty, answered, wide}
 use Rattle.workbench.specs.Ended.{overfull}

@@ -15,3 +15,5 @@ pub mod EndsOnce
 pub mod BenchesHear
 mod KeepingPace
 mod AccountLaw
+mod TextExamples
+mod SessionExamples

@@ -5,8 +5,8 @@ use Rattle.rational.proofs.Lists.{append_some}
 use Rattle.io_edge.specs.Calls.{Drained, Filled}
 use Rattle.workbench.specs.Requests.{Request, no_form, refused, whole, stream, sessions, generated, Asks, AreNone}
 use Rattle.workbench.specs.Requests as request
-use Rattle.workbench.specs.Commands.{on_formula, generate}
-use Rattle.workbench.specs.Commands as word
+use Rattle.command_line.specs.Commands.{on_formula, generate}
+use Rattle.command_line.specs.Commands as word
 use Rattle.workbench.specs.Ended.{EndsWith, none, bad, faulty, answered, wide, overfull}
 use Rattle.workbench.specs.Running.{IsEnd, by_itself, unread, unwritten, no_memory, HasEnded, asked, unknown}
 use Rattle.promises.proofs.Due.{small_answer}

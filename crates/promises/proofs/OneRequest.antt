@@ -7,13 +7,13 @@ use Rattle.online_nodes.specs.StreamedWide.{IsUnstreamed}
 use Rattle.stl_grammar.specs.FormulaRefusals.{IsFormulaOf}
 use Rattle.stl_grammar.proofs.LawProofs.{one_formula, one_refusal}
 use Rattle.report.specs.Report.{check, robust, explain, json, table}
-use Rattle.workbench.proofs.NumberWords.{two_words, one_workload}
-use Rattle.workbench.specs.Commands.{Verb, on_formula, generate, IsForm, verb_word}
-use Rattle.workbench.specs.Commands as word
+use Rattle.command_line.proofs.NumberWords.{two_words, one_workload}
+use Rattle.command_line.specs.Commands.{Verb, on_formula, generate, IsForm, verb_word}
+use Rattle.command_line.specs.Commands as word
 use Rattle.workbench.specs.Requests.{Request, no_form, refused, whole, stream, sessions, generated, verdicts, early}
 use Rattle.workbench.specs.Requests.{margins, Asks, AreNone, AreFor, AreRefused, IsAsked, IsRefusal, IsUnserved}
-use Rattle.workbench.specs.ErrTexts.{formula_fault_text, not_streamed_text}
-use Rattle.workbench.proofs.RunEnds.{word_form}
+use Rattle.command_line.specs.ErrTexts.{formula_fault_text, not_streamed_text}
+use Rattle.command_line.proofs.AskedWords.{word_form}
 
 -- ---- forms
 

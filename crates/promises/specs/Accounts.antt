@@ -12,7 +12,7 @@ use Rattle.serde_json.specs.Data.{Data}
 use Rattle.serde_json.specs.Written.{compact_text}
 use Rattle.report.specs.Json.{IsReportData}
 use Rattle.report.specs.Report.{IsItemLines, AreItemLines, nodes_for}
-use Rattle.workbench.specs.Answers.{HoldsAtStart}
+use Rattle.trace_stream.specs.Streams.{HoldsAtStart}
 use Rattle.workbench.specs.InputFaults.{whole_limits}
 use Rattle.trace_stream.specs.CaseReader.{IsWhole}
 use Rattle.workbench.specs.Ended.{Refute}

@@ -9,9 +9,9 @@ use Rattle.report.specs.Report.{Out, check}
 use Rattle.promises.specs.Words.{AskCheck}
 use Rattle.workbench.specs.Requests.{usage_line}
 use Rattle.workbench.specs.InputFaults.{Fault, fault_text, whole_limits, IsInputFault}
-use Rattle.workbench.specs.Answers.{HoldsAtStart}
+use Rattle.trace_stream.specs.Streams.{HoldsAtStart}
 use Rattle.trace_stream.specs.CaseReader.{IsWhole, IsSound}
-use Rattle.workbench.specs.ErrTexts.{formula_fault_text, out_of_memory, read_fault, write_fault}
+use Rattle.command_line.specs.ErrTexts.{formula_fault_text, out_of_memory, read_fault, write_fault}
 
 -- the text is refused with this line
 abbrev pub HasBadText : List ℕ → List ℕ → Type 0

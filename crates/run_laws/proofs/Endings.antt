@@ -10,7 +10,7 @@ use Rattle.workbench.specs.Requests.{Request, no_form, refused, whole, stream, s
 use Rattle.workbench.specs.Owed.{limits_of, OwesAtEnd, not_yet, faulty as faulty_at_end, too_many, at_end, Owes, HasTooMany}
 use Rattle.workbench.specs.Ended.{HasFault, IsAnswered, IsAnsweredWhole, IsAnsweredByRow, IsWide, IsOverfull}
 use Rattle.workbench.specs.Ended.{EndsWith, none, bad, faulty, answered, wide, overfull}
-use Rattle.workbench.specs.ErrTexts.{wide_text, too_many_cells_text}
+use Rattle.command_line.specs.ErrTexts.{wide_text, too_many_cells_text}
 use Rattle.run_laws.proofs.FaultsOfAll.{all_read, fault_of_all, rows_owed_of_all}
 use Rattle.run_laws.proofs.LinesOfAll.{input_fault_of_all, lines_owed_of_all}
 

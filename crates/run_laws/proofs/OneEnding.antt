@@ -19,7 +19,7 @@ use Rattle.promises.proofs.OwedLaws.{check_owed_once, robust_owed_once, explain_
 use Rattle.workbench.specs.Requests.{Request, no_form, refused, whole, stream, sessions, generated, has_input, Stream, verdicts, early, margins}
 use Rattle.workbench.specs.Owed.{limits_of, OwesAtEnd, at_end, Owes, HasTooMany}
 use Rattle.workbench.specs.Ended.{TellsTruth, IsVerdict, IsLastVerdict, HasFault, IsAnswered, IsOverfull}
-use Rattle.workbench.specs.ErrTexts.{too_many_cells_text}
+use Rattle.command_line.specs.ErrTexts.{too_many_cells_text}
 use Rattle.run_laws.proofs.Endings.{IsEnding, at_fault, answer, too_wide, too_full}
 
 -- ---- what is owed, and the line of a fault

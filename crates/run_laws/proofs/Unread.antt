@@ -12,7 +12,7 @@ use Rattle.report.specs.Report.{check, Out, nodes_for}
 use Rattle.report.proofs.OneText.{verdicts_once, start_once}
 use Rattle.report.proofs.StreamTexts.{stream_once}
 use Rattle.workbench.specs.Requests.{Request, no_form, refused, whole, stream, sessions, generated, has_input, usage_line}
-use Rattle.workbench.specs.Generator.{IsSummary, generated as generated_trace, judged, line_count}
+use Rattle.workload_summary.specs.Generator.{IsSummary, generated as generated_trace, judged, line_count}
 use Rattle.workbench.specs.Ended.{EndsWith, none, bad, faulty, answered, wide, overfull}
 use Rattle.run_laws.proofs.OneEnding.{AreOne}
 

@@ -2,7 +2,6 @@
 use Rattle.std.proofs.Common.{◌≡◌, ◌≢◌, inl, inr, ℕ, ◌<◌, Bool, true, false, List, [], ◌++◌, length, refl}
 use Rattle.std.proofs.Common.{sym, ap, ◌∙◌, subst, arith, append-nil, Option, Result, Ok, Err}
 use Rattle.std.specs.Prelude.{MatchResult, IfOk, OnOk, option_map}
-use Rattle.std.proofs.KnownBytes.{Appends-nil}
 use Rattle.stl_syntax.specs.Formula.{Formula, root}
 use Rattle.trace_reader.specs.Reader.{header_of}
 use Rattle.trace_reader.specs.declared.refusal.Limits.{Limits}
@@ -16,13 +15,15 @@ use Rattle.workbench.specs.InputFaults.{Fault, fault_text, IsInputFault, AreRows
 use Rattle.workbench.specs.Wholes.{status_of_truth}
 use Rattle.workbench.proofs.Beginnings.{begun_before, begun_now}
 use Rattle.trace_stream.specs.Following.{IsTextOf, IsLive, IsAtRest, IsOver, IsDone, IsLiveStop}
-use Rattle.workbench.specs.MadeWritten.{IsMadeWritten, no_room, made_whole, made_in_part}
+use Rattle.written_streams.specs.MadeWritten.{IsMadeWritten, no_room, made_whole, made_in_part}
 use Rattle.trace_stream.specs.declared.case.Case.{Case}
 use Rattle.trace_stream.specs.declared.live.Live.{Live}
 use Rattle.trace_stream.specs.declared.fault.StreamStop.{StreamStop}
 use Rattle.trace_stream.specs.declared.fault.StreamStop.TheVariants.{Fault as Faulty, NoMemory, Wide}
 use Rattle.workbench.specs.declared.fault.Stop.{Stop}
-use Rattle.workbench.specs.declared.fault.Stop.TheVariants.{Unwritten, NoMemory as Starved}
+use Rattle.workbench.specs.declared.fault.Stop.TheVariants.{Unwritten}
+use Rattle.written_streams.specs.declared.made.Halt.{Halt}
+use Rattle.written_streams.specs.declared.made.Halt.TheVariants.{Reader, Unwritten as Refused}
 use Rattle.workbench.specs.Stopping.{stop_of, outcome_of}
 use Rattle.trace_stream.proofs.KeptRows.{sound_so_far}
 use Rattle.trace_stream.proofs.Sizes.{few_bytes}
@@ -66,7 +67,7 @@ module _ (kind : Stream) where
   -- a fault of the bytes was met
   fault_met : (limits : Limits) (f : Formula) (bytes text : List ℕ) (ended : Bool) (stop : StreamStop) → limits ≡ limits_of kind
       → stop ≢ NoMemory → IsLiveStop kind limits f ended bytes text stop
-      → IsPushStop (stream kind f) bytes ended text (stop_of stop)
+      → IsPushStop (stream kind f) bytes ended text (stop_of (Reader stop))
   fault_met limits f bytes text ended (Faulty fault) e ne (x, is, input, t) = (
     fault_text x,
     (x, is, refl),
@@ -138,14 +139,15 @@ module _ {F : Type 0} (Stands : F → Case → List ℕ → Type 0) (kind : Stre
       (before : OwesRows kind f bytes false text) (limits : mid.rows.limits ≡ limits_of kind)
       (same : mid.formula ≡ f) where
     -- what a piece was fed to, and what was written of it, come to a push
-    pub push_of : (fed : Result (Unit {0}) StreamStop) (result : Result (Unit {0}) Stop) → IsMadeWritten held held_after mid.text fed result
+    push_halted : (fed : Result (Unit {0}) StreamStop) (result : Result (Unit {0}) Halt) → IsMadeWritten held held_after mid.text fed result
         → MatchResult fed (λ _. IsLive Stands kind mid (bytes ++ piece) text)
         (λ e. IsLiveStop kind mid.rows.limits f false (bytes ++ piece) (text ++ mid.text) e)
         → OnOk result (new ≡ record mid { text = [] })
-        → IsPush (stream kind f) held held_after (bytes ++ piece) false text (λ _. IsPushed (IsAtRest Stands kind new) (stream kind f) (bytes ++ piece)) result
-    push_of fed result (no_room kept) h done =
+        → IsPush (stream kind f) held held_after (bytes ++ piece) false text (λ _. IsPushed (IsAtRest Stands kind new) (stream kind f) (bytes ++ piece))
+        (outcome_of result)
+    push_halted fed result (no_room kept) h done =
         ([], kept, inr ([], begun_before (stream kind f) bytes piece text false (due_of_owed kind f bytes text false before)))
-    push_of (Ok x) result (made_whole ne wrote) h done =
+    push_halted (Ok x) result (made_whole ne wrote) h done =
         let rest = written_all mid new (bytes ++ piece) text done limits h in
         let formula : new.formula ≡ f = ap (λ (z : Live F). z.formula) done ∙ same in (
           mid.text,
@@ -153,9 +155,9 @@ module _ {F : Type 0} (Stands : F → Case → List ℕ → Type 0) (kind : Stre
           subst (λ (g : Formula). IsPushed (IsAtRest Stands kind new) (stream kind g) (bytes ++ piece) (text ++ mid.text))
               formula (at_rest new (bytes ++ piece) (text ++ mid.text) rest),
         )
-    push_of (Err stop) result (made_whole ne wrote) h done =
+    push_halted (Err stop) result (made_whole ne wrote) h done =
         (mid.text, wrote, fault_met kind mid.rows.limits f (bytes ++ piece) (text ++ mid.text) false stop limits (λ e. ne (ap Err e)) h)
-    push_of (Ok x) result (made_in_part ne part) h done = (
+    push_halted (Ok x) result (made_in_part ne part) h done = (
       part.front,
       part.wrote,
       (
@@ -166,7 +168,7 @@ module _ {F : Type 0} (Stands : F → Case → List ℕ → Type 0) (kind : Stre
             (subst (λ (g : Formula). OwesRows kind g (bytes ++ piece) false (text ++ mid.text)) same (owed_now mid (bytes ++ piece) text limits h))),
       ),
     )
-    push_of (Err stop) result (made_in_part ne part) h done = (
+    push_halted (Err stop) result (made_in_part ne part) h done = (
       part.front,
       part.wrote,
       (
@@ -176,6 +178,17 @@ module _ {F : Type 0} (Stands : F → Case → List ℕ → Type 0) (kind : Stre
             (fault_owed kind mid.rows.limits f (bytes ++ piece) (text ++ mid.text) false stop limits (λ e. ne (ap Err e)) h),
       ),
     )
+
+    -- so of the result of the command
+    pub push_of : (fed : Result (Unit {0}) StreamStop) (halted : Result (Unit {0}) Halt) (result : Result (Unit {0}) Stop) → result ≡ outcome_of halted
+        → IsMadeWritten held held_after mid.text fed halted
+        → MatchResult fed (λ _. IsLive Stands kind mid (bytes ++ piece) text)
+        (λ e. IsLiveStop kind mid.rows.limits f false (bytes ++ piece) (text ++ mid.text) e)
+        → OnOk halted (new ≡ record mid { text = [] })
+        → IsPush (stream kind f) held held_after (bytes ++ piece) false text (λ _. IsPushed (IsAtRest Stands kind new) (stream kind f) (bytes ++ piece)) result
+    push_of fed halted result e written taken done =
+        subst (λ (r : Result (Unit {0}) Stop). IsPush (stream kind f) held held_after (bytes ++ piece) false text
+        (λ _. IsPushed (IsAtRest Stands kind new) (stream kind f) (bytes ++ piece)) r) (sym e) (push_halted fed halted written taken done)
 
 module _ {F : Type 0} (Ended : F → Case → List ℕ → Type 0) (kind : Stream) where
   -- the answer of a trace that was read
@@ -211,11 +224,11 @@ module _ {F : Type 0} (Ended : F → Case → List ℕ → Type 0) (kind : Strea
       (before : OwesRows kind f bytes false text) (same : limits ≡ limits_of kind)
       (formula : mid.formula ≡ f) where
     -- what the end came to, and what was written of it, come to an end
-    pub end_of : (finished : Result Bool StreamStop) (result : Result Bool Stop) → IsMadeWritten held held_after mid.text finished result
+    end_halted : (finished : Result Bool StreamStop) (result : Result Bool Halt) → IsMadeWritten held held_after mid.text finished result
         → MatchResult finished (IsOver Ended kind limits f mid bytes (text ++ mid.text)) (λ e. IsLiveStop kind limits f true bytes (text ++ mid.text) e)
         → OnOk result (new ≡ record mid { text = [] })
-        → IsPush (stream kind f) held held_after bytes true text (IsFinished (IsDone Ended kind new) (stream kind f) bytes) result
-    end_of finished result (no_room kept) h done = (
+        → IsPush (stream kind f) held held_after bytes true text (IsFinished (IsDone Ended kind new) (stream kind f) bytes) (outcome_of result)
+    end_halted finished result (no_room kept) h done = (
       [],
       kept,
       inr (
@@ -224,7 +237,7 @@ module _ {F : Type 0} (Ended : F → Case → List ℕ → Type 0) (kind : Strea
             (begun_before (stream kind f) bytes [] text true (due_of_owed kind f bytes text false before)),
       ),
     )
-    end_of (Ok holds) result (made_whole ne wrote) h done = (
+    end_halted (Ok holds) result (made_whole ne wrote) h done = (
       mid.text,
       wrote,
       (
@@ -232,9 +245,9 @@ module _ {F : Type 0} (Ended : F → Case → List ℕ → Type 0) (kind : Strea
         done_after limits f mid new bytes (text ++ mid.text) holds same formula done h,
       ),
     )
-    end_of (Err stop) result (made_whole ne wrote) h done =
+    end_halted (Err stop) result (made_whole ne wrote) h done =
         (mid.text, wrote, fault_met kind limits f bytes (text ++ mid.text) true stop same (λ e. ne (ap Err e)) h)
-    end_of (Ok holds) result (made_in_part ne part) h done = (
+    end_halted (Ok holds) result (made_in_part ne part) h done = (
       part.front,
       part.wrote,
       (
@@ -244,7 +257,7 @@ module _ {F : Type 0} (Ended : F → Case → List ℕ → Type 0) (kind : Strea
             (due_of_owed kind f bytes (text ++ mid.text) true (owed_whole limits f mid bytes (text ++ mid.text) holds same h)),
       ),
     )
-    end_of (Err stop) result (made_in_part ne part) h done = (
+    end_halted (Err stop) result (made_in_part ne part) h done = (
       part.front,
       part.wrote,
       (
@@ -255,17 +268,23 @@ module _ {F : Type 0} (Ended : F → Case → List ℕ → Type 0) (kind : Strea
       ),
     )
 
--- where memory was wanting nothing is written
-pub starved_made : {T : Type 0} (held : Option (List ℕ)) (text : List ℕ) (outcome : Result T StreamStop) → outcome ≡ Err NoMemory
-    → IsMadeWritten held held text outcome (Err Starved)
-starved_made {T} held text outcome e = subst (λ (r : Result T StreamStop). IsMadeWritten held held text r (Err Starved)) (sym e) (no_room (Appends-nil held))
+    -- so of the result of the command
+    pub end_of : (finished : Result Bool StreamStop) (halted : Result Bool Halt) (result : Result Bool Stop) → result ≡ outcome_of halted
+        → IsMadeWritten held held_after mid.text finished halted
+        → MatchResult finished (IsOver Ended kind limits f mid bytes (text ++ mid.text)) (λ e. IsLiveStop kind limits f true bytes (text ++ mid.text) e)
+        → OnOk halted (new ≡ record mid { text = [] })
+        → IsPush (stream kind f) held held_after bytes true text (IsFinished (IsDone Ended kind new) (stream kind f) bytes) result
+    end_of finished halted result e written over done =
+        subst (λ (r : Result Bool Stop). IsPush (stream kind f) held held_after bytes true text (IsFinished (IsDone Ended kind new) (stream kind f) bytes) r)
+        (sym e) (end_halted finished halted written over done)
 
--- the reason of a stream is no fault of a sink
-pub not_unwritten : {T : Type 0} (outcome : Result T StreamStop) → outcome_of outcome ≢ Err Unwritten
-not_unwritten (Ok x) e = let k = e in cc
-not_unwritten (Err (Faulty fault)) e = let k = e in cc
-not_unwritten (Err NoMemory) e = let k = e in cc
-not_unwritten (Err (Wide i den)) e = let k = e in cc
+-- a sink failed exactly where the stream says so
+pub unwritten_alone : {T : Type 0} (r : Result T Halt) → outcome_of r ≡ Err Unwritten → r ≡ Err Refused
+unwritten_alone (Ok x) e = let k = e in cc
+unwritten_alone (Err (Reader (Faulty fault))) e = let k = e in cc
+unwritten_alone (Err (Reader NoMemory)) e = let k = e in cc
+unwritten_alone (Err (Reader (Wide i den))) e = let k = e in cc
+unwritten_alone (Err Refused) e = refl
 
 -- ---- the beginning
 

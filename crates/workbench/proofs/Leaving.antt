@@ -17,18 +17,19 @@ use Rattle.margin_stream.specs.declared.margins.Margins.{Margins as Measurer}
 use Rattle.stl_grammar.specs.FormulaRefusals.{IsFormulaOf}
 use Rattle.trace_stream.specs.Following.{IsDone}
 use Rattle.trace_stream.specs.declared.live.Live.{Live}
-use Rattle.workbench.specs.Commands.{Verb, on_formula, generate}
-use Rattle.workbench.specs.Commands as word
-use Rattle.workbench.specs.ErrTexts.{not_streamed_text, out_of_memory}
+use Rattle.command_line.specs.Commands.{Verb, on_formula, generate}
+use Rattle.command_line.specs.Commands as word
+use Rattle.command_line.specs.ErrTexts.{not_streamed_text, out_of_memory}
 use Rattle.workbench.specs.Requests.{Request, no_form, refused as bad_request, whole, stream, early, margins, sessions, generated}
 use Rattle.workbench.specs.Requests.{Asks, AreNone, AreFor, IsAsked, IsUnserved, is_streamed, word_of, word_of_stream}
 use Rattle.workbench.specs.Running.{IsRun, asked as run_asked, by_itself, unknown as run_unknown}
 use Rattle.workbench.specs.Ended.{bad}
-use Rattle.workbench.specs.Saying.{IsSaid}
-use Rattle.workbench.specs.Deciding.{IsDeciding}
-use Rattle.workbench.specs.declared.early.Deciding.{Deciding as Follower}
+use Rattle.command_line.specs.Saying.{IsSaid}
+use Rattle.early_stream.specs.Deciding.{IsDeciding}
+use Rattle.early_stream.specs.declared.deciding.Deciding.{Deciding as Follower}
 use Rattle.workbench.specs.Keeping.{Holds, IsEarlyOf, IsLeft, IsNetOf, asked, unknown, HasRun}
-use Rattle.workbench.specs.Wholes.{IsBadEnd, refused, no_room, status_of}
+use Rattle.command_line.specs.Words.{IsBadEnd, refused, no_room}
+use Rattle.workbench.specs.Wholes.{status_of}
 use Rattle.workbench.specs.Pushing.{IsStreamedFor}
 use Rattle.workbench.proofs.RunEnds.{stop_high}
 use Rattle.workbench.proofs.StreamSteps.{streams}

@@ -1,22 +1,8 @@
-pub mod TextExamples
-pub mod SessionExamples
-pub mod Devices
-pub mod LineTexts
 pub mod Endings
-pub mod Progress
 pub mod RunEnds
 pub mod Leaving
-pub mod WatchCalls
 pub mod StreamSteps
-pub mod CaseSignals
-pub mod Measured
-pub mod Reasoned
-pub mod Refuting
 mod Beginnings
 pub mod AtRest
 pub mod ManyLines
-pub mod Reported
-pub mod Summaries
-pub mod NumberWords
-pub mod Fitting
-pub mod EarlyFollows
+mod Calmness

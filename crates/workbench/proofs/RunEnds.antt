@@ -1,5 +1,5 @@
 -- How a run ends, from how its parts do.
-use Rattle.std.proofs.Common.{◌≡◌, ◌≢◌, ◌⊎◌, inl, inr, ℕ, ◌≤◌, Bool, true, false, List, [], ◌∷◌, refl, sym, ap, subst, arith, append-nil, Result, Ok, Err}
+use Rattle.std.proofs.Common.{◌≡◌, ◌≢◌, ◌⊎◌, inl, inr, ℕ, ◌≤◌, Bool, true, false, List, [], refl, sym, ap, ◌∙◌, subst, arith, append-nil, Result, Ok, Err}
 use Rattle.std.specs.Prelude.{Option, IsErr}
 use Rattle.std.specs.Io.KnownBytes.{Appends, Consumes, IsAtEnd}
 use Rattle.std.proofs.KnownBytes.{Appends-nil, Consumes-nil}
@@ -8,69 +8,33 @@ use Rattle.io_edge.specs.Calls.{Drained, Filled, HasFailed, HasRefused, IsAskedO
 use Rattle.stl_syntax.specs.Formula.{Formula}
 use Rattle.stl_syntax.specs.Trace.{Trace}
 use Rattle.report.specs.Report.{Command, check, robust, explain, json, table, Out}
-use Rattle.workbench.specs.Answers.{IsCheckAnswer}
-use Rattle.workbench.specs.Commands.{Verb, on_formula, generate, IsForm, of_formula, verb_word}
-use Rattle.workbench.specs.Requests.{no_form, refused as bad_request, whole as of_whole, IsAsked, IsAmong, built_commands}
+use Rattle.verdict_sets.specs.Telling.{IsCheckAnswer}
+use Rattle.command_line.specs.Commands.{Verb, on_formula, generate}
+use Rattle.command_line.specs.Words.{IsBadEnd, refused, no_room}
+use Rattle.workbench.specs.Requests.{no_form, refused as bad_request, whole as of_whole, IsAsked}
 use Rattle.workbench.specs.Requests.{AreNone, AreOfNoFormula, generated, AreFor, word_of, usage_line, IsUnserved}
 use Rattle.workbench.specs.Owed.{OwesAtEnd, not_yet, faulty as faulty_at_end, at_end as owed_at_end}
 use Rattle.workbench.specs.Ended.{IsPrompt, none, bad, faulty, answered as as_answered, wide as as_wide, overfull as as_overfull}
 use Rattle.workbench.specs.Running.{IsEnd, by_itself, unread, unwritten, no_memory, HasEnded, asked, unknown, IsRun}
-use Rattle.workbench.specs.Saying.{IsSaid}
+use Rattle.command_line.specs.Saying.{IsSaid}
 use Rattle.workbench.specs.InputFaults.{Fault, whole_limits, IsInputFault}
-use Rattle.workbench.specs.FromSource.{IsReadWhole, IsReadPromptly, IsStop}
-use Rattle.workbench.specs.Writing.{IsPartWritten}
-use Rattle.workbench.specs.declared.request.Command.TheVariants.{Check, Robust, Explain, Json, Table}
-use Rattle.workbench.specs.declared.request.Mode.{Mode}
-use Rattle.workbench.specs.declared.request.Mode.TheVariants.{Whole, Watch, Early, Mux, Margins}
-use Rattle.workbench.specs.Wholes.{verb_of, status_of_truth, IsAnswerOf, IsUnanswered, IsWrittenWith, all_of_it}
+use Rattle.whole_answers.specs.FromSource.{IsReadWhole, IsReadPromptly, IsStop}
+use Rattle.command_line.specs.Writing.{IsPartWritten}
+use Rattle.whole_answers.specs.Judging.{IsAnswerOf, IsUnanswered}
+use Rattle.whole_answers.specs.declared.no_answer.NoAnswer.{NoAnswer}
+use Rattle.whole_answers.specs.declared.no_answer.NoAnswer.TheVariants as reason
+use Rattle.workbench.specs.Stopping.{stop_for}
+use Rattle.workbench.specs.Wholes.{status_of_truth, IsWrittenWith, all_of_it}
 use Rattle.workbench.specs.Wholes.{a_part, IsWholeEnd, answered, unanswered, stopped, status_of, status_of_stop}
-use Rattle.workbench.specs.Wholes.{IsEndLine, IsStopLine, EndsSoundly, IsBadEnd, refused, no_room}
+use Rattle.workbench.specs.Wholes.{IsEndLine, IsStopLine, EndsSoundly}
 use Rattle.trace_stream.specs.declared.case.Case.{Case}
 use Rattle.workbench.specs.declared.fault.Stop.{Stop}
 use Rattle.workbench.specs.declared.fault.Stop.TheVariants.{Fault as Faulty, Input as FaultyLine, Unread, Unwritten, NoMemory, Wide, TooMany}
-use Rattle.workbench.specs.ErrTexts.{write_fault, out_of_memory}
-use Rattle.workbench.specs.Generator.{IsSummary}
-use Rattle.workbench.specs.Made.{IsMade, written, cut_off, no_room as no_room_for_it}
+use Rattle.command_line.specs.ErrTexts.{write_fault, out_of_memory}
+use Rattle.workload_summary.specs.Generator.{IsSummary}
+use Rattle.workload_summary.specs.Made.{IsMade, written, cut_off, no_room as no_room_for_it}
 
 -- ---- words
-
--- the words of the form of a command
-pub word_form : {words : List (List ℕ)} {j : Verb} {text : List ℕ} → IsForm words (on_formula j text) → words ≡ verb_word j ∷ text ∷ []
-word_form (of_formula j) = refl
-
-is_built : (m : Mode) → IsAmong (verb_of m) built_commands
-is_built (Whole Check) = inl refl
-is_built Watch = inr (inl refl)
-is_built (Whole Robust) = inr (inr (inl refl))
-is_built (Whole Explain) = inr (inr (inr (inl refl)))
-is_built (Whole Json) = inr (inr (inr (inr (inl refl))))
-is_built (Whole Table) = inr (inr (inr (inr (inr (inl refl)))))
-is_built Early = inr (inr (inr (inr (inr (inr (inl refl))))))
-is_built Mux = inr (inr (inr (inr (inr (inr (inr (inl refl)))))))
-is_built Margins = inr (inr (inr (inr (inr (inr (inr (inr (inl refl))))))))
-
--- a command's word and one more are of a form that is built
-pub asked_word : {words : List (List ℕ)} (m : Mode) (text : List ℕ) → words ≡ verb_word (verb_of m) ∷ text ∷ [] → IsAsked words (on_formula (verb_of m) text)
-asked_word {words} m text e = record { built = is_built m; is = subst (λ ws. IsForm ws (on_formula (verb_of m) text)) (sym e) (of_formula (verb_of m)) }
-
--- and they alone
-pub none_asked : {words : List (List ℕ)} → ((m : Mode) (text : List ℕ) → words ≡ verb_word (verb_of m) ∷ text ∷ [] → ⊥) → AreOfNoFormula words
-none_asked {words} h j text a = by_word a.built
-  where
-    form_of : (m : Mode) → j ≡ verb_of m → ⊥
-    form_of m e = h m text (subst (λ k. words ≡ verb_word k ∷ text ∷ []) e (word_form a.is))
-
-    by_word : IsAmong j built_commands → ⊥
-    by_word (inl e) = form_of (Whole Check) e
-    by_word (inr (inl e)) = form_of Watch e
-    by_word (inr (inr (inl e))) = form_of (Whole Robust) e
-    by_word (inr (inr (inr (inl e)))) = form_of (Whole Explain) e
-    by_word (inr (inr (inr (inr (inl e))))) = form_of (Whole Json) e
-    by_word (inr (inr (inr (inr (inr (inl e)))))) = form_of (Whole Table) e
-    by_word (inr (inr (inr (inr (inr (inr (inl e))))))) = form_of Early e
-    by_word (inr (inr (inr (inr (inr (inr (inr (inl e)))))))) = form_of Mux e
-    by_word (inr (inr (inr (inr (inr (inr (inr (inr (inl e))))))))) = form_of Margins e
-    by_word (inr (inr (inr (inr (inr (inr (inr (inr (inr other))))))))) = other
 
 -- words that are of neither form are of none
 pub none_of_both : {words : List (List ℕ)} → AreOfNoFormula words → ((number rows : ℕ) → ¬ IsAsked words (generate number rows)) → AreNone words
@@ -106,14 +70,36 @@ kept_left : (before after : Option (List ℕ)) → after ≡ before → Consumes
 kept_left before after e = subst (λ a. Consumes before a []) (sym e) (Consumes-nil before)
 
 -- a reason for no answer is no failed device
-pub not_stopped : (c : Command) (f : Formula) (tr : Trace) (stop : Stop) → IsUnanswered c f tr stop → (stop ≢ Unread) × (stop ≢ Unwritten)
-not_stopped c f tr (Faulty fault) is = absurd is
-not_stopped c f tr (FaultyLine fault) is = absurd is
-not_stopped c f tr Unread is = absurd is
-not_stopped c f tr Unwritten is = absurd is
-not_stopped c f tr NoMemory is = (λ e. let k = e in cc, λ e. let k = e in cc)
-not_stopped c f tr (Wide i den) is = (λ e. let k = e in cc, λ e. let k = e in cc)
-not_stopped c f tr (TooMany count) is = (λ e. let k = e in cc, λ e. let k = e in cc)
+pub not_stopped : (c : Command) (f : Formula) (tr : Trace) (n : NoAnswer) → IsUnanswered c f tr n → (stop_for n ≢ Unread) × (stop_for n ≢ Unwritten)
+not_stopped c f tr (reason.Fault fault) is = absurd is
+not_stopped c f tr reason.Unread is = absurd is
+not_stopped c f tr reason.NoMemory is = (λ e. let k = e in cc, λ e. let k = e in cc)
+not_stopped c f tr (reason.Wide i den) is = (λ e. let k = e in cc, λ e. let k = e in cc)
+not_stopped c f tr (reason.TooMany count) is = (λ e. let k = e in cc, λ e. let k = e in cc)
+
+-- the reading stopped for a failed source exactly where the command does
+pub unread_as : (n : NoAnswer) (s : Stop) → s ≡ stop_for n → (s ≡ Unread → n ≡ reason.Unread) × (n ≡ reason.Unread → s ≡ Unread)
+unread_as (reason.Fault fault) s e =
+    (λ k. absurd (let h : Faulty fault ≡ Unread = sym e ∙ k in cc), λ k. absurd (let h : reason.Fault fault ≡ reason.Unread = k in cc))
+unread_as reason.Unread s e = (λ k. refl, λ k. e)
+unread_as reason.NoMemory s e =
+    (λ k. absurd (let h : NoMemory ≡ Unread = sym e ∙ k in cc), λ k. absurd (let h : reason.NoMemory ≡ reason.Unread = k in cc))
+unread_as (reason.Wide i den) s e =
+    (λ k. absurd (let h : Wide i den ≡ Unread = sym e ∙ k in cc), λ k. absurd (let h : reason.Wide i den ≡ reason.Unread = k in cc))
+unread_as (reason.TooMany count) s e =
+    (λ k. absurd (let h : TooMany count ≡ Unread = sym e ∙ k in cc), λ k. absurd (let h : reason.TooMany count ≡ reason.Unread = k in cc))
+
+-- and for want of memory where the command does
+pub starved_as : (n : NoAnswer) (s : Stop) → s ≡ stop_for n → n ≡ reason.NoMemory → s ≡ NoMemory
+starved_as n s e k = e ∙ ap stop_for k
+
+-- the reading of a source never stops as a failed output
+pub never_unwritten : (n : NoAnswer) → stop_for n ≢ Unwritten
+never_unwritten (reason.Fault fault) e = let k = e in cc
+never_unwritten reason.Unread e = let k = e in cc
+never_unwritten reason.NoMemory e = let k = e in cc
+never_unwritten (reason.Wide i den) e = let k = e in cc
+never_unwritten (reason.TooMany count) e = let k = e in cc
 
 -- the answer of `check`
 pub check_answer : (f : Formula) (tr : Trace) (holds : Bool) (text : List ℕ) → IsCheckAnswer f tr holds text → IsAnswerOf check f tr holds text
@@ -124,20 +110,16 @@ check_answer f tr false text j = record { verdict = inr (refl, j.truth); written
 pub ends_soundly : {c : Command} {f : Formula} {i : Drained} {o : Filled} {e : Result Bool Stop} → IsWholeEnd c f i o e → EndsSoundly f e
 ends_soundly (answered k holds text read a (all_of_it w)) = tt
 ends_soundly (answered k holds text read a (a_part w)) = tt
-ends_soundly (unanswered k (Faulty fault) read is same) = absurd is
-ends_soundly (unanswered k (FaultyLine fault) read is same) = tt
-ends_soundly (unanswered k Unread read is same) = tt
-ends_soundly (unanswered k Unwritten read is same) = tt
-ends_soundly (unanswered k NoMemory read is same) = tt
-ends_soundly (unanswered k (Wide i den) read is same) = tt
-ends_soundly (unanswered k (TooMany count) read is same) = tt
-ends_soundly (stopped (Faulty fault) is same) = (is.0, is.1)
-ends_soundly (stopped (FaultyLine fault) is same) = tt
-ends_soundly (stopped Unread is same) = tt
-ends_soundly (stopped Unwritten is same) = tt
-ends_soundly (stopped NoMemory is same) = tt
-ends_soundly (stopped (Wide i den) is same) = tt
-ends_soundly (stopped (TooMany count) is same) = tt
+ends_soundly (unanswered k (reason.Fault fault) read is same) = absurd is
+ends_soundly (unanswered k reason.Unread read is same) = tt
+ends_soundly (unanswered k reason.NoMemory read is same) = tt
+ends_soundly (unanswered k (reason.Wide i den) read is same) = tt
+ends_soundly (unanswered k (reason.TooMany count) read is same) = tt
+ends_soundly (stopped (reason.Fault fault) is same) = (is.0, is.1)
+ends_soundly (stopped reason.Unread is same) = tt
+ends_soundly (stopped reason.NoMemory is same) = tt
+ends_soundly (stopped (reason.Wide i den) is same) = tt
+ends_soundly (stopped (reason.TooMany count) is same) = tt
 
 -- ---- runs
 
@@ -274,10 +256,10 @@ module _ (words : List (List ℕ)) (c : Command) (f : Formula) (i : Drained) (o 
     });
   }
 
-  of_stop : (stop : Stop) → IsStop whole_limits f i.before i.after i.ended stop → o.after ≡ o.before
-      → (stop ≡ Unread → HasFailed i) → {line : List ℕ} → IsStopLine f stop line
-      → Ending (status_of_stop stop) line
-  of_stop (Faulty fault) (x, is, read) same failed is_line = with_line (is_line x is) (record {
+  of_stop : (n : NoAnswer) → IsStop whole_limits f i.before i.after i.ended n → o.after ≡ o.before
+      → (stop_for n ≡ Unread → HasFailed i) → {line : List ℕ} → IsStopLine f (stop_for n) line
+      → Ending (status_of_stop (stop_for n)) line
+  of_stop (reason.Fault fault) (x, is, read) same failed is_line = with_line (is_line x is) (record {
     bytes = read.bytes;
     text = [];
     moved = read.read.moved;
@@ -285,8 +267,7 @@ module _ (words : List (List ℕ)) (c : Command) (f : Formula) (i : Drained) (o 
     at_end = λ _. read.read.all;
     is = by_itself (faulty (x, read.fault, refl) (prompt_of c f read.bytes i.ended read.prompt) (owes_fault c f read.bytes i.ended x read.fault));
   })
-  of_stop (FaultyLine fault) is same failed is_line = absurd is
-  of_stop Unread read same failed is_line = with_line is_line (record {
+  of_stop reason.Unread read same failed is_line = with_line is_line (record {
     bytes = read.bytes;
     text = [];
     moved = read.read.moved;
@@ -294,8 +275,7 @@ module _ (words : List (List ℕ)) (c : Command) (f : Formula) (i : Drained) (o 
     at_end = λ _. read.read.all;
     is = unread refl read.goes_on (failed refl) (λ line h. read.sound h.0 h.1) not_yet;
   })
-  of_stop Unwritten is same failed is_line = absurd is
-  of_stop NoMemory (bytes, moved) same failed is_line = with_line is_line (record {
+  of_stop reason.NoMemory (bytes, moved) same failed is_line = with_line is_line (record {
     bytes = bytes;
     text = [];
     moved = moved;
@@ -303,18 +283,16 @@ module _ (words : List (List ℕ)) (c : Command) (f : Formula) (i : Drained) (o 
     at_end = λ n. absurd (n refl);
     is = no_memory (λ k. let h = k in cc) (inl refl);
   })
-  of_stop (Wide i den) is same failed is_line = absurd is
-  of_stop (TooMany count) is same failed is_line = absurd is
+  of_stop (reason.Wide i den) is same failed is_line = absurd is
+  of_stop (reason.TooMany count) is same failed is_line = absurd is
 
-  of_unanswered : (case : Case) (stop : Stop) → IsReadWhole whole_limits f i.before i.after i.ended case
-      → IsUnanswered c f case.trace stop → o.after ≡ o.before → {line : List ℕ} → IsStopLine f stop line
-      → Ending (status_of_stop stop) line
-  of_unanswered case (Faulty fault) read is same is_line = absurd is
-  of_unanswered case (FaultyLine fault) read is same is_line = absurd is
-  of_unanswered case Unread read is same is_line = absurd is
-  of_unanswered case Unwritten read is same is_line = absurd is
-  of_unanswered case NoMemory read is same is_line = of_stop NoMemory (read.bytes, read.read.moved) same (λ k. absurd (let h = k in cc)) is_line
-  of_unanswered case (Wide n den) read (cause, few) same is_line = with_line is_line (record {
+  of_unanswered : (case : Case) (n : NoAnswer) → IsReadWhole whole_limits f i.before i.after i.ended case
+      → IsUnanswered c f case.trace n → o.after ≡ o.before → {line : List ℕ} → IsStopLine f (stop_for n) line
+      → Ending (status_of_stop (stop_for n)) line
+  of_unanswered case (reason.Fault fault) read is same is_line = absurd is
+  of_unanswered case reason.Unread read is same is_line = absurd is
+  of_unanswered case reason.NoMemory read is same is_line = of_stop reason.NoMemory (read.bytes, read.read.moved) same (λ k. absurd (let h = k in cc)) is_line
+  of_unanswered case (reason.Wide n den) read (cause, few) same is_line = with_line is_line (record {
     bytes = read.bytes;
     text = [];
     moved = read.read.moved;
@@ -322,7 +300,7 @@ module _ (words : List (List ℕ)) (c : Command) (f : Formula) (i : Drained) (o 
     at_end = λ _. read.read.all;
     is = by_itself (as_wide n den (read.came_to_end, refl, record { tr = case.trace; trace = read.whole; cause = cause; few = few }));
   })
-  of_unanswered case (TooMany count) read many same is_line = with_line is_line (record {
+  of_unanswered case (reason.TooMany count) read many same is_line = with_line is_line (record {
     bytes = read.bytes;
     text = [];
     moved = read.read.moved;
@@ -336,8 +314,8 @@ module _ (words : List (List ℕ)) (c : Command) (f : Formula) (i : Drained) (o 
       → Ending (status_of ending) line
   of_end ending (answered case holds text read a (all_of_it w)) failed cut is_line = with_line is_line (of_answer case holds text read a w)
   of_end ending (answered case holds text read a (a_part w)) failed cut is_line = with_line is_line (of_part case holds text read a w (cut refl))
-  of_end ending (unanswered case stop read is same) failed cut is_line = of_unanswered case stop read is same is_line
-  of_end ending (stopped stop is same) failed cut is_line = of_stop stop is same (λ k. failed (ap Err k)) is_line
+  of_end ending (unanswered case n read is same) failed cut is_line = of_unanswered case n read is same is_line
+  of_end ending (stopped n is same) failed cut is_line = of_stop n is same (λ k. failed (ap Err k)) is_line
 
   -- a request that is known
   pub known_run : (ending : Result Bool Stop) (status : ℕ) (line : List ℕ) → status ≡ status_of ending → IsWholeEnd c f i o ending

@@ -17,7 +17,7 @@ use Rattle.trace_stream.specs.declared.fault.TraceFault.{TraceFault}
 use Rattle.workbench.specs.Owed.{Owes}
 use Rattle.workbench.specs.Ended.{HasFault, IsPrompt, IsAnswered, IsWide, faulty, answered, wide}
 use Rattle.workbench.specs.Running.{IsBegun, earlier, KeepsPace, IsEnd, by_itself, unread, unwritten, no_memory, asked}
-use Rattle.workbench.specs.Saying.{IsSaid}
+use Rattle.command_line.specs.Saying.{IsSaid}
 use Rattle.workbench.specs.Sessions.{input_fault_text}
 use Rattle.workbench.specs.Wholes.{status_of_truth, status_of, IsEndLine, EndsSoundly}
 use Rattle.workbench.specs.Keeping.{keeps, IsLeft, HasRun}
@@ -25,7 +25,7 @@ use Rattle.workbench.specs.declared.kept.Kept.{Kept}
 use Rattle.workbench.specs.Pushing.{IsPushed, IsPushStop, IsPush, IsFinished, IsFaultLineOf, IsLineOf, IsStreamedFor, IsStreamEnd}
 use Rattle.workbench.specs.declared.fault.Stop.{Stop}
 use Rattle.workbench.specs.declared.fault.Stop.TheVariants.{Fault as Faulty, Input as FaultyLine, Unread, Unwritten, NoMemory, Wide, TooMany}
-use Rattle.workbench.specs.ErrTexts.{read_fault, write_fault, out_of_memory, wide_text}
+use Rattle.command_line.specs.ErrTexts.{read_fault, write_fault, out_of_memory, wide_text}
 
 -- some bytes were read and answered, in so many reads
 pub record Pushing (Stands : List ℕ → List ℕ → Type 0) (q : Request) (before now held held_now : Option (List ℕ)) (reads : ℕ) : Type 0 where

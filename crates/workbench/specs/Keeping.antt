@@ -16,7 +16,7 @@ use Rattle.workbench.specs.InputFaults.{stream_limits, whole_limits}
 use Rattle.workbench.specs.Requests.{Request, stream, verdicts, early, margins, sessions, Asks}
 use Rattle.workbench.specs.Running.{IsKeptRightly, IsRun}
 use Rattle.workbench.specs.Sessions.{Tagged, AreTagged}
-use Rattle.workbench.specs.Watches.{Watched, StandsForAll}
+use Rattle.written_streams.specs.Watches.{Watched, StandsForAll}
 use Rattle.workbench.specs.declared.kept.Kept.{Kept}
 use Rattle.workbench.specs.declared.kept.Kept.TheVariants.{Watch, Early, Mux, Margins}
 

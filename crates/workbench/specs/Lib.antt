@@ -1,14 +1,6 @@
-pub mod ErrTexts
-pub mod Generator
-pub mod Commands
 pub mod InputFaults
 pub mod Sessions
-pub mod Writing
-pub mod Answers
-pub mod FromSource
-pub mod Saying
 pub mod Stopping
-pub mod MadeWritten
 pub mod Requests
 pub mod Owed
 pub mod Ended
@@ -16,11 +8,5 @@ pub mod Running
 pub mod Keeping
 pub mod Wholes
 pub mod Pushing
-pub mod Answering
-pub mod Reasons
-pub mod Watches
-pub mod Numerals
-pub mod Made
-pub mod EarlyLines
-pub mod Deciding
 pub mod Many
+pub mod Calm

@@ -4,7 +4,7 @@ use Rattle.std.specs.Io.KnownBytes.{Appends}
 use Rattle.session_mux.specs.Taking.{IsTaking}
 use Rattle.session_mux.specs.declared.stop.InputStop.{InputStop}
 use Rattle.session_mux.specs.declared.stop.InputStop.TheVariants as input
-use Rattle.workbench.specs.Writing.{IsPartWritten}
+use Rattle.command_line.specs.Writing.{IsPartWritten}
 use Rattle.workbench.specs.declared.fault.Stop.{Stop}
 use Rattle.workbench.specs.declared.fault.Stop.TheVariants.{Input as FaultyLine, Unwritten, NoMemory}
 use Rattle.workbench.specs.declared.many.Many.{Many}

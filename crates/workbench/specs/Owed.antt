@@ -2,26 +2,14 @@
 use Rattle.std.specs.Prelude.{◌≡◌, ℕ, Bool, true, false, List, []}
 use Rattle.stl_syntax.specs.Formula.{Formula}
 use Rattle.stl_syntax.specs.Trace.{Trace}
-use Rattle.stl_syntax.specs.Kept.{most_cells, IsTooMany}
-use Rattle.report.specs.Report.{Command, explain, json, Out, nodes_for}
+use Rattle.report.specs.Report.{Command, Out}
 pub use Rattle.trace_stream.specs.Streams.{limits_of, StreamText, StreamOf, OwesRows}
-use Rattle.workbench.specs.Answers.{HoldsAtStart}
 use Rattle.workbench.specs.Requests.{Request, no_form, refused, whole, stream, sessions, generated}
 use Rattle.workbench.specs.InputFaults.{Fault, whole_limits, IsInputFault}
 use Rattle.trace_stream.specs.CaseReader.{IsWhole}
 pub use Rattle.session_mux.specs.Inputs.{fault_line, AreLinesBefore, sound, faulted, OwesLines}
-use Rattle.workbench.specs.Generator.{IsSummary}
-
--- the formula fails at the start, and an explanation would have too many cells
-pub record IsUnexplained (f : Formula) (tr : Trace) (count : ℕ) : Type 0 where
-  pub fails : ¬ HoldsAtStart f tr
-  pub many : IsTooMany (nodes_for f tr) tr most_cells count
-
--- so for a command that explains
-abbrev pub HasTooMany : Command → Formula → Trace → ℕ → Type 0
-HasTooMany explain f tr count = IsUnexplained f tr count
-HasTooMany json f tr count = IsUnexplained f tr count
-HasTooMany c f tr count = ⊥
+use Rattle.workload_summary.specs.Generator.{IsSummary}
+pub use Rattle.whole_answers.specs.Judging.{IsUnexplained, HasTooMany}
 
 -- of a command that holds the whole trace: nothing before the end, nothing where the bytes have a fault, and nothing where it would explain too many cells
 pub data OwesAtEnd (c : Command) (f : Formula) (bytes : List ℕ) : Bool → List ℕ → Type 0 where

@@ -15,7 +15,7 @@ use Rattle.workbench.specs.Wholes.{status_of, status_of_truth}
 use Rattle.trace_stream.specs.declared.fault.TraceFault.{TraceFault}
 use Rattle.workbench.specs.declared.fault.Stop.{Stop}
 use Rattle.workbench.specs.declared.fault.Stop.TheVariants.{Fault as Faulty, Input as FaultyLine, Unread, Unwritten, NoMemory, Wide, TooMany}
-use Rattle.workbench.specs.ErrTexts.{out_of_memory, read_fault, write_fault, wide_text, too_many_cells_text}
+use Rattle.command_line.specs.ErrTexts.{out_of_memory, read_fault, write_fault, wide_text, too_many_cells_text}
 
 -- these bytes were pushed, and this text was written: all that is owed for them
 pub record IsPushed (Stands : List ℕ → List ℕ → Type 0) (request : Request) (bytes text : List ℕ) : Type 0 where

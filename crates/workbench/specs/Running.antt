@@ -6,8 +6,8 @@ use Rattle.io_edge.specs.Calls.{Drained, Filled, HasFailed, HasRefused, IsAskedO
 use Rattle.workbench.specs.Requests.{Request, no_form, stream, margins, Asks, AreNone, has_input, is_streamed}
 use Rattle.workbench.specs.Owed.{Owes}
 use Rattle.workbench.specs.Ended.{HasFault, IsWide, EndsWith}
-use Rattle.workbench.specs.ErrTexts.{out_of_memory, read_fault, write_fault}
-use Rattle.workbench.specs.Saying.{IsSaid}
+use Rattle.command_line.specs.ErrTexts.{out_of_memory, read_fault, write_fault}
+use Rattle.command_line.specs.Saying.{IsSaid}
 
 -- the text is owed for the bytes; or, of a stream of margins, it comes before a refusal for a denominator
 abbrev pub IsDue : Request → List ℕ → Bool → List ℕ → Type 0

@@ -5,14 +5,14 @@ ghost use Rattle.io_edge.specs.Calls.{drained, filled};
 ghost use Rattle.report.specs.Report.{check};
 ghost use Rattle.workbench.specs.Wholes.{IsWholeEnd};
 
-use crate::fault::Stop;
-use crate::from_source::read_trace;
+use crate::fault::{Stop, stop_for};
 use crate::top::{LIMITS, write_lines};
 use io_edge::{Sink, Source};
 use report::LineRoom;
 use std::alloc::Global;
 use stl_syntax::Formula;
 use verdict_sets::VerdictSets;
+use whole_answers::read_trace;
 
 /// Reads the whole trace, judges it by the formula, and writes the verdicts: their lines are made while they are written, over a room that
 /// is taken before.
@@ -35,7 +35,7 @@ pub(crate) fn judge<S: Source, K: Sink>(
 {
     let sets = match read_trace::<S, VerdictSets>(input, formula, LIMITS, alloc) {
         Ok(sets) => sets,
-        Err(stop) => return Err(stop),
+        Err(reason) => return Err(stop_for(reason)),
     };
     let Ok(mut room) = LineRoom::new(alloc) else {
         return Err(Stop::NoMemory);

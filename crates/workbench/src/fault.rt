@@ -1,9 +1,11 @@
 //! Why a command stops before its answer.
 ghost use Rattle.std.specs.Prelude.{◌≡◌};
-ghost use Rattle.workbench.specs.Stopping.{stop_of, outcome_of};
+ghost use Rattle.workbench.specs.Stopping.{stop_of, stop_for as stop_of_answer, outcome_of};
 
 use session_mux::LineFault;
 use trace_stream::{StreamStop, TraceFault};
+use whole_answers::NoAnswer;
+use written_streams::Halt;
 
 /// Why there is no answer, or not all of it was written.
 #[derive(Clone, Copy)]
@@ -25,22 +27,36 @@ pub(crate) enum Stop {
 }
 
 /// The reason to stop that a stream's is.
-pub(crate) fn stop_from(stop: StreamStop) -> Stop
-    ensures { result ≡ stop_of stop }
+fn stop_from(halt: Halt) -> Stop
+    ensures { result ≡ stop_of halt }
 {
-    match stop {
-        StreamStop::Fault(fault) => Stop::Fault(fault),
-        StreamStop::NoMemory => Stop::NoMemory,
-        StreamStop::Wide { node, den } => Stop::Wide { node, den },
+    match halt {
+        Halt::Reader(StreamStop::Fault(fault)) => Stop::Fault(fault),
+        Halt::Reader(StreamStop::NoMemory) => Stop::NoMemory,
+        Halt::Reader(StreamStop::Wide { node, den }) => Stop::Wide { node, den },
+        Halt::Unwritten => Stop::Unwritten,
     }
 }
 
 /// What came of bytes, with the reason of the command.
-pub(crate) fn outcome_from<T: Copy>(outcome: Result<T, StreamStop>) -> Result<T, Stop>
+pub(crate) fn outcome_from<T: Copy>(outcome: Result<T, Halt>) -> Result<T, Stop>
     ensures { result ≡ outcome_of outcome }
 {
     match outcome {
         Ok(x) => Ok(x),
-        Err(stop) => Err(stop_from(stop)),
+        Err(halt) => Err(stop_from(halt)),
+    }
+}
+
+/// The reason to stop that one for no answer is.
+pub(crate) fn stop_for(reason: NoAnswer) -> Stop
+    ensures { result ≡ stop_of_answer reason }
+{
+    match reason {
+        NoAnswer::Fault(fault) => Stop::Fault(fault),
+        NoAnswer::Unread => Stop::Unread,
+        NoAnswer::NoMemory => Stop::NoMemory,
+        NoAnswer::Wide { node, den } => Stop::Wide { node, den },
+        NoAnswer::TooMany { count } => Stop::TooMany { count },
     }
 }

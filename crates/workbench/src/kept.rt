@@ -1,8 +1,8 @@
 //! What a run leaves to its caller.
-use crate::watch::Watch;
 use early_verdict::Early;
 use online_robust::RobustNet;
 use session_mux::Mux;
+use written_streams::Watch;
 
 /// What a run that answers row by row, or line by line, leaves to its caller.
 #[derive(Drop)]

@@ -4,12 +4,12 @@ ghost use Rattle.trace_stream.specs.Following.{IsDone};
 ghost use Rattle.workbench.specs.Requests.{stream};
 ghost use Rattle.workbench.specs.Keeping.{Holds};
 
-use crate::early::Deciding;
 use crate::kept::Kept;
-use crate::watch::Watch;
+use early_stream::Deciding;
 use margin_stream::Margins;
 use trace_stream::{Follow, Live};
 use verdict_stream::Verdicts;
+use written_streams::Watch;
 
 /// What follows the rows of a stream, and is left to the caller of a run.
 pub(crate) trait Leave: Follow {
@@ -33,7 +33,7 @@ impl Leave for Verdicts {
 
 impl Leave for Deciding {
     ghost use Rattle.trace_stream.specs.Streams.{early};
-    ghost use Rattle.workbench.specs.Deciding.{IsDeciding};
+    ghost use Rattle.early_stream.specs.Deciding.{IsDeciding};
 
     fn leave(live: Live<Deciding>) -> Kept
         requires { (bytes text : List ℕ) × IsDone (λ x c made. IsDeciding true x c) early live bytes text }

@@ -7,8 +7,8 @@ ghost use Rattle.workbench.specs.Requests.{sessions};
 
 use crate::fault::Stop;
 use crate::kept::Kept;
-use crate::output::write_all;
 use crate::stream::Push;
+use command_line::write_all;
 use frac128::Memory;
 use io_edge::Sink;
 use session_mux::{Input, InputStop};

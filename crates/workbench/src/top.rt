@@ -2,36 +2,31 @@
 ghost use Rattle.std.specs.Prelude.{◌≡◌, ◌≢◌, ◌⊎◌, ◌≤◌, ℕ, List, [], map, string_bytes, MatchResult, length, ◌<◌, true, Err, IfOk, IsErr};
 ghost use Rattle.io_edge.specs.Causes.{Rose, after_end};
 ghost use Rattle.io_edge.specs.Calls.{drained, filled};
-ghost use Rattle.workbench.specs.Saying.{IsSaid};
-ghost use Rattle.stl_grammar.specs.FormulaRefusals.{IsFormulaFault, IsFormulaOf};
+ghost use Rattle.command_line.specs.Saying.{IsSaid};
+ghost use Rattle.stl_grammar.specs.FormulaRefusals.{IsFormulaOf};
 ghost use Rattle.trace_stream.specs.Cases.{IsCase};
 ghost use Rattle.report.specs.Lines.{line_text};
-ghost use Rattle.workbench.specs.Made.{IsMade};
 ghost use Rattle.workbench.specs.Requests.{Request, AreHeld, AskToGenerate, Asks, IsAsked, is_streamed};
-ghost use Rattle.workbench.specs.Commands.{on_formula};
-ghost use Rattle.workbench.specs.Commands as word;
+ghost use Rattle.command_line.specs.Commands.{on_formula, generate as of_workload};
+ghost use Rattle.command_line.specs.Commands as word;
+ghost use Rattle.workbench.specs.Calm.{IsCalm, IsUntouched};
 ghost use Rattle.workbench.specs.Keeping.{HasRun};
 ghost use Rattle.workbench.specs.Pushing.{IsPushed};
-ghost use Rattle.workbench.specs.Wholes.{command_of, IsAnswerOf, IsUnanswered, IsWrittenWith, IsWholeEnd, IsBadEnd, IsEndLine};
-ghost use Rattle.workbench.specs.Wholes.{IsStopLine, HasFaultFor, EndsSoundly, status_of, status_of_stop, status_of_fault};
+ghost use Rattle.command_line.specs.Words.{command_of, verb_of};
+ghost use Rattle.whole_answers.specs.Judging.{IsAnswerOf, IsUnanswered};
+ghost use Rattle.workbench.specs.Wholes.{IsWrittenWith, IsWholeEnd, IsEndLine};
+ghost use Rattle.workbench.specs.Wholes.{IsStopLine, HasFaultFor, EndsSoundly, status_of, status_of_stop};
 
-use crate::answer::Answer;
 use crate::check::judge;
-use crate::early::Deciding;
-use crate::explain::give_reasons;
-use crate::fault::Stop;
-use crate::from_source::read_trace;
-use crate::json::give_report;
+use crate::fault::{Stop, stop_for};
 use crate::kept::Kept;
-use crate::line::write_line;
 use crate::many::Many;
-use crate::output::{write_all, write_left};
-use crate::request::{Command, Mode, Workload, asked, workload_of};
-use crate::robust::measure;
 use crate::stream::{Push, stream};
-use crate::summary::summary;
-use crate::table::tabulate;
-use crate::texts::{NO_MEMORY, formula_line, not_streamed_line, too_many_cells_line, wide_line};
+use command_line::{Command, Mode, asked, refuse, say, workload_of, write_all, write_left};
+use command_line::{no_form_line, no_memory_line, not_streamed_line, read_fault_line};
+use command_line::{too_many_cells_line, wide_line, write_fault_line};
+use early_stream::Deciding;
+use explained_answers::{give_reasons, give_report};
 use frac128::Memory;
 use io_edge::{Sink, Source};
 use margin_stream::Margins;
@@ -39,11 +34,13 @@ use online_robust::first_unstreamed;
 use report::{Line, LineRoom, LinesLeft};
 use session_mux::input_fault_line;
 use std::alloc::Global;
-use stl_grammar::{FormulaFault, parse};
+use stl_grammar::parse;
 use stl_syntax::Formula;
 use trace_reader::Limits;
 use trace_stream::{Case, Live, fault_line};
 use verdict_stream::Verdicts;
+use whole_answers::{Answer, NoAnswer, measure, read_trace, tabulate};
+use workload_summary::generate;
 
 /// The limits of a trace that is held whole.
 pub(crate) const LIMITS: Limits = Limits {
@@ -56,13 +53,6 @@ const STREAM_LIMITS: Limits = Limits {
     rows: 4_294_967_296,
     lines: 8_589_934_592,
 };
-
-/// The line where the words are of no form.
-const USAGE: &[u8] =
-    b"usage: check F | watch F | robust F | explain F | json F | table F | gen NUMBER ROWS | early F | mux F | rwatch F\n";
-
-/// The line where the output failed.
-const WRITE_FAULT: &[u8] = b"write fault\n";
 
 /// Writes the answer.
 pub(crate) fn write_answer<K: Sink>(out: &mut K, answer: &Answer) -> Result<bool, Stop>
@@ -97,7 +87,12 @@ pub(crate) fn write_lines<L: LinesLeft, K: Sink>(
 }
 
 /// The answer of a command that holds the trace, which has a row, or why there is none.
-fn answer(alloc: Global, command: Command, formula: &Formula, case: &Case) -> Result<Answer, Stop>
+fn answer(
+    alloc: Global,
+    command: Command,
+    formula: &Formula,
+    case: &Case,
+) -> Result<Answer, NoAnswer>
     requires holds { command ≢ Command.Check }
     requires case { IsCase formula.now case.now }
     requires some { 0 < length case.now.trace.rows }
@@ -138,42 +133,12 @@ fn whole<S: Source, K: Sink>(
     }
     let case = match read_trace::<S, Case>(input, formula, LIMITS, alloc) {
         Ok(case) => case,
-        Err(stop) => return Err(stop),
+        Err(reason) => return Err(stop_for(reason)),
     };
     match answer(alloc, command, formula, &case) {
         Ok(answer) => write_answer(out, &answer),
-        Err(stop) => Err(stop),
+        Err(reason) => Err(stop_for(reason)),
     }
-}
-
-/// Writes a line until the error stream fails.
-fn say<E: Sink>(err: &mut E, line: &Line<'_>)
-    ensures said { IsSaid (E.written err.old) (E.written err.new) (E.faults err.old) (E.faults err.new) (line_text line.now) }
-    ensures later { E.faults err.old ≤ E.faults err.new }
-{
-    let _ = write_line(err, line);
-}
-
-/// The status of a refusal of the formula.
-fn formula_status(fault: FormulaFault) -> u8
-    ensures status { result ≡ status_of_fault fault }
-    ensures few { (result ≡ 3) ⊎ (result ≡ 7) }
-{
-    match fault {
-        FormulaFault::Memory => 7,
-        _ => 3,
-    }
-}
-
-/// The status of a text that gives no formula; the reason is said.
-fn refuse<E: Sink>(err: &mut E, fault: FormulaFault) -> u8
-    ensures ended { (text : List ℕ) → (fault ≡ FormulaFault.Memory) ⊎ IsFormulaFault text fault
-        → (line : List ℕ) × IsBadEnd text result line × IsSaid (E.written err.old) (E.written err.new) (E.faults err.old) (E.faults err.new) line }
-    ensures few { (result ≡ 3) ⊎ (result ≡ 7) }
-    ensures later { E.faults err.old ≤ E.faults err.new }
-{
-    say(err, &formula_line(fault));
-    formula_status(fault)
 }
 
 /// The line of a reason to stop.
@@ -184,9 +149,9 @@ fn stop_line(formula: &Formula, stop: Stop) -> Line<'_>
     match stop {
         Stop::Fault(fault) => fault_line(formula, fault),
         Stop::Input(fault) => input_fault_line(fault),
-        Stop::Unread => Line::plain(b"read fault\n"),
-        Stop::Unwritten => Line::plain(WRITE_FAULT),
-        Stop::NoMemory => Line::plain(NO_MEMORY),
+        Stop::Unread => read_fault_line(),
+        Stop::Unwritten => write_fault_line(),
+        Stop::NoMemory => no_memory_line(),
         Stop::Wide { node, den } => wide_line(node, den),
         Stop::TooMany { count } => too_many_cells_line(count),
     }
@@ -238,18 +203,14 @@ fn streamed<P: Push, S: Source, K: Sink, E: Sink>(
         → HasRun words (drained S.left S.ended S.ends S.gave S.asked S.faults input.old input.new)
         (filled K.written K.faults out.old out.new) (filled E.written E.faults err.old err.new) kept.old kept.new result }
     ensures known { ¬ ((result ≡ 2) ⊎ (result ≡ 3)) }
-    ensures read_due { result ≢ 5 → S.faults input.new ≡ S.faults input.old }
-    ensures write_due { result ≢ 6 → K.faults out.new ≡ K.faults out.old }
-    ensures quiet { result ≤ 1 → err.new ≡ err.old }
     ensures unkept { 2 ≤ result → kept.new ≡ kept.old }
-    ensures input_later { S.faults input.old ≤ S.faults input.new }
-    ensures out_later { K.faults out.old ≤ K.faults out.new }
-    ensures err_later { E.faults err.old ≤ E.faults err.new }
+    ensures calm { IsCalm (drained S.left S.ended S.ends S.gave S.asked S.faults input.old input.new) (filled K.written K.faults out.old out.new)
+        (filled E.written E.faults err.old err.new) (err.new ≡ err.old) result }
 {
     let mut pusher = match begun {
         Ok(pusher) => pusher,
         Err(_) => {
-            say(err, &Line::plain(NO_MEMORY));
+            say(err, &no_memory_line());
             return 7;
         }
     };
@@ -260,31 +221,6 @@ fn streamed<P: Push, S: Source, K: Sink, E: Sink>(
     }
     *kept = pusher.into_kept();
     status
-}
-
-/// Writes the summary of a generated trace; the reason why it could not is said.
-fn generate<K: Sink, E: Sink>(alloc: Global, workload: Workload, out: &mut K, err: &mut E) -> u8
-    requires some { 1 ≤ workload.rows }
-    requires few { workload.rows ≤ 200000 }
-    ensures made { (line : List ℕ) × IsMade workload.number workload.rows (filled K.written K.faults out.old out.new) result line
-        × IsSaid (E.written err.old) (E.written err.new) (E.faults err.old) (E.faults err.new) line }
-    ensures write_due { result ≢ 6 → K.faults out.new ≡ K.faults out.old }
-    ensures nothing { 2 ≤ result → result ≢ 6 → out.new ≡ out.old }
-    ensures quiet { result ≤ 1 → err.new ≡ err.old }
-    ensures out_later { K.faults out.old ≤ K.faults out.new }
-    ensures err_later { E.faults err.old ≤ E.faults err.new }
-{
-    let Ok(text) = summary(alloc, workload.number, workload.rows) else {
-        say(err, &Line::plain(NO_MEMORY));
-        return 7;
-    };
-    match write_all(out, text.bytes()) {
-        Ok(()) => 0,
-        Err(_) => {
-            say(err, &Line::plain(WRITE_FAULT));
-            6
-        }
-    }
 }
 
 /// Writes the margins as the rows come, where they are streamed.
@@ -299,16 +235,11 @@ fn margins_of_rows<S: Source, K: Sink, E: Sink>(
     ensures ran { (words : List (List ℕ)) (text : List ℕ) → IsAsked words (on_formula word.rwatch text) → IsFormulaOf text formula
         → HasRun words (drained S.left S.ended S.ends S.gave S.asked S.faults input.old input.new)
         (filled K.written K.faults out.old out.new) (filled E.written E.faults err.old err.new) kept.old kept.new result }
-    ensures known { result ≢ 2 }
-    ensures unread { result ≡ 3 → input.new ≡ input.old }
-    ensures nothing { result ≡ 3 → out.new ≡ out.old }
-    ensures read_due { result ≢ 5 → S.faults input.new ≡ S.faults input.old }
-    ensures write_due { result ≢ 6 → K.faults out.new ≡ K.faults out.old }
-    ensures quiet { result ≤ 1 → err.new ≡ err.old }
-    ensures unkept { 2 ≤ result → kept.new ≡ kept.old }
-    ensures input_later { S.faults input.old ≤ S.faults input.new }
-    ensures out_later { K.faults out.old ≤ K.faults out.new }
-    ensures err_later { E.faults err.old ≤ E.faults err.new }
+    ensures untouched { (words : List (List ℕ)) (text : List ℕ) → IsAsked words (on_formula word.rwatch text)
+        → ((number rows : ℕ) → ¬ IsAsked words (of_workload number rows))
+        → IsUntouched words (input.new ≡ input.old) (out.new ≡ out.old) (kept.new ≡ kept.old) result }
+    ensures calm { IsCalm (drained S.left S.ended S.ends S.gave S.asked S.faults input.old input.new) (filled K.written K.faults out.old out.new)
+        (filled E.written E.faults err.old err.new) (err.new ≡ err.old) result }
 {
     if let Some(node) = first_unstreamed(&formula) {
         say(err, &not_streamed_line(node));
@@ -316,6 +247,71 @@ fn margins_of_rows<S: Source, K: Sink, E: Sink>(
     }
     let live = Live::<Margins>::new(alloc, formula, STREAM_LIMITS);
     streamed(live, input, out, err, kept)
+}
+
+/// Answers by a formula, in the way that was asked for.
+fn by_mode<S: Source, K: Sink, E: Sink>(
+    alloc: Global,
+    mode: Mode,
+    formula: Formula,
+    input: &mut S,
+    out: &mut K,
+    err: &mut E,
+    kept: &mut Kept,
+) -> u8
+    ensures ran { (words : List (List ℕ)) (text : List ℕ) → IsAsked words (on_formula (verb_of mode) text) → IsFormulaOf text formula
+        → HasRun words (drained S.left S.ended S.ends S.gave S.asked S.faults input.old input.new)
+        (filled K.written K.faults out.old out.new) (filled E.written E.faults err.old err.new) kept.old kept.new result }
+    ensures untouched { (words : List (List ℕ)) (text : List ℕ) → IsAsked words (on_formula (verb_of mode) text)
+        → ((number rows : ℕ) → ¬ IsAsked words (of_workload number rows))
+        → IsUntouched words (input.new ≡ input.old) (out.new ≡ out.old) (kept.new ≡ kept.old) result }
+    ensures calm { IsCalm (drained S.left S.ended S.ends S.gave S.asked S.faults input.old input.new) (filled K.written K.faults out.old out.new)
+        (filled E.written E.faults err.old err.new) (err.new ≡ err.old) result }
+{
+    match mode {
+        Mode::Whole(command) => {
+            let ending = whole(alloc, command, &formula, input, out);
+            finish(err, &formula, ending)
+        }
+        Mode::Watch => {
+            let live = Live::<Verdicts>::new(alloc, formula, STREAM_LIMITS);
+            streamed(live, input, out, err, kept)
+        }
+        Mode::Early => {
+            let live = Live::<Deciding>::new(alloc, formula, LIMITS);
+            streamed(live, input, out, err, kept)
+        }
+        Mode::Mux => streamed(Many::new(alloc, formula), input, out, err, kept),
+        Mode::Margins => margins_of_rows(alloc, formula, input, out, err, kept),
+    }
+}
+
+/// Does what the words ask for, or tells why there is nothing to be done.
+fn by_words<S: Source, K: Sink, E: Sink>(
+    alloc: Global,
+    words: &[String],
+    input: &mut S,
+    out: &mut K,
+    err: &mut E,
+    kept: &mut Kept,
+) -> u8
+    ensures ran { HasRun (map string_bytes words.now) (drained S.left S.ended S.ends S.gave S.asked S.faults input.old input.new)
+        (filled K.written K.faults out.old out.new) (filled E.written E.faults err.old err.new) kept.old kept.new result }
+    ensures untouched { IsUntouched (map string_bytes words.now) (input.new ≡ input.old) (out.new ≡ out.old) (kept.new ≡ kept.old) result }
+    ensures calm { IsCalm (drained S.left S.ended S.ends S.gave S.asked S.faults input.old input.new) (filled K.written K.faults out.old out.new)
+        (filled E.written E.faults err.old err.new) (err.new ≡ err.old) result }
+{
+    if let Some(workload) = workload_of(words) {
+        return generate(alloc, workload, out, err);
+    }
+    let Some(asked) = asked(words) else {
+        say(err, &no_form_line());
+        return 2;
+    };
+    match parse(alloc, asked.text) {
+        Ok(formula) => by_mode(alloc, asked.mode, formula, input, out, err, kept),
+        Err(fault) => refuse(err, fault),
+    }
 }
 
 /// Does all that the program does for its words, and answers the status with which it ends.
@@ -363,30 +359,5 @@ pub fn run<S: Source, K: Sink, E: Sink>(
     ensures out_later { K.faults out.old ≤ K.faults out.new }
     ensures err_later { E.faults err.old ≤ E.faults err.new }
 {
-    if let Some(workload) = workload_of(words) {
-        return generate(alloc, workload, out, err);
-    }
-    let Some(asked) = asked(words) else {
-        say(err, &Line::plain(USAGE));
-        return 2;
-    };
-    match parse(alloc, asked.text) {
-        Ok(formula) => match asked.mode {
-            Mode::Whole(command) => {
-                let ending = whole(alloc, command, &formula, input, out);
-                finish(err, &formula, ending)
-            }
-            Mode::Watch => {
-                let live = Live::<Verdicts>::new(alloc, formula, STREAM_LIMITS);
-                streamed(live, input, out, err, kept)
-            }
-            Mode::Early => {
-                let live = Live::<Deciding>::new(alloc, formula, LIMITS);
-                streamed(live, input, out, err, kept)
-            }
-            Mode::Mux => streamed(Many::new(alloc, formula), input, out, err, kept),
-            Mode::Margins => margins_of_rows(alloc, formula, input, out, err, kept),
-        },
-        Err(fault) => refuse(err, fault),
-    }
+    by_words(alloc, words, input, out, err, kept)
 }

@@ -1,4 +1,2 @@
 pub mod Generated
 pub mod Judged
-pub mod Counting
-pub mod Passing

@@ -1,11 +1,26 @@
-use Rattle.std.proofs.Common.{refl}
+use Rattle.std.proofs.Common.{◌∙◌, ap, refl, sym, Err}
 use Rattle.workbench.specs.Wholes.{answered, unanswered, stopped}
-use Rattle.workbench.specs.declared.fault.Stop.TheVariants.{NoMemory}
-use Rattle.workbench.proofs.RunEnds.{check_answer, not_unread, only_unwritten}
+use Rattle.whole_answers.specs.declared.no_answer.NoAnswer.TheVariants.{NoMemory}
+use Rattle.workbench.proofs.RunEnds.{check_answer, not_unread, only_unwritten, unread_as, starved_as, never_unwritten}
 use Rattle.workbench.proofs.check.judge.Goals as goal
 
 pub returns-in-Err-clause-ending : goal.returns-in-Err-clause-ending
-returns-in-Err-clause-ending g c = stopped c.in-Err.stop c.in-Err.ensures.read refl
+returns-in-Err-clause-ending g c = rw (c.stop_for.ensures) (stopped c.in-Err.reason c.in-Err.ensures.read refl)
+
+pub returns-in-Err-clause-read : goal.returns-in-Err-clause-read
+returns-in-Err-clause-read g c = λ e.
+    c.in-Err.ensures.unread (ap Err ((unread_as c.in-Err.reason c.stop_for.result c.stop_for.ensures).0 (let k = e in cc)))
+
+pub returns-in-Err-clause-write : goal.returns-in-Err-clause-write
+returns-in-Err-clause-write g c = λ e. absurd (never_unwritten c.in-Err.reason (sym c.stop_for.ensures ∙ (let k = e in cc)))
+
+pub returns-in-Err-clause-read_due : goal.returns-in-Err-clause-read_due
+returns-in-Err-clause-read_due g c = λ other.
+    c.in-Err.ensures.still (λ e. other (ap Err ((unread_as c.in-Err.reason c.stop_for.result c.stop_for.ensures).1 (let k = e in cc))))
+
+pub returns-in-Err-clause-ends : goal.returns-in-Err-clause-ends
+returns-in-Err-clause-ends g c = λ other.
+    c.in-Err.ensures.ends (λ e. other (ap Err (starved_as c.in-Err.reason c.stop_for.result c.stop_for.ensures (let k = e in cc))))
 
 pub returns-in_default-clause-ending : goal.returns-in_default-clause-ending
 returns-in_default-clause-ending g c =

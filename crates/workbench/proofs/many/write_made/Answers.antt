@@ -1,7 +1,7 @@
 use Rattle.std.proofs.Common.{subst, sym, ◌∙◌}
 use Rattle.std.specs.Io.KnownBytes.{Appends}
 use Rattle.workbench.specs.Many.{IsInputWritten, made_whole, made_in_part}
-use Rattle.workbench.specs.Writing.{IsPartWritten}
+use Rattle.command_line.specs.Writing.{IsPartWritten}
 use Rattle.workbench.proofs.ManyLines.{starved_made, not_unwritten}
 use Rattle.workbench.proofs.many.write_made.Goals as goal
 

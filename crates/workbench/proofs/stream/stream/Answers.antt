@@ -3,7 +3,7 @@ use Rattle.std.proofs.lemmas.Result.{err_from_is_err_and}
 use Rattle.io_edge.specs.Causes.{Rose, after_end}
 use Rattle.std.proofs.lemmas.Bool.{false≢true}
 use Rattle.std.proofs.lemmas.List.{length-take-le}
-use Rattle.workbench.proofs.Progress.{not_true, unended, none_taken, some_taken, short_taken}
+use Rattle.whole_answers.proofs.Progress.{not_true, unended, none_taken, some_taken, short_taken}
 use Rattle.workbench.proofs.StreamSteps.{asks_few, pushed_so_far, end_unread, end_from, stop_from, piece_from}
 use Rattle.workbench.proofs.stream.stream.Goals as goal
 

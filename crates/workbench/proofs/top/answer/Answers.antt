@@ -1,6 +1,7 @@
 use Rattle.std.proofs.Common.{subst, sym}
 use Rattle.std.specs.Prelude.{MatchResult}
-use Rattle.workbench.specs.Wholes.{command_of, IsAnswerOf, IsUnanswered}
+use Rattle.command_line.specs.Words.{command_of}
+use Rattle.whole_answers.specs.Judging.{IsAnswerOf, IsUnanswered}
 use Rattle.workbench.proofs.top.answer.Goals as goal
 
 pub unreachable-requires : goal.unreachable-requires

@@ -1,8 +1,10 @@
-use Rattle.std.proofs.Common.{false, refl}
+use Rattle.std.proofs.Common.{false, refl, arith}
+use Rattle.command_line.specs.Commands as word
 use Rattle.trace_stream.specs.Streams.{margins}
 use Rattle.margin_stream.specs.Margining.{IsMargined}
 use Rattle.workbench.specs.Requests.{stream}
 use Rattle.workbench.proofs.AtRest.{live_begun, live_asked}
+use Rattle.workbench.proofs.Calmness.{of_stream}
 use Rattle.workbench.proofs.Leaving.{unserved_left}
 use Rattle.workbench.proofs.top.margins_of_rows.Goals as goal
 
@@ -22,3 +24,22 @@ returns-clause-ran g c = λ words text form is.
     c.streamed.ensures.ran words (stream margins c.args.formula)
     (record { text = text; form = form; is = is; served = λ i first. c.in_default.ensures i first.node first.at first.is }) refl
     (live_asked margins c.args.formula c.new-live.result c.new-live.ensures.formula)
+
+pub returns-in-Some-clause-untouched : goal.returns-in-Some-clause-untouched
+returns-in-Some-clause-untouched g c = λ words text form none. record { unread = λ _. refl; nothing = λ _ _ _. refl; unkept = λ _. refl }
+
+pub returns-in-Some-clause-calm : goal.returns-in-Some-clause-calm
+returns-in-Some-clause-calm g c = record {
+  read_due = λ _. refl;
+  write_due = λ _. refl;
+  quiet = λ s. absurd (omega (arith, s));
+  input_later = omega arith;
+  out_later = omega arith;
+  err_later = c.say.ensures.later;
+}
+
+pub returns-clause-untouched : goal.returns-clause-untouched
+returns-clause-untouched g c = λ words text form none. of_stream none word.rwatch text form refl c.streamed.ensures.known c.streamed.ensures.unkept
+
+pub returns-clause-calm : goal.returns-clause-calm
+returns-clause-calm g c = c.streamed.ensures.calm

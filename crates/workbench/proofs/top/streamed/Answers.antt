@@ -1,15 +1,16 @@
-use Rattle.std.proofs.Common.{◌≡◌, [], refl, sym, subst, ◌∙◌}
+use Rattle.std.proofs.Common.{◌≡◌, [], refl, sym, subst, ◌∙◌, arith}
 use Rattle.report.specs.Lines.{line_text}
 use Rattle.workbench.specs.Requests.{Request, Asks}
 use Rattle.workbench.specs.Keeping.{Holds}
 use Rattle.workbench.specs.Pushing.{IsPushed, IsStreamedFor}
+use Rattle.workbench.proofs.Calmness.{calm_ending}
 use Rattle.workbench.proofs.Leaving.{asks_some, starved_left, stopped_left, kept_left, of_answer, of_value}
 use Rattle.workbench.proofs.StreamSteps.{soundly, streamed_run}
 use Rattle.workbench.proofs.top.streamed.Goals as goal
 
 pub returns-in-Err-clause-ran : goal.returns-in-Err-clause-ran
 returns-in-Err-clause-ran g c = λ words q ask is same.
-    starved_left _ _ _ _ _ (line_text c.plain.result) (asks_some words q ask is) c.plain.ensures refl refl c.say.ensures.said refl
+    starved_left _ _ _ _ _ (line_text c.no_memory_line.result) (asks_some words q ask is) c.no_memory_line.ensures refl refl c.say.ensures.said refl
 
 pub stream-ending-requires : goal.stream-ending-requires
 stream-ending-requires g c = of_value (λ p. IsPushed (g.P.Push.stands p) (g.P.Push.request p) [] []) c.args.begun c.in-Ok.pusher c.in-Ok.is c.requires
@@ -48,3 +49,23 @@ returns-clause-ran g c = λ words q ask is same.
     (kept_left words (g.P.Push.request c.in-Ok.pusher) c.formula.result.now y.bytes c.stream-ending.result c.args.kept.now c.into_kept.result own of ended
     (subst (λ (q : Request). Holds q y.bytes c.into_kept.result) c.stream-ending.ensures.same
     (c.into_kept.ensures y.bytes y.text (of_answer c.stream-ending.result ended y.left))))
+
+pub returns-in-Err-clause-calm : goal.returns-in-Err-clause-calm
+returns-in-Err-clause-calm g c = record {
+  read_due = λ _. refl;
+  write_due = λ _. refl;
+  quiet = λ s. absurd (omega (arith, s));
+  input_later = omega arith;
+  out_later = omega arith;
+  err_later = c.say.ensures.later;
+}
+
+pub returns-then-is_err-clause-calm : goal.returns-then-is_err-clause-calm
+returns-then-is_err-clause-calm g c =
+    calm_ending c.stream-ending.result c.finish-status.ensures.status c.stream-ending.ensures.read_due c.stream-ending.ensures.write_due
+    c.finish-status.ensures.quiet c.stream-ending.ensures.input_later c.stream-ending.ensures.out_later c.finish-status.ensures.later
+
+pub returns-clause-calm : goal.returns-clause-calm
+returns-clause-calm g c =
+    calm_ending c.stream-ending.result c.finish-status.ensures.status c.stream-ending.ensures.read_due c.stream-ending.ensures.write_due
+    c.finish-status.ensures.quiet c.stream-ending.ensures.input_later c.stream-ending.ensures.out_later c.finish-status.ensures.later

@@ -2,7 +2,7 @@ use Rattle.std.proofs.Common.{sym, ap, subst, ◌∙◌}
 use Rattle.std.proofs.lemmas.Option.{same_Some}
 use Rattle.early_verdict.specs.Deciding.{Kept as Early}
 use Rattle.workbench.specs.Keeping.{IsEarlyOf}
-use Rattle.workbench.specs.declared.early.Deciding.{Deciding}
+use Rattle.early_stream.specs.declared.deciding.Deciding.{Deciding}
 use Rattle.workbench.proofs.Leaving.{early_over}
 use Rattle.workbench.proofs.leave.DecidingLeave.leave.Goals as goal
 

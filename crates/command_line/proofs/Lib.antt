@@ -1,0 +1,5 @@
+mod Devices
+mod LineTexts
+pub mod NumberWords
+pub mod AskedWords
+mod RefusedEnds

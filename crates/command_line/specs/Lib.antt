@@ -1,0 +1,6 @@
+pub mod ErrTexts
+pub mod Commands
+pub mod Numerals
+pub mod Writing
+pub mod Saying
+pub mod Words

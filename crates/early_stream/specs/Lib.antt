@@ -1,0 +1,2 @@
+pub mod EarlyLines
+pub mod Deciding

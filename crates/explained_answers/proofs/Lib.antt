@@ -1,0 +1,3 @@
+mod Refuting
+mod Reasoned
+mod Reported

@@ -1,0 +1,4 @@
+pub mod FromSource
+pub mod Answering
+pub mod Stopping
+pub mod Judging

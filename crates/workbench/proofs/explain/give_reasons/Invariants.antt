@@ -1,4 +1,0 @@
-use Rattle.workbench.proofs.explain.give_reasons.Given as goal
-
-abbrev pub ghosts-reasons : goal.ghosts-reasons
-ghosts-reasons a = record { name = a.blank.name; parts = a.blank.parts }

@@ -1,6 +1,0 @@
-use Rattle.std.proofs.Common.{◌≤◌}
-use Rattle.workbench.proofs.NumberWords.{IsReadTo}
-use Rattle.workbench.proofs.request.numeral.Given as goal
-
-abbrev pub invariant-loop-i : goal.invariant-loop-i
-invariant-loop-i l = IsReadTo l.bytes l.i l.value × (l.value ≤ l.most)

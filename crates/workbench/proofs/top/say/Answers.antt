@@ -1,6 +1,0 @@
-use Rattle.report.specs.Lines.{line_text}
-use Rattle.workbench.proofs.Endings.{said}
-use Rattle.workbench.proofs.top.say.Goals as goal
-
-pub returns-clause-said : goal.returns-clause-said
-returns-clause-said g c = said _ _ _ _ c.write_line.result (line_text c.args.line.now) c.write_line.ensures.written c.write_line.ensures.cause

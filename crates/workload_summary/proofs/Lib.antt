@@ -1,0 +1,4 @@
+mod Fitting
+mod LineCounts
+mod WholeBytes
+mod Summaries

@@ -1,0 +1,4 @@
+pub mod Counting
+pub mod Counts
+pub mod Generator
+pub mod Made

@@ -1,0 +1,2 @@
+pub mod MadeWritten
+pub mod Watches
