@@ -96,11 +96,7 @@ impl<P: Shape> Window<P> {
     ///
     /// `Memory` where a crossing of two shapes that count, or a value that counts, needs a denominator of 2^60 or more: the pair is then in
     /// `fault`; and where memory is wanting. The window is of no use then.
-    pub fn meet(
-        &mut self,
-        piece: &Piece<P>,
-        fault: &mut Option<WidePair<P>>,
-    ) -> Result<(), Memory>
+    pub fn meet(&mut self, piece: &Piece<P>, fault: &mut Option<WidePair<P>>) -> Result<(), Memory>
         requires next { (s : Chain P) × StandsFor P.Shape s self.old × IsNext P.Shape s (place self.old.met) piece.now }
         requires none { fault.old ≡ None }
         ensures stands { (s : Chain P) → StandsFor P.Shape s self.old → IsNext P.Shape s (place self.old.met) piece.now

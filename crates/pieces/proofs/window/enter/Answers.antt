@@ -87,11 +87,11 @@ returns-clause-met g c chain known =
       begins = known.begins;
       ends = known.ends;
       stands = keeps_told g.P.Shape laws chain way known.can.normal met met met c.of_none.result old new st told met upto_end
-    (tells_more g.P.Shape laws chain way known.can.normal met met met c.of_none.result old new st told met
-    (λ t a u. c.in-Some.ensures.some.before t (upto_next t u))
-    (λ t v a u b. best_with_none g.P.Shape laws chain way known.can.normal met met c.of_none.result old st (at_most_itself met)
-    c.of_none.ensures.value t v (upto_end t u) b))
-    (inr (λ t u. c.in-Some.ensures.some.before t (upto_next t u)));
+          (tells_more g.P.Shape laws chain way known.can.normal met met met c.of_none.result old new st told met
+          (λ t a u. c.in-Some.ensures.some.before t (upto_next t u))
+          (λ t v a u b. best_with_none g.P.Shape laws chain way known.can.normal met met c.of_none.result old st (at_most_itself met)
+          c.of_none.ensures.value t v (upto_end t u) b))
+          (inr (λ t u. c.in-Some.ensures.some.before t (upto_next t u)));
       plays = plays_told g.P.Shape chain way.over way.side old new known.plays c.of_none.result
           (λ m. absurd (false≢true (sym c.of_none.ensures.still ∙ m))) told;
     }) c.tell.ensures.told c.tell.ensures.ends

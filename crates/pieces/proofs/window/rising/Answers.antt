@@ -78,10 +78,12 @@ tell-requires-clause-steps g c =
 pub hold-requires-2-clause-met : goal.hold-requires-2-clause-met
 hold-requires-2-clause-met g c =
     let (chain, known) = c.requires.met in
-    let laws : ShapeLaws g.P.Shape = assumption g.met.P.Shape in
-    (chain, holds_moved laws c.requires.trend known c.at_high-gap.result c.tell.new.self (place c.in-Some.next) c.at_high-gap.ensures.value
-    (λ m. let b = c.at_high-gap.ensures.base m in (c.args.piece.now.shape, known.piece.has, b.0, inl b.1)) c.in-Some.ensures.some c.in_ok-tell.ensures.told
-    c.in_ok-tell.ensures.ends)
+    let laws : ShapeLaws g.P.Shape = assumption g.met.P.Shape in (
+      chain,
+      holds_moved laws c.requires.trend known c.at_high-gap.result c.tell.new.self (place c.in-Some.next) c.at_high-gap.ensures.value
+          (λ m. let b = c.at_high-gap.ensures.base m in (c.args.piece.now.shape, known.piece.has, b.0, inl b.1)) c.in-Some.ensures.some c.in_ok-tell.ensures.told
+          c.in_ok-tell.ensures.ends,
+    )
 
 pub returns-clause-met : goal.returns-clause-met
 returns-clause-met g c chain known =
