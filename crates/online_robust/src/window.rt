@@ -31,7 +31,7 @@ use crate::queue::Queue;
 use crate::room::Room;
 use envelope::{Best, of_none, write};
 use frac128::{Frac, Memory};
-use pl_signal::{Builder, OpFault, Side, Signal, WidePair, chosen, chosen_in_place, earlier};
+use pl_signal::{Builder, OpFault, Side, Signal, WidePair, chosen_in_place, earlier};
 use std::alloc::Global;
 use std::cmp::Ordering;
 use value_laws::{Margin, Shape};
@@ -137,13 +137,13 @@ pub(crate) fn frozen(
     ensures still { OnOk result (fault.new ≡ None) }
     ensures fault { OnErr result (IsUnfixed before.now point.now after.now u.now (told_by fault.new)) }
 {
-    let first = chosen(side, before, point, u);
-    let best = chosen(side, &first, after, u);
+    let first = chosen_in_place(side, before, point, u);
+    let best = chosen_in_place(side, first, after, u);
     match best.fix(u) {
         Ok(constant) => Ok(constant),
         Err(refused) => {
             *fault = Some(WidePair::Value {
-                p: best,
+                p: *best,
                 at: *u,
                 den: refused.den,
             });

@@ -26,9 +26,10 @@ pub(crate) fn drop_smaller<P: Shape, L: Ledger>(
     ensures fewer { length queue.new.items ≤ length queue.old.items }
     ensures cost { steps.new + length queue.new.items ≤ steps.old + length queue.old.items + 1 }
 {
+    let item = &items[place];
     let mut passed = 0;
     while let Some(&before) = queue.back() {
-        match items[place - passed - 1].cmp(&items[place], steps) {
+        match items[place - passed - 1].cmp(item, steps) {
             Ordering::Less => {
                 let _ = queue.pop_back();
                 passed += before + 1;
@@ -47,13 +48,14 @@ pub(crate) fn drop_earlier(queue: &mut VecDeque<usize>, count: usize)
 {
     let mut left = count;
     while left > 0 {
-        let Some(passed) = queue.pop_front() else {
+        let Some(&passed) = queue.front() else {
             return;
         };
         if left <= passed {
-            queue.push_front_reserved(passed - left);
+            queue[0] = passed - left;
             return;
         }
+        let _ = queue.pop_front();
         left -= passed + 1;
     }
 }

@@ -44,10 +44,10 @@ loop-before-preserved g c =
     let u : slice_get c.args.items.now.items (c.args.place - c.loop-before.passed - 1) ≡ Some c.index.result.now =
     slice_get_read c.args.items.now.items (length c.args.items.now.items) (c.args.place - c.loop-before.passed - 1) c.index.result.now
     (search rules) (search rules) (search rules) in
-    let v : slice_get c.args.items.now.items c.args.place ≡ Some c.index-in-Some.result.now =
-    slice_get_read c.args.items.now.items (length c.args.items.now.items) c.args.place c.index-in-Some.result.now
+    let v : slice_get c.args.items.now.items c.args.place ≡ Some c.index-item.result.now =
+    slice_get_read c.args.items.now.items (length c.args.items.now.items) c.args.place c.index-item.result.now
     (search rules) (search rules) (search rules) in
-    let le : IsAtMost g.P.Shape.function c.index.result.now c.index-in-Some.result.now = le_of_ltᵉ _ _ c.in-Less.ensures.order in
+    let le : IsAtMost g.P.Shape.function c.index.result.now c.index-item.result.now = le_of_ltᵉ _ _ c.in-Less.ensures.order in
     let gone : c.pop_back.new.self.items ≡ rest = c.pop_back.ensures.rest in
     let nearer : c.args.place - c.loop-before.passed - suc c.in-Some.before ≡ c.args.place - (c.loop-before.passed + (c.in-Some.field-0.now + 1)) =
     omega (arith, is) in (
@@ -77,10 +77,10 @@ returns-in_default-cmp g c =
     let u : slice_get c.args.items.now.items (c.args.place - c.loop-before.passed - 1) ≡ Some c.index.result.now =
     slice_get_read c.args.items.now.items (length c.args.items.now.items) (c.args.place - c.loop-before.passed - 1) c.index.result.now
     (search rules) (search rules) (search rules) in
-    let v : slice_get c.args.items.now.items c.args.place ≡ Some c.index-in-Some.result.now =
-    slice_get_read c.args.items.now.items (length c.args.items.now.items) c.args.place c.index-in-Some.result.now
+    let v : slice_get c.args.items.now.items c.args.place ≡ Some c.index-item.result.now =
+    slice_get_read c.args.items.now.items (length c.args.items.now.items) c.args.place c.index-item.result.now
     (search rules) (search rules) (search rules) in
-    let le : IsAtMost g.P.Shape.function c.index-in-Some.result.now c.index.result.now =
+    let le : IsAtMost g.P.Shape.function c.index-item.result.now c.index.result.now =
     at_most_where_not_less _ _ _ c.cmp.ensures.order c.in_default-cmp.not-Less in
     record {
       stairs = λ low h.
