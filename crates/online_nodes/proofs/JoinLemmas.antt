@@ -19,7 +19,7 @@ use Rattle.frac128.specs.declared.cut.Cut.{Cut}
 use Rattle.online_nodes.specs.declared.join.Join.{Join}
 use Rattle.online_nodes.specs.declared.join.Inputs.{Inputs}
 use Rattle.online_nodes.specs.declared.writer.Out.{Out}
-use Rattle.rational.proofs.PlaceLemmas.{same_places, upto_same, after_at_most, not_before_itself}
+use Rattle.rational.proofs.PlaceLemmas.{same_places, upto_same, after_at_most}
 use Rattle.online_nodes.proofs.GotLemmas.{got-other}
 use Rattle.online_nodes.proofs.SaidLemmas.{passed-fresh, passed-one}
 use Rattle.online_nodes.proofs.WorkLemmas.{passed-other, first_and_rest, worked_none, worked_pass, worked_put, worked_both}
@@ -346,16 +346,6 @@ said_of_both first_left first_right own left_apart right_apart apart said reache
 -- places by another name
 pub at_most_named : (c : Place) {d : Place} {named : Place} → AtMost c d → d ≡ named → AtMost c named
 at_most_named c {d} {named} at_most is t h = subst (λ (q : Place). Upto q t) is (at_most t h)
-
--- a place under another name keeps its order
-pub named_at_most : {c : Place} (d : Place) {named : Place} → c ≡ named → AtMost c d → AtMost named d
-named_at_most {c} d {named} is at_most t h = at_most t (subst (λ (q : Place). Upto q t) (sym is) h)
-
--- where the earlier of two ends comes before the one, it is the other
-pub other_end : (both v_end w_end : Cut) → (both ≡ v_end) ⊎ (both ≡ w_end) → Before (place both) (place v_end)
-    → AtMost (place w_end) (place both)
-other_end both v_end w_end (inl is) before = absurd (not_before_itself (place v_end) (subst (λ (q : Cut). Before (place q) (place v_end)) is before))
-other_end both v_end w_end (inr is) before = λ t h. subst (λ (q : Cut). Upto (place q) t) (sym is) h
 
 -- a list has one first item
 pub same_first : {X : Type 0} (xs : List X) (x y : X) → slice_get xs 0 ≡ Some x → slice_get xs 0 ≡ Some y → x ≡ y

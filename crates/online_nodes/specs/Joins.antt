@@ -41,10 +41,6 @@ pub record IsJoining (n p q : Subformula) (tr : Trace) (begin : Place) (written 
   pub left_read : IsReadTo p tr out left stop_left fresh_left
   pub right_read : IsReadTo q tr out right stop_right fresh_right
 
--- a verdict ends at a place
-abbrev pub EndsAt : Verdict → Place → Type 0
-EndsAt v end = AtMost (ends (interval v.on)) end × AtMost end (ends (interval v.on))
-
 -- nothing changed, and where both inputs have a verdict that was not read, both reach beyond the stretch
 pub record HasPaused (old new : Held) (inputs : Inputs) (out : Out) : Type 0 where
   pub same : new ≡ old

@@ -1,11 +1,11 @@
 //! The connectives, one verdict of each input at a time.
 
-ghost use Rattle.std.specs.Prelude.{◌≡◌, ◌≢◌, ◌+◌, ◌*◌, ◌<◌, length, slice_get, IfOk, IsTrue, OnErr, MatchOption, Some};
+ghost use Rattle.std.specs.Prelude.{◌≡◌, ◌≢◌, ◌+◌, ◌*◌, ◌<◌, length, slice_get, IfOk, OnErr, MatchOption, Some};
 ghost use Rattle.rational.specs.Places.{AtMost};
 ghost use Rattle.frac128.specs.Cuts.{place};
 ghost use Rattle.online_nodes.specs.Held.{fresh_at};
 ghost use Rattle.online_nodes.specs.Written.{IsSound};
-ghost use Rattle.online_nodes.specs.Joins.{joined, EndsAt, HasFilled, HasJoined, HasPaused, HasReadBoth};
+ghost use Rattle.online_nodes.specs.Joins.{joined, HasFilled, HasJoined, HasPaused, HasReadBoth};
 
 use crate::edges::Edges;
 use crate::writer::Out;
@@ -40,64 +40,6 @@ pub(crate) struct Inputs {
     pub(crate) right: u32,
 }
 
-/// Whether a verdict ends at a place.
-#[inline(always)]
-fn ends_at(v: &Verdict, end: &Cut) -> bool
-    ensures { IsTrue result → EndsAt v.now (place end.now) }
-{
-    let v_end = Cut::end(&v.on);
-    if v_end.precedes(end) {
-        return false;
-    }
-    if end.precedes(&v_end) {
-        return false;
-    }
-    true
-}
-
-/// Whether both verdicts end at a place.
-#[inline(always)]
-fn end_at(v: &Verdict, w: &Verdict, end: &Cut) -> bool
-    ensures left { IsTrue result → EndsAt v.now (place end.now) }
-    ensures right { IsTrue result → EndsAt w.now (place end.now) }
-{
-    if !ends_at(v, end) {
-        return false;
-    }
-    ends_at(w, end)
-}
-
-/// Reads both inputs' next verdicts, which end with the stretch.
-#[inline(always)]
-fn read_to_end(
-    edges: &mut Edges,
-    join: Join,
-    inputs: Inputs,
-    out: Out,
-    v: Verdict,
-    w: Verdict,
-) -> Result<Out, Memory>
-    requires left { inputs.left < length edges.old.edges }
-    requires right { inputs.right < length edges.old.edges }
-    requires own { out.edge < length edges.old.edges }
-    requires left_apart { inputs.left ≢ out.edge }
-    requires right_apart { inputs.right ≢ out.edge }
-    requires apart { inputs.left ≢ inputs.right }
-    requires sound { IsSound out }
-    requires inside { AtMost (place out.at) (place out.to) }
-    requires first_left { slice_get (fresh_at edges.old inputs.left) 0 ≡ Some v }
-    requires first_right { slice_get (fresh_at edges.old inputs.right) 0 ≡ Some w }
-    requires left_ends { EndsAt v (place out.to) }
-    requires right_ends { EndsAt w (place out.to) }
-    ensures read { IfOk result (λ next. HasReadBoth edges.old edges.new join inputs out next) }
-    ensures memory { OnErr result (edges.old.spare ≡ 0) }
-{
-    let next = out.upto(edges, join.of(v.holds, w.holds), out.end())?;
-    let _ = edges.pass(inputs.left);
-    let _ = edges.pass(inputs.right);
-    Ok(next)
-}
-
 /// Reads on in both inputs up to the earlier end of their next verdicts. None where both reach beyond the stretch, and then nothing
 /// changed.
 fn read_first(
@@ -125,17 +67,21 @@ fn read_first(
 {
     let v_end = Cut::end(&v.on);
     let w_end = Cut::end(&w.on);
-    let both = v_end.earlier(w_end);
-    if out.end().precedes(&both) {
-        return Ok(None);
-    }
-    let next = out.upto(edges, join.of(v.holds, w.holds), both)?;
-    if both.precedes(&v_end) {
+    let holds = join.of(v.holds, w.holds);
+    if w_end.precedes(&v_end) {
+        if out.end().precedes(&w_end) {
+            return Ok(None);
+        }
+        let next = out.upto_within(edges, holds, w_end)?;
         let _ = edges.pass(inputs.right);
         return Ok(Some(next));
     }
+    if out.end().precedes(&v_end) {
+        return Ok(None);
+    }
+    let next = out.upto_within(edges, holds, v_end)?;
     let _ = edges.pass(inputs.left);
-    if both.precedes(&w_end) {
+    if v_end.precedes(&w_end) {
         return Ok(Some(next));
     }
     let _ = edges.pass(inputs.right);
@@ -143,7 +89,7 @@ fn read_first(
 }
 
 /// Reads on in both inputs up to the earlier end of their next verdicts. None where one has none, or where both reach beyond the
-/// stretch, and then nothing changed. Where the stretch is that of one row, both mostly end with it.
+/// stretch, and then nothing changed.
 fn read_both(edges: &mut Edges, join: Join, inputs: Inputs, out: Out) -> Result<Option<Out>, Memory>
     requires left { inputs.left < length edges.old.edges }
     requires right { inputs.right < length edges.old.edges }
@@ -164,10 +110,6 @@ fn read_both(edges: &mut Edges, join: Join, inputs: Inputs, out: Out) -> Result<
     let Some(w) = edges.next(inputs.right) else {
         return Ok(None);
     };
-    if end_at(&v, &w, &out.end()) {
-        let next = read_to_end(edges, join, inputs, out, v, w)?;
-        return Ok(Some(next));
-    }
     read_first(edges, join, inputs, out, v, w)
 }
 

@@ -140,6 +140,28 @@ impl Out {
         Ok(out)
     }
 
+    /// As `upto`, up to a place that does not lie beyond the end of the stretch.
+    ///
+    /// # Errors
+    ///
+    /// As `upto`.
+    #[inline(always)]
+    pub(crate) fn upto_within(self, edges: &mut Edges, holds: bool, cut: Cut) -> Result<Out, Memory>
+        requires edge { self.edge < length edges.old.edges }
+        requires inside { AtMost (place self.at) (place self.to) }
+        requires sound { IsSound self }
+        requires within { AtMost (place cut) (place self.to) }
+        ensures said { IfOk result (λ out. HasAnswer edges.old edges.new self holds out) }
+        ensures reaches { IfOk result (λ out. Reaches self cut out) }
+        ensures memory { OnErr result (edges.old.spare ≡ 0) }
+    {
+        if !self.at.precedes(&cut) {
+            return Ok(self);
+        }
+        let out = self.go_on(edges, holds, cut)?;
+        Ok(out)
+    }
+
     /// One verdict up to a place, and the other one from there up to a later place, each as far as `upto` says it.
     ///
     /// # Errors

@@ -4,46 +4,72 @@ use Rattle.frac128.specs.Spans.{interval}
 use Rattle.stl_syntax.specs.declared.items.Verdict.{Verdict}
 use Rattle.online_nodes.specs.Working.{HasPassed}
 use Rattle.frac128.specs.declared.cut.Cut.{Cut}
-use Rattle.rational.specs.Places.{ends, AtMost, Before, Upto}
+use Rattle.rational.specs.Places.{Place, ends, AtMost, Before, Upto}
 use Rattle.frac128.specs.Cuts.{place}
 use Rattle.online_nodes.specs.Held.{fresh_at}
 use Rattle.online_nodes.specs.Written.{HasAnswer}
 use Rattle.online_nodes.proofs.GotLemmas.{got-length}
 use Rattle.rational.proofs.PlaceLemmas.{upto_of_before, at_most_of_not_before}
 use Rattle.online_nodes.proofs.WorkLemmas.{passed-length}
-use Rattle.online_nodes.proofs.JoinLemmas.{said_of_both, at_most_named, named_at_most, other_end, right_was_read, left_was_read}
-use Rattle.online_nodes.proofs.JoinLemmas.{both_were_read, same_first}
+use Rattle.online_nodes.proofs.JoinLemmas.{said_of_both, at_most_named, right_was_read, left_was_read, both_were_read, same_first}
 use Rattle.online_nodes.proofs.join.read_first.Goals as goal
+use Rattle.online_nodes.proofs.join.read_first.Goals.{After-precedes}
 
-pub returns-then-precedes-clause-read : goal.returns-then-precedes-clause-read
-returns-then-precedes-clause-read c =
-    let to_both : AtMost (place c.args.out.to) (place c.earlier-both.result) =
-    (λ t h. upto_of_before (place c.end.result) (place c.earlier-both.result) t (c.precedes.ensures.0 c.if-precedes.true)
-    (subst (λ (q : Cut). Upto (place q) t) (sym c.end.ensures) h)) in
-    record {
-      same = refl;
-      beyond = λ v w first_left first_right. (
-        (λ t h. subst (λ (x : Verdict). Upto (ends (interval x.on)) t) (same_first
-            (fresh_at c.args.edges.now c.args.inputs.left) c.args.v v c.requires.first_left first_left)
-            (at_most_named (place c.earlier-both.result) c.earlier-both.ensures.first c.end-v_end.ensures t (to_both t h))),
-        (λ t h. subst (λ (x : Verdict). Upto (ends (interval x.on)) t)
-            (same_first (fresh_at c.args.edges.now c.args.inputs.right) c.args.w w c.requires.first_right first_right)
-            (at_most_named (place c.earlier-both.result) c.earlier-both.ensures.second c.end-w_end.ensures t (to_both t h))),
-      );
-    }
+-- the right verdict ends before the left one; or it does not
+right_before : (c : After-precedes) → Before (place c.end-w_end.result) (place c.end-v_end.result)
+    → AtMost (place c.end-w_end.result) (ends (interval c.args.v.on))
+right_before c before =
+    at_most_named (place c.end-w_end.result) (λ t h. upto_of_before (place c.end-w_end.result) (place c.end-v_end.result) t before h) c.end-v_end.ensures
+
+left_before : (c : After-precedes) → ¬ (Before (place c.end-w_end.result) (place c.end-v_end.result))
+    → AtMost (place c.end-v_end.result) (ends (interval c.args.w.on))
+left_before c not_before =
+    at_most_named (place c.end-v_end.result) (at_most_of_not_before (place c.end-v_end.result) (place c.end-w_end.result) not_before)
+    c.end-w_end.ensures
+
+-- the next verdict of an input reaches beyond the stretch
+beyond : (c : After-precedes) (end : Cut) → Before (place c.args.out.to) (place end) → AtMost (place end) (ends (interval c.args.v.on))
+    → AtMost (place end) (ends (interval c.args.w.on))
+    → AtMost (place c.args.out.to) (ends (interval c.args.v.on)) × AtMost (place c.args.out.to) (ends (interval c.args.w.on))
+beyond c end before by_v by_w = (
+  λ t h. by_v t (upto_of_before (place c.args.out.to) (place end) t before h),
+  λ t h. by_w t (upto_of_before (place c.args.out.to) (place end) t before h),
+)
 
 pub returns-then-precedes-2-clause-read : goal.returns-then-precedes-2-clause-read
 returns-then-precedes-2-clause-read c =
-    let to_end : AtMost (place c.earlier-both.result) (place c.args.out.to) =
-    at_most_of_not_before (place c.earlier-both.result) (place c.args.out.to)
-    (λ b. true≢false (sym (c.precedes.ensures.1 (subst (λ (q : Cut). Before (place q) (place c.earlier-both.result)) (sym c.end.ensures) b))
-    ∙ c.if-precedes.false)) in
+    let here = (goal.at.returns-then-precedes-2-clause-read c).After-precedes in
+    let end = c.end-w_end.result in
+    let far = beyond here end (subst (λ (q : Cut). Before (place q) (place end)) c.end.ensures (c.precedes-then-precedes.ensures.0 c.if-precedes-2.true))
+    (right_before here (c.precedes.ensures.0 c.if-precedes.true)) (λ t h. subst (λ (q : Place). Upto q t) c.end-w_end.ensures h) in
+    record {
+      same = refl;
+      beyond = λ v w first_left first_right. (
+        (λ t h. subst (λ (x : Verdict). Upto (ends (interval x.on)) t)
+            (same_first (fresh_at c.args.edges.now c.args.inputs.left) c.args.v v c.requires.first_left first_left) (far.0 t h)),
+        (λ t h. subst (λ (x : Verdict). Upto (ends (interval x.on)) t)
+            (same_first (fresh_at c.args.edges.now c.args.inputs.right) c.args.w w c.requires.first_right first_right) (far.1 t h)),
+      );
+    }
+
+pub upto_within-requires-clause-within : goal.upto_within-requires-clause-within
+upto_within-requires-clause-within c =
+    at_most_of_not_before (place c.end-w_end.result) (place c.args.out.to)
+    (λ b. true≢false (sym (c.precedes-then-precedes.ensures.1 (subst (λ (q : Cut). Before (place q) (place c.end-w_end.result)) (sym c.end.ensures) b))
+    ∙ c.if-precedes-2.false))
+
+pub returns-then-precedes-clause-read : goal.returns-then-precedes-clause-read
+returns-then-precedes-clause-read c =
+    let here = (goal.at.returns-then-precedes-clause-read c).After-precedes in
+    let end = c.end-w_end.result in
+    let to_end : AtMost (place end) (place c.args.out.to) =
+    at_most_of_not_before (place end) (place c.args.out.to)
+    (λ b. true≢false (sym (c.precedes-then-precedes.ensures.1 (subst (λ (q : Cut). Before (place q) (place end)) (sym c.end.ensures) b)) ∙ c.if-precedes-2.false)) in
     let said = said_of_both c.requires.first_left c.requires.first_right c.requires.own c.requires.left_apart c.requires.right_apart c.requires.apart
-    (subst (λ b. HasAnswer c.args.edges.now c.upto.new.edges c.args.out b c.in_ok-next.next) c.of.ensures c.in_ok-next.ensures.said)
+    (subst (λ b. HasAnswer c.args.edges.now c.upto_within.new.edges c.args.out b c.in_ok-next.next) c.of-holds.ensures c.in_ok-next.ensures.said)
     c.in_ok-next.ensures.reaches
-    (at_most_named (place c.earlier-both.result) c.earlier-both.ensures.first c.end-v_end.ensures) (at_most_named
-    (place c.earlier-both.result) c.earlier-both.ensures.second c.end-w_end.ensures) to_end in
-    let passed : HasPassed c.upto.new.edges c.pass.new.self c.args.inputs.right c.pass.result =
+    (right_before here (c.precedes.ensures.0 c.if-precedes.true)) (λ t h. subst (λ (q : Place). Upto q t) c.end-w_end.ensures h) to_end in
+    let passed : HasPassed c.upto_within.new.edges c.pass.new.self c.args.inputs.right c.pass.result =
     record {
       within = subst (λ n. c.args.inputs.right < n) (sym (got-length said.said.got)) c.requires.right;
       first = c.pass.ensures.first;
@@ -51,22 +77,44 @@ returns-then-precedes-2-clause-read c =
       start = c.pass.ensures.start;
       spare = c.pass.ensures.spare;
     } in
-    right_was_read said passed
-    (named_at_most (place c.earlier-both.result) c.end-w_end.ensures
-    (other_end c.earlier-both.result c.end-v_end.result c.end-w_end.result c.earlier-both.ensures.one (c.precedes-2.ensures.0 c.if-precedes-2.true)))
+    right_was_read said passed (λ t h. subst (λ (q : Place). Upto q t) (sym c.end-w_end.ensures) h)
 
 pub returns-then-precedes-3-clause-read : goal.returns-then-precedes-3-clause-read
 returns-then-precedes-3-clause-read c =
-    let to_end : AtMost (place c.earlier-both.result) (place c.args.out.to) =
-    at_most_of_not_before (place c.earlier-both.result) (place c.args.out.to)
-    (λ b. true≢false (sym (c.precedes.ensures.1 (subst (λ (q : Cut). Before (place q) (place c.earlier-both.result)) (sym c.end.ensures) b))
-    ∙ c.if-precedes.false)) in
+    let here = (goal.at.returns-then-precedes-3-clause-read c).After-precedes in
+    let end = c.end-v_end.result in
+    let far = beyond here end (subst (λ (q : Cut). Before (place q) (place end)) c.end-2.ensures (c.precedes-2.ensures.0 c.if-precedes-3.true))
+    (λ t h. subst (λ (q : Place). Upto q t) c.end-v_end.ensures h)
+    (left_before here (λ b. true≢false (sym (c.precedes.ensures.1 b) ∙ c.if-precedes.false))) in
+    record {
+      same = refl;
+      beyond = λ v w first_left first_right. (
+        (λ t h. subst (λ (x : Verdict). Upto (ends (interval x.on)) t)
+            (same_first (fresh_at c.args.edges.now c.args.inputs.left) c.args.v v c.requires.first_left first_left) (far.0 t h)),
+        (λ t h. subst (λ (x : Verdict). Upto (ends (interval x.on)) t)
+            (same_first (fresh_at c.args.edges.now c.args.inputs.right) c.args.w w c.requires.first_right first_right) (far.1 t h)),
+      );
+    }
+
+pub upto_within-requires-2-clause-within : goal.upto_within-requires-2-clause-within
+upto_within-requires-2-clause-within c =
+    at_most_of_not_before (place c.end-v_end.result) (place c.args.out.to)
+    (λ b. true≢false (sym (c.precedes-2.ensures.1 (subst (λ (q : Cut). Before (place q) (place c.end-v_end.result)) (sym c.end-2.ensures) b))
+    ∙ c.if-precedes-3.false))
+
+pub returns-then-precedes-4-clause-read : goal.returns-then-precedes-4-clause-read
+returns-then-precedes-4-clause-read c =
+    let here = (goal.at.returns-then-precedes-4-clause-read c).After-precedes in
+    let end = c.end-v_end.result in
+    let to_end : AtMost (place end) (place c.args.out.to) =
+    at_most_of_not_before (place end) (place c.args.out.to)
+    (λ b. true≢false (sym (c.precedes-2.ensures.1 (subst (λ (q : Cut). Before (place q) (place end)) (sym c.end-2.ensures) b)) ∙ c.if-precedes-3.false)) in
     let said = said_of_both c.requires.first_left c.requires.first_right c.requires.own c.requires.left_apart c.requires.right_apart c.requires.apart
-    (subst (λ b. HasAnswer c.args.edges.now c.upto.new.edges c.args.out b c.in_ok-next.next) c.of.ensures c.in_ok-next.ensures.said)
-    c.in_ok-next.ensures.reaches
-    (at_most_named (place c.earlier-both.result) c.earlier-both.ensures.first c.end-v_end.ensures) (at_most_named
-    (place c.earlier-both.result) c.earlier-both.ensures.second c.end-w_end.ensures) to_end in
-    let passed : HasPassed c.upto.new.edges c.pass-2.new.self c.args.inputs.left c.pass-2.result =
+    (subst (λ b. HasAnswer c.args.edges.now c.upto_within-2.new.edges c.args.out b c.in_ok-next-2.next) c.of-holds.ensures c.in_ok-next-2.ensures.said)
+    c.in_ok-next-2.ensures.reaches
+    (λ t h. subst (λ (q : Place). Upto q t) c.end-v_end.ensures h)
+    (left_before here (λ b. true≢false (sym (c.precedes.ensures.1 b) ∙ c.if-precedes.false))) to_end in
+    let passed : HasPassed c.upto_within-2.new.edges c.pass-2.new.self c.args.inputs.left c.pass-2.result =
     record {
       within = subst (λ n. c.args.inputs.left < n) (sym (got-length said.said.got)) c.requires.left;
       first = c.pass-2.ensures.first;
@@ -74,23 +122,21 @@ returns-then-precedes-3-clause-read c =
       start = c.pass-2.ensures.start;
       spare = c.pass-2.ensures.spare;
     } in
-    let v_ended : AtMost (ends (interval c.args.v.on)) (place c.earlier-both.result) =
-    named_at_most (place c.earlier-both.result) c.end-v_end.ensures (at_most_of_not_before (place c.end-v_end.result) (place c.earlier-both.result)
-    (λ b. true≢false (sym (c.precedes-2.ensures.1 b) ∙ c.if-precedes-2.false))) in
-    left_was_read said passed v_ended
+    left_was_read said passed (λ t h. subst (λ (q : Place). Upto q t) (sym c.end-v_end.ensures) h)
 
 pub returns-clause-read : goal.returns-clause-read
 returns-clause-read c =
-    let to_end : AtMost (place c.earlier-both.result) (place c.args.out.to) =
-    at_most_of_not_before (place c.earlier-both.result) (place c.args.out.to)
-    (λ b. true≢false (sym (c.precedes.ensures.1 (subst (λ (q : Cut). Before (place q) (place c.earlier-both.result)) (sym c.end.ensures) b))
-    ∙ c.if-precedes.false)) in
+    let here = (goal.at.returns-clause-read c).After-precedes in
+    let end = c.end-v_end.result in
+    let to_end : AtMost (place end) (place c.args.out.to) =
+    at_most_of_not_before (place end) (place c.args.out.to)
+    (λ b. true≢false (sym (c.precedes-2.ensures.1 (subst (λ (q : Cut). Before (place q) (place end)) (sym c.end-2.ensures) b)) ∙ c.if-precedes-3.false)) in
     let said = said_of_both c.requires.first_left c.requires.first_right c.requires.own c.requires.left_apart c.requires.right_apart c.requires.apart
-    (subst (λ b. HasAnswer c.args.edges.now c.upto.new.edges c.args.out b c.in_ok-next.next) c.of.ensures c.in_ok-next.ensures.said)
-    c.in_ok-next.ensures.reaches
-    (at_most_named (place c.earlier-both.result) c.earlier-both.ensures.first c.end-v_end.ensures) (at_most_named
-    (place c.earlier-both.result) c.earlier-both.ensures.second c.end-w_end.ensures) to_end in
-    let passed : HasPassed c.upto.new.edges c.pass-2.new.self c.args.inputs.left c.pass-2.result =
+    (subst (λ b. HasAnswer c.args.edges.now c.upto_within-2.new.edges c.args.out b c.in_ok-next-2.next) c.of-holds.ensures c.in_ok-next-2.ensures.said)
+    c.in_ok-next-2.ensures.reaches
+    (λ t h. subst (λ (q : Place). Upto q t) c.end-v_end.ensures h)
+    (left_before here (λ b. true≢false (sym (c.precedes.ensures.1 b) ∙ c.if-precedes.false))) to_end in
+    let passed : HasPassed c.upto_within-2.new.edges c.pass-2.new.self c.args.inputs.left c.pass-2.result =
     record {
       within = subst (λ n. c.args.inputs.left < n) (sym (got-length said.said.got)) c.requires.left;
       first = c.pass-2.ensures.first;
@@ -106,10 +152,7 @@ returns-clause-read c =
       start = c.pass-3.ensures.start;
       spare = c.pass-3.ensures.spare;
     } in
-    let v_ended : AtMost (ends (interval c.args.v.on)) (place c.earlier-both.result) =
-    named_at_most (place c.earlier-both.result) c.end-v_end.ensures (at_most_of_not_before (place c.end-v_end.result) (place c.earlier-both.result)
-    (λ b. true≢false (sym (c.precedes-2.ensures.1 b) ∙ c.if-precedes-2.false))) in
-    let w_ended : AtMost (ends (interval c.args.w.on)) (place c.earlier-both.result) =
-    named_at_most (place c.earlier-both.result) c.end-w_end.ensures (at_most_of_not_before (place c.end-w_end.result) (place c.earlier-both.result)
-    (λ b. true≢false (sym (c.precedes-3.ensures.1 b) ∙ c.if-precedes-3.false))) in
-    both_were_read said passed also v_ended w_ended
+    let w_ended : AtMost (place c.end-w_end.result) (place end) =
+    at_most_of_not_before (place c.end-w_end.result) (place end) (λ b. true≢false (sym (c.precedes-3.ensures.1 b) ∙ c.if-precedes-4.false)) in
+    both_were_read said passed also (λ t h. subst (λ (q : Place). Upto q t) (sym c.end-v_end.ensures) h)
+    (λ t h. w_ended t (subst (λ (q : Place). Upto q t) (sym c.end-w_end.ensures) h))
