@@ -134,9 +134,9 @@ impl Ramp {
         self.at(t).frac()
     }
 
-    /// The value at `t`, where it is whole since `t` is the base or the end of the run.
+    /// The value at `t`, where it is whole since `t` is the base or the end of the run: it is told with no product. None says nothing.
     #[inline(always)]
-    fn plain(&self, t: &Frac) -> Option<i64>
+    pub fn plain(&self, t: &Frac) -> Option<i64>
         ensures { IfSome result (λ v. at (line self.now) (value t.now) ≈ whole v) }
     {
         if t.rest() != 0 {

@@ -90,9 +90,21 @@ fn whole_quotient(q: &Ratio) -> Option<i64>
     Some(with_sign(negative, top / by))
 }
 
-/// The value of a line at a time, where both are whole.
+/// The value of a line at a time, where both are whole: at the ends of its run it is seen at once.
 #[inline(always)]
 fn whole_on(f: &Ramp, t: &Frac) -> Option<i64>
+    requires { IsWithin (2 ^ 34) (value t.now) }
+    ensures { IfSome result (λ w. at (line f.now) (value t.now) ≈ whole w) }
+{
+    match f.plain(t) {
+        Some(n) => Some(n),
+        None => whole_between(f, t),
+    }
+}
+
+/// The same at any time, by a division.
+#[inline(never)]
+fn whole_between(f: &Ramp, t: &Frac) -> Option<i64>
     requires { IsWithin (2 ^ 34) (value t.now) }
     ensures { IfSome result (λ w. at (line f.now) (value t.now) ≈ whole w) }
 {

@@ -3,10 +3,14 @@ ghost use Rattle.std.specs.Prelude.{◌≡◌, ◌≤◌, ◌++◌, if◌then◌
 ghost use Rattle.stl_syntax.specs.Texts.{IsSpanText, IsVerdictLine, start_line};
 ghost use Rattle.report.specs.Appended.{Grew, GrewInPart};
 
-use crate::last::LastTime;
 use crate::number::{in_units, put_fraction};
+use crate::time_text::TimeText;
+use crate::verdict_lines::add_verdict;
 use frac128::{Memory, Span};
 use stl_syntax::{Scale, Text, Verdict};
+
+/// Room for one line.
+const LINE: usize = 256;
 
 /// The bracket before a span.
 pub(crate) fn opening(inside: bool) -> &'static [u8]
@@ -46,26 +50,10 @@ pub fn put_verdict(text: &mut Text, v: &Verdict, scale: Scale) -> Result<(), Mem
     ensures ok { OnOk result (Grew (IsVerdictLine scale v.now) text.old text.new) }
     ensures err { OnErr result (GrewInPart (IsVerdictLine scale v.now) text.old text.new) }
 {
-    let mut last = LastTime::new();
-    put_verdict_after(text, &mut last, v, scale)
-}
-
-/// Appends the line of a verdict, as `put_verdict`. `last` has the time that was written last, so that a line that begins there takes
-/// its text over.
-///
-/// # Errors
-/// As `put_verdict`.
-pub fn put_verdict_after(
-    text: &mut Text,
-    last: &mut LastTime,
-    v: &Verdict,
-    scale: Scale,
-) -> Result<(), Memory>
-    requires { scale.time ≤ 6 }
-    ensures ok { OnOk result (Grew (IsVerdictLine scale v.now) text.old text.new) }
-    ensures err { OnErr result (GrewInPart (IsVerdictLine scale v.now) text.old text.new) }
-{
-    last.put_line(text, v, scale)
+    let mut time = TimeText::new();
+    let mut line = [0u8; LINE];
+    let end = add_verdict(&mut line, 0, &mut time, v, scale);
+    text.push(&line[..end])
 }
 
 /// The line of the truth at the start.

@@ -1,7 +1,7 @@
 use Rattle.std.proofs.lemmas.Result.{on_err_weaker}
 use Rattle.stl_syntax.specs.Texts.{IsVerdictLine}
 use Rattle.report.proofs.Growths.{part_none}
-use Rattle.report.proofs.last.LastTime.put_line.Goals as goal
+use Rattle.report.proofs.verdict.put_verdict.Goals as goal
 
 pub returns-clause-err : goal.returns-clause-err
 returns-clause-err c =

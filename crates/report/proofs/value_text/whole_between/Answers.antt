@@ -5,7 +5,7 @@ use Rattle.rational.specs.Line.{at}
 use Rattle.rational.proofs.Order.{same_sym, same_trans}
 use Rattle.frac128.specs.Value.{value}
 use Rattle.frac128.specs.Line.{line}
-use Rattle.report.proofs.value_text.whole_on.Goals as goal
+use Rattle.report.proofs.value_text.whole_between.Goals as goal
 
 pub returns : goal.returns
 returns c =
