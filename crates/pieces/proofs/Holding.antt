@@ -1,12 +1,13 @@
 -- A window that meets a piece: where the piece and what was told lie, and what holds of that end of the piece at which it is best.
-use Rattle.std.proofs.Common.{◌≡◌, ◌^◌, pos, inl, inr, refl, sym, subst}
+use Rattle.std.proofs.Common.{◌⊎◌, ◌^◌, ℤ, pos, inl, inr, refl}
 use Rattle.rational.specs.Rational.{IsWithin}
-use Rattle.rational.specs.Time.{Rational, ◌≤ʳ◌, add, whole}
+use Rattle.rational.specs.Time.{Rational, ◌≤ʳ◌, ◌<ʳ◌, add, whole}
 use Rattle.rational.specs.Extended.{value_at, ◌≈ᵉ◌}
 use Rattle.rational.specs.Affine.{IsBounded}
 use Rattle.rational.specs.Places.{Place, After, Upto, Before, Same, AtMost}
 use Rattle.rational.proofs.Mixed.{within_between}
-use Rattle.rational.proofs.Order.{le_trans}
+use Rattle.rational.proofs.Order.{le_or_lt, le_trans, lt_of_le_of_lt, not_lt_of_le}
+use Rattle.rational.proofs.Shift.{le_shift}
 use Rattle.rational.proofs.PlaceLemmas.{after_same, before_of_at_most, le_of_at_most}
 use Rattle.frac128.specs.Cuts.{place}
 use Rattle.value_laws.specs.Members.{ShapeOf, ShapeLaws}
@@ -16,16 +17,20 @@ use Rattle.pieces.specs.declared.reach.Way.{Way}
 use Rattle.pieces.specs.declared.sliding.Sliding.{Sliding}
 use Rattle.pieces.specs.Best.{GetsNoBetter, GetsNoWorse}
 use Rattle.pieces.specs.Chains.{Chain, end, stop}
-use Rattle.pieces.specs.Meeting.{HasMet, Holds, Meets}
-use Rattle.pieces.specs.Over.{IsMovedOver, Plays, PlaysBetween}
+use Rattle.pieces.specs.Meeting.{GoesPast, HasMet, Holds, Meets}
+use Rattle.pieces.specs.Over.{IsMovedTo, Plays, PlaysBetween}
 use Rattle.pieces.specs.Sliding.{HasTold}
 use Rattle.pieces.specs.Steps.{FallOff}
 use Rattle.pieces.specs.Windows.{CanSlide, HasEntered, IsLeft, IsPieceFrom, IsReached, Keeps, Stands, high_place}
 use Rattle.pieces.proofs.Counted.{best_plays}
-use Rattle.pieces.proofs.Ends.{at_most_of_before, at_most_of_same, at_most_trans}
-use Rattle.pieces.proofs.Meeting.{best_begins, best_bounded, best_ends, best_with_rise, best_within}
+use Rattle.pieces.proofs.Ends.{at_most_of_before, at_most_of_same, at_most_trans, upto_of_lt}
+use Rattle.pieces.proofs.Meeting.{best_begins, best_bounded, best_ends, best_with_rise, best_within, limit_before}
 use Rattle.pieces.proofs.Moving.{falls_off, keeps_further, keeps_told, tells_more}
 use Rattle.pieces.proofs.Played.{plays_told}
+
+-- what is earlier once both are moved is earlier
+lt_of_moved : (a b : Rational) (k : ℤ) → add a (whole k) <ʳ add b (whole k) → a <ʳ b
+lt_of_moved a b k h = elim (le_or_lt b a) [ inl l ↦ absurd (not_lt_of_le (le_shift k l) h) | inr l ↦ l ]
 
 module _ {P : Type 0} {shape : ShapeOf P} {chain : Chain P} {c : Place} {p : Piece P} where
   -- a piece ends in the domain
@@ -39,6 +44,17 @@ module _ {P : Type 0} {shape : ShapeOf P} {chain : Chain P} {c : Place} {p : Pie
   -- and up to 2^32
   pub piece_last : {over : Reach} → CanSlide shape chain over → IsPieceFrom shape chain c p → (end p).at ≤ʳ whole (pos (2 ^ 32))
   piece_last can is = le_trans (le_of_at_most (end p) (stop chain) is.ends) can.last
+
+-- the place up to which a window does not reach past another lies in a chain that goes past that
+pub reach_within : {P : Type 0} (shape : ShapeOf P) (chain : Chain P) (way : Way) (c e : Place) → GoesPast shape chain way c
+    → IsReached way c e → AtMost e (stop chain)
+reach_within shape chain way c e ahead reached t u = elim ahead [
+  | inl most ↦ most t (reached.upto t u)
+  | inr early ↦ upto_of_lt (stop chain) t (lt_of_moved t (stop chain).at way.over.high (lt_of_le_of_lt most_high early.1))
+]
+  where
+    most_high : add t (whole way.over.high) ≤ʳ c.at
+    most_high = elim (le_or_lt (add t (whole way.over.high)) c.at) [ inl h ↦ h | inr h ↦ absurd (reached.before t u (inl h)) ]
 
 module _ {P : Type 0} {shape : ShapeOf P} {chain : Chain P} {way : Way} {met reach left : Place} {s : Sliding P} where
   -- where a window has told up to lies within limits
@@ -83,22 +99,35 @@ module _ {P : Type 0} {shape : ShapeOf P} {chain : Chain P} {way : Way} {c : Pla
   held_falls = falls_off shape laws chain way known.can.normal c best c s known.keeps
       (λ t a u. before_of_at_most c best (high_place way.over.high way.over.high_in t) held_begins (known.entered t a u))
 
-  module _ (until : Place) (left : IsLeft way best until) where
-    -- the domain does not end while the value counts
-    pub held_lasts : AtMost until (stop chain)
-    held_lasts t u = subst (λ b. Upto b t) known.to (left.upto t u).1
+  -- at which the chain does not end, or not before the value counts no more
+  pub held_early : (until : Place) → IsLeft way best until → (until.at ≤ʳ (stop chain).at) ⊎ ((stop s.out).at <ʳ (stop chain).at)
+  held_early until left = elim known.ahead [
+    | inl most ↦ inl (le_of_at_most until (stop chain) (λ t u. most t (left.upto t u).1))
+    | inr early ↦ inr (elim known.keeps.reached [
+      | inl h ↦ lt_of_le_of_lt (le_of_at_most (stop s.out) chain.from h) early.0
+      | inr h ↦ lt_of_moved (stop s.out).at (stop chain).at way.over.high (lt_of_le_of_lt (limit_before best.at (stop s.out).at way.over.high
+          (λ t l. high_most t (h t (upto_of_lt (stop s.out) t l)))) (lt_of_le_of_lt (le_of_at_most best (end p) held_ends) early.1))
+    ])
+  ]
+    where
+      high_most : (t : Rational) → ¬ Before best (high_place way.over.high way.over.high_in t) → add t (whole way.over.high) ≤ʳ best.at
+      high_most t n = elim (le_or_lt (add t (whole way.over.high)) best.at) [ inl h ↦ h | inr h ↦ absurd (n (inl h)) ]
 
+  module _ (until : Place) (left : IsLeft way best until) where
     -- meanwhile its constant is in play
     pub held_plays : PlaysBetween shape chain way.over (stop s.out).at until.at (value_at (shape.function p.shape) best.at)
     held_plays = best_plays shape chain way.over known.can.normal known.can.small known.some c p known.piece (stop s.out) until known.breaks
-        way.side best known.is_best (λ t a u. known.entered t a (held_lasts t u)) (λ t a u. (left.upto t u).0)
+        way.side best known.is_best (λ t a u. known.entered t a (left.upto t u).1) (λ t a u. (left.upto t u).0)
 
 -- once it counts the window has met the pieces up to where it ends
 pub met_piece : {P : Type 0} {shape : ShapeOf P} {chain : Chain P} {way : Way} {c : Place} {p : Piece P} {old new : Sliding P}
-    → Meets shape chain way c p old → Stands shape chain way (end p) (end p) new → Plays shape chain way.over new → HasMet shape chain way (end p) new
+    → Meets shape chain way c p old → Stands shape chain way (end p) (end p) new → Plays shape chain way.over (place way.to) new
+    → HasMet shape chain way (end p) new
 met_piece known stands plays = record {
   can = known.can;
   to = known.to;
+  within = known.within;
+  ahead = known.ahead;
   begins = piece_begun known.piece;
   ends = known.piece.ends;
   stands = stands;
@@ -111,9 +140,11 @@ pub holds_first : {P : Type 0} {shape : ShapeOf P} {chain : Chain P} {way : Way}
 holds_first trend known = record {
   can = known.can;
   to = known.to;
+  within = known.within;
   some = known.some;
   piece = known.piece;
   breaks = known.breaks;
+  ahead = known.ahead;
   is_best = inl (refl, trend);
   keeps = known.stands;
   entered = known.entered;
@@ -128,9 +159,11 @@ module _ {P : Type 0} {shape : ShapeOf P} {chain : Chain P} {way : Way} {c : Pla
   holds_past entered = record {
     can = known.can;
     to = known.to;
+    within = known.within;
     some = known.some;
     piece = known.piece;
     breaks = known.breaks;
+    ahead = known.ahead;
     is_best = inr (refl, trend);
     keeps = keeps_further shape laws chain way known.can.normal c c (end p) c old (at_most_of_before c (end p) known.piece.order) known.stands;
     entered = entered;
@@ -139,33 +172,35 @@ module _ {P : Type 0} {shape : ShapeOf P} {chain : Chain P} {way : Way} {c : Pla
 
   module _ (gap : P) (new : Sliding P) (next : Place)
       (moved : (t : Rational) → value_at (shape.function gap) t ≈ᵉ value_at (shape.function p.shape) (add t (whole way.over.high)))
-      (base : IsMovedOver shape chain way.over gap) (reached : IsReached way (end p) next) (told : HasTold shape way.side gap old new)
+      (base : IsMovedTo shape chain way.over (place way.to) gap) (reached : IsReached way (end p) next) (told : HasTold shape way.side gap old new)
       (ends : Same (stop new.out) next) where
     upto_next : AtMost (stop new.out) next
     upto_next = at_most_of_same (stop new.out) next ends
 
     upto_end : AtMost (stop new.out) (stop chain)
-    upto_end = subst (λ x. AtMost (stop new.out) x) known.to (at_most_trans (stop new.out) next (place way.to) upto_next reached.upto)
+    upto_end = at_most_trans (stop new.out) next (stop chain) upto_next (reach_within shape chain way (end p) next known.ahead reached)
 
     before : (t : Rational) → Upto (stop new.out) t → ¬ Before (end p) (high_place way.over.high way.over.high_in t)
     before t u = reached.before t (upto_next t u)
 
     -- or after it has told up to there
     pub moved_entered : HasEntered shape chain way (end p) new
-    moved_entered t a u = reached.after t (after_same (stop new.out) next t ends a) (subst (λ x. Upto x t) (sym known.to) u)
+    moved_entered t a u = reached.after t (after_same (stop new.out) next t ends a) u
 
     pub holds_moved : Holds shape chain way c p (end p) new
     holds_moved = record {
       can = known.can;
       to = known.to;
+      within = known.within;
       some = known.some;
       piece = known.piece;
       breaks = known.breaks;
+      ahead = known.ahead;
       is_best = inr (refl, trend);
       keeps = keeps_told shape laws chain way known.can.normal c c c gap old new known.stands told (end p) upto_end
           (tells_more shape laws chain way known.can.normal c c c gap old new known.stands told (end p) (λ t a u. before t u)
           (λ t v a u b. best_with_rise shape laws chain way known.can.normal c p known.piece known.some gap old known.stands known.entered trend moved
-          t v a (upto_end t u) (before t u) b)) (inr before);
+          t v a (reached.upto t (upto_next t u)) (before t u) b)) (inr before);
       entered = moved_entered;
-      plays = plays_told shape chain way.over way.side old new known.plays gap base told;
+      plays = plays_told shape chain way.over (place way.to) way.side old new known.plays gap base told;
     }

@@ -1,8 +1,9 @@
 -- A window that goes over a whole chain: where it begins, the pieces that it meets, and what it has told once it is behind the last.
-use Rattle.std.proofs.Common.{◌≡◌, ◌⊎◌, inl, inr, ℕ, [], Some, not, false, refl, sym, ap, ◌∙◌, subst}
+use Rattle.std.proofs.Common.{◌≡◌, ◌⊎◌, ◌^◌, inl, inr, ℕ, [], Some, not, false, refl, sym, ap, ◌∙◌, subst}
 use Rattle.std.proofs.lemmas.Bool.{false≢true}
 use Rattle.std.specs.Int.Signed.{<ℤ_irrefl}
 use Rattle.std.specs.Prelude.{slice_get, MatchBool, ◌<ℤ◌}
+use Rattle.rational.specs.Rational.{IsWithin}
 use Rattle.rational.specs.Time.{Rational, ◌≤ʳ◌, ◌<ʳ◌, ◌≈◌, add, whole}
 use Rattle.rational.specs.Extended.{Extended, value_at, ◌≈ᵉ◌}
 use Rattle.rational.specs.Places.{Place, AtMost, Same}
@@ -18,7 +19,7 @@ use Rattle.pieces.specs.declared.reach.Way.{Way}
 use Rattle.pieces.specs.declared.sliding.Sliding.{Sliding}
 use Rattle.pieces.specs.declared.window.Window.{Window}
 use Rattle.pieces.specs.Chains.{Chain, begin_at, end, stop, IsNormal, IsWorth, Tells}
-use Rattle.pieces.specs.Meeting.{HasMet, IsNext, Meets, StandsFor}
+use Rattle.pieces.specs.Meeting.{CanBegin, GoesPast, HasMet, IsNext, Meets, StandsFor}
 use Rattle.pieces.specs.Steps.{AreSteps, StepsGive}
 use Rattle.pieces.specs.Sliding.{HasTold}
 use Rattle.pieces.specs.Windows.{Best, BestTo, CanSlide, IsNonEmpty, IsPieceFrom, Sees, Stands, high_place, low_place}
@@ -66,10 +67,10 @@ module _ {P : Type 0} (shape : ShapeOf P) (laws : ShapeLaws shape) (chain : Chai
 
   -- a window that has met all tells the rest by its steps, and so the best of what is seen from end to end
   pub tells_all : (gap : P) (old new : Sliding P) (to : Place) → Stands shape chain way (stop chain) (stop chain) old
-      → HasTold shape way.side gap old new → Same (stop new.out) to → to ≡ stop chain
+      → HasTold shape way.side gap old new → Same (stop new.out) to → to ≡ stop chain → AtMost (stop chain) (place way.to)
       → ((t : Rational) → value_at (shape.function gap) t ≈ᵉ none shape laws chain way normal)
       → Tells shape (Best shape chain way) chain.from (stop chain) new.out
-  tells_all gap old new to st told ends at is = tells shape (Best shape chain way) chain.from (stop chain) new.out best_is_function
+  tells_all gap old new to st told ends at further is = tells shape (Best shape chain way) chain.from (stop chain) new.out best_is_function
       (record { normal = told.normal; worth = worth })
       (subst (λ s. Same s chain.from) (sym (told.begins ∙ st.begins)) (same_place chain.from)) here
     where
@@ -80,7 +81,7 @@ module _ {P : Type 0} (shape : ShapeOf P) (laws : ShapeLaws shape) (chain : Chai
       worth t v w = elim (told.worth t v w) [
         | inl k ↦ st.told t v k
         | inr (a, u, b) ↦ all_met t v (best_with_none shape laws chain way normal (stop chain) (stop chain) gap old st (at_most_itself (stop chain)) is t v
-            (upto_same (stop new.out) (stop chain) t here u) b)
+            (further t (upto_same (stop new.out) (stop chain) t here u)) b)
       ]
 
   -- a window that has told nothing stands where the chain begins
@@ -136,38 +137,44 @@ empty_or_some over (e, inr out) (inr (s, low_in, high_in)) = false≢true (sym o
 
 module _ {P : Type 0} {shape : ShapeOf P} {chain : Chain P} {way : Way} where
   -- a window that has told nothing has met what lies before the chain
-  pub met_none : ShapeLaws shape → (at : Place) (s : Sliding P) → at ≡ chain.from → CanSlide shape chain way.over → place way.to ≡ stop chain
-      → s.out ≡ chain_of at [] → s.steps.items ≡ [] → HasMet shape chain way at s
-  met_none laws at s begins can to none nothing = subst (λ c. HasMet shape chain way c s) (sym begins) (record {
-    can = can;
-    to = to;
+  pub met_none : ShapeLaws shape → (at : Place) (s : Sliding P) → CanBegin shape chain way at → s.out ≡ chain_of at [] → s.steps.items ≡ []
+      → HasMet shape chain way at s
+  met_none laws at s can none nothing = subst (λ c. HasMet shape chain way c s) (sym can.begins) (record {
+    can = can.can;
+    to = can.to;
+    within = can.within;
+    ahead = subst (λ c. GoesPast shape chain way c) can.begins can.ahead;
     begins = at_most_itself chain.from;
-    ends = to_stop chain.from chain.pieces can.normal.rising;
-    stands = stands_none shape laws chain way can.normal s (subst (λ c. s.out ≡ chain_of c []) begins none) nothing;
-    plays = plays_none shape chain way.over s at none nothing;
+    ends = to_stop chain.from chain.pieces can.can.normal.rising;
+    stands = stands_none shape laws chain way can.can.normal s (subst (λ c. s.out ≡ chain_of c []) can.begins none) nothing;
+    plays = plays_none shape chain way.over (place way.to) s at none nothing;
   })
 
   -- one that sees nothing has met the next piece as well
-  pub met_blind : ShapeLaws shape → {c : Place} {p : Piece P} {s : Sliding P} → ((t u : Rational) → ¬ Sees way.over t u) → IsPieceFrom shape chain c p
+  pub met_blind : ShapeLaws shape → {c : Place} {p : Piece P} {s : Sliding P} → ((t u : Rational) → ¬ Sees way.over t u) → IsNext shape chain way c p
       → HasMet shape chain way c s → HasMet shape chain way (end p) s
-  met_blind laws {c} {p} {s} blind is known = record {
+  met_blind laws {c} {p} {s} blind next known = record {
     can = known.can;
     to = known.to;
-    begins = piece_begun is;
-    ends = is.ends;
-    stands = stands_blind shape laws chain way known.can.normal c (end p) s (at_most_of_before c (end p) is.order) blind known.stands;
+    within = known.within;
+    ahead = next.ahead;
+    begins = piece_begun next.piece;
+    ends = next.piece.ends;
+    stands = stands_blind shape laws chain way known.can.normal c (end p) s (at_most_of_before c (end p) next.piece.order) blind known.stands;
     plays = known.plays;
   }
 
 -- what comes next may be met
 pub meets_next : {P : Type 0} {shape : ShapeOf P} {chain : Chain P} {w : Window P} {p : Piece P} → IsNonEmpty w.way.over → StandsFor shape chain w
-    → IsNext shape chain (place w.met) p → Meets shape chain w.way (place w.met) p w.sliding
+    → IsNext shape chain w.way (place w.met) p → Meets shape chain w.way (place w.met) p w.sliding
 meets_next some st next = record {
   can = st.met.can;
   to = st.met.to;
+  within = st.met.within;
   some = some;
   piece = next.piece;
   breaks = next.breaks;
+  ahead = next.ahead;
   stands = st.met.stands;
   entered = (st.ready some).entered;
   plays = st.met.plays;

@@ -11,7 +11,7 @@ ghost use Rattle.pl_signal.specs.declared.faults.OpFault.TheVariants as F;
 ghost use Rattle.courses.specs.Courses.{IsFixed, IsValueFault};
 ghost use Rattle.pieces.specs.Best.{GetsNoBetter, GetsNoWorse, IsNoWorse, IsTrendFor, none_of};
 ghost use Rattle.pieces.specs.Chains.{Chain, IsLimited, Tells, end, stop};
-ghost use Rattle.pieces.specs.Meeting.{HasMet, Holds, IsNext, Meets, StandsFor};
+ghost use Rattle.pieces.specs.Meeting.{CanBegin, HasMet, Holds, IsNext, Meets, StandsFor};
 ghost use Rattle.pieces.specs.Over.{BasesOver, HasCauseOver, IsCauseOver, Plays};
 ghost use Rattle.pieces.specs.Sliding.{last_end};
 ghost use Rattle.pieces.specs.Steps.{AreSteps, HideTo};
@@ -29,9 +29,10 @@ use std::cmp::Ordering;
 use std::collections::VecDeque;
 use value_laws::Shape;
 
-/// A window on its way over a chain whose pieces come one after another, up to where the chain will end.
+/// A window on its way over a chain whose pieces come one after another.
 ///
-/// What it says of a chain holds of each that begins with the pieces that it has met: `StandsFor`.
+/// What it says of a chain holds of each that begins with the pieces that it has met: `StandsFor`. Where the chain will end need not be
+/// known: its way may lead further, as long as each chain goes on past what is met (`GoesPast`).
 #[derive(Drop)]
 pub struct Window<P: Shape> {
     pub(crate) way: Way,
@@ -43,7 +44,8 @@ pub struct Window<P: Shape> {
 }
 
 impl<P: Shape> Window<P> {
-    /// It has met no piece yet of a chain from one place to another. It asks at once for the memory of as many pieces as `room` says.
+    /// It has met no piece yet of a chain that begins at `from`, and goes on to `to`, or not so far. It asks at once for the memory of as many
+    /// pieces as `room` says.
     ///
     /// # Errors
     ///
@@ -56,8 +58,8 @@ impl<P: Shape> Window<P> {
         to: &Cut,
         room: usize,
     ) -> Result<Window<P>, Memory>
-        requires can { (s : Chain P) × CanSlide P.Shape s over × (place from.now ≡ s.from) × (place to.now ≡ stop s) }
-        ensures stands { (s : Chain P) → CanSlide P.Shape s over → place from.now ≡ s.from → place to.now ≡ stop s
+        requires can { (s : Chain P) × CanBegin P.Shape s (record { side = side; over = over; to = to.now }) (place from.now) }
+        ensures stands { (s : Chain P) → CanBegin P.Shape s (record { side = side; over = over; to = to.now }) (place from.now)
             → IfOk result (λ w. StandsFor P.Shape s w) }
         ensures met { IfOk result (λ w. place w.met ≡ place from.now) }
         ensures way { IfOk result (λ w. w.way ≡ record { side = side; over = over; to = to.now }) }
@@ -97,14 +99,14 @@ impl<P: Shape> Window<P> {
     /// `Memory` where a crossing of two shapes that count, or a value that counts, needs a denominator of 2^60 or more: the pair is then in
     /// `fault`; and where memory is wanting. The window is of no use then.
     pub fn meet(&mut self, piece: &Piece<P>, fault: &mut Option<WidePair<P>>) -> Result<(), Memory>
-        requires next { (s : Chain P) × StandsFor P.Shape s self.old × IsNext P.Shape s (place self.old.met) piece.now }
+        requires next { (s : Chain P) × StandsFor P.Shape s self.old × IsNext P.Shape s self.old.way (place self.old.met) piece.now }
         requires none { fault.old ≡ None }
-        ensures stands { (s : Chain P) → StandsFor P.Shape s self.old → IsNext P.Shape s (place self.old.met) piece.now
+        ensures stands { (s : Chain P) → StandsFor P.Shape s self.old → IsNext P.Shape s self.old.way (place self.old.met) piece.now
             → OnOk result (StandsFor P.Shape s self.new) }
         ensures met { OnOk result (place self.new.met ≡ end piece.now) }
         ensures way { self.new.way ≡ self.old.way }
         ensures still { OnOk result (fault.new ≡ None) }
-        ensures wide { (s : Chain P) → StandsFor P.Shape s self.old → IsNext P.Shape s (place self.old.met) piece.now
+        ensures wide { (s : Chain P) → StandsFor P.Shape s self.old → IsNext P.Shape s self.old.way (place self.old.met) piece.now
             → OnErr result (IfSome fault.new (IsCauseOver P.Shape s self.old.way.over)) }
     {
         if is_empty(&self.way.over) {
@@ -132,13 +134,13 @@ impl<P: Shape> Window<P> {
     ///
     /// As `meet`.
     pub fn end(&mut self, fault: &mut Option<WidePair<P>>) -> Result<(), Memory>
-        requires last { (s : Chain P) × StandsFor P.Shape s self.old × (place self.old.met ≡ stop s) }
+        requires last { (s : Chain P) × StandsFor P.Shape s self.old × (place self.old.met ≡ stop s) × (place self.old.way.to ≡ stop s) }
         requires none { fault.old ≡ None }
-        ensures told { (s : Chain P) → StandsFor P.Shape s self.old → place self.old.met ≡ stop s
+        ensures told { (s : Chain P) → StandsFor P.Shape s self.old → place self.old.met ≡ stop s → place self.old.way.to ≡ stop s
             → OnOk result (Tells P.Shape (Best P.Shape s self.old.way) s.from (stop s) self.new.sliding.out) }
-        ensures bases { (s : Chain P) → StandsFor P.Shape s self.old → place self.old.met ≡ stop s
+        ensures bases { (s : Chain P) → StandsFor P.Shape s self.old → place self.old.met ≡ stop s → place self.old.way.to ≡ stop s
             → OnOk result (BasesOver P.Shape s self.old.way.over self.new.sliding.out) }
-        ensures wide { (s : Chain P) → StandsFor P.Shape s self.old → place self.old.met ≡ stop s
+        ensures wide { (s : Chain P) → StandsFor P.Shape s self.old → place self.old.met ≡ stop s → place self.old.way.to ≡ stop s
             → OnErr result (IfSome fault.new (IsCauseOver P.Shape s self.old.way.over)) }
     {
         let side = self.way.side;
@@ -197,6 +199,7 @@ fn slide_over<P: Shape>(
 ) -> Result<(), Memory>
     requires stands { StandsFor P.Shape s.now window.old }
     requires begins { place window.old.met ≡ s.now.from }
+    requires ends { place window.old.way.to ≡ stop s.now }
     requires none { fault.old ≡ None }
     ensures told { OnOk result (Tells P.Shape (Best P.Shape s.now window.old.way) s.now.from (stop s.now) window.new.sliding.out) }
     ensures bases { OnOk result (BasesOver P.Shape s.now window.old.way.over window.new.sliding.out) }
@@ -364,12 +367,12 @@ fn hold<P: Shape>(
     ensures stands { (s : Chain P) → Holds P.Shape s way.now (place from.now) piece.now (place best.now) window.old
         → OnOk result (Stands P.Shape s way.now (end piece.now) (place best.now) window.new) }
     ensures past { (s : Chain P) → Holds P.Shape s way.now (place from.now) piece.now (place best.now) window.old
-        → OnOk result ((t : Rational) → After (last_end window.new) t → Upto (stop s) t
+        → OnOk result ((t : Rational) → After (last_end window.new) t → Upto (place way.now.to) t
         → ¬ Before (low_place way.now.over.low way.now.over.low_in t) (place best.now)) }
     ensures out { window.new.out ≡ window.old.out }
     ensures still { OnOk result (fault.new ≡ None) }
     ensures plays { (s : Chain P) → Holds P.Shape s way.now (place from.now) piece.now (place best.now) window.old
-        → OnOk result (Plays P.Shape s way.now.over window.new) }
+        → OnOk result (Plays P.Shape s way.now.over (place way.now.to) window.new) }
     ensures wide { (s : Chain P) → Holds P.Shape s way.now (place from.now) piece.now (place best.now) window.old
         → OnErr result (IfSome fault.new (IsCauseOver P.Shape s way.now.over)) }
 {

@@ -11,7 +11,7 @@ use Rattle.value_laws.specs.Members.{ShapeLaws}
 use Rattle.pieces.specs.Chains.{stop}
 use Rattle.pieces.specs.Windows.{high_place}
 use Rattle.pieces.proofs.Ends.{at_most_itself, at_most_of_same, at_most_trans}
-use Rattle.pieces.proofs.Holding.{told_within}
+use Rattle.pieces.proofs.Holding.{reach_within, told_within}
 use Rattle.pieces.proofs.Meeting.{none_last, none_level, none_rises, on_ok_two}
 use Rattle.pieces.proofs.Moving.{best_with_none, keeps_told, tells_more}
 use Rattle.std.proofs.lemmas.Bool.{false≢true}
@@ -46,7 +46,7 @@ tell-requires-clause-order g c =
     let (chain, known) = c.requires.met in
     subst (λ s. AtMost s (place c.in-Some.next)) c.until.ensures.value
     (c.in-Some.ensures.on (subst (λ s. AtMost s (place c.args.way.now.to)) (sym c.until.ensures.value)
-    (subst (λ s. AtMost (stop c.args.window.now.out) s) (sym known.to) known.stands.upto)))
+    (λ t u. known.to t (known.stands.upto t u))))
 
 pub tell-requires-clause-from_within : goal.tell-requires-clause-from_within
 tell-requires-clause-from_within g c =
@@ -66,7 +66,7 @@ reached-requires-clause-small g c =
 pub reached-requires-clause-to_within : goal.reached-requires-clause-to_within
 reached-requires-clause-to_within g c =
     let (chain, known) = c.requires.met in
-    subst (λ s. IsWithin (2 ^ 34) s.at) (sym known.to) known.can.limited.ends
+    known.within
 
 pub returns-clause-met : goal.returns-clause-met
 returns-clause-met g c chain known =
@@ -79,26 +79,28 @@ returns-clause-met g c chain known =
     let st = known.stands in
     on_ok_two c.tell.result (λ told ends.
     let upto_next : AtMost (stop new.out) next = at_most_of_same (stop new.out) next ends in
-    let upto_end : AtMost (stop new.out) (stop chain) = subst (λ x. AtMost (stop new.out) x) known.to (at_most_trans (stop new.out) next (place way.to)
-    upto_next c.in-Some.ensures.some.upto) in
+    let upto_end : AtMost (stop new.out) (stop chain) = at_most_trans (stop new.out) next (stop chain) upto_next
+    (reach_within g.P.Shape chain way met next known.ahead c.in-Some.ensures.some) in
     record {
       can = known.can;
       to = known.to;
+      within = known.within;
+      ahead = known.ahead;
       begins = known.begins;
       ends = known.ends;
       stands = keeps_told g.P.Shape laws chain way known.can.normal met met met c.of_none.result old new st told met upto_end
           (tells_more g.P.Shape laws chain way known.can.normal met met met c.of_none.result old new st told met
           (λ t a u. c.in-Some.ensures.some.before t (upto_next t u))
           (λ t v a u b. best_with_none g.P.Shape laws chain way known.can.normal met met c.of_none.result old st (at_most_itself met)
-          c.of_none.ensures.value t v (upto_end t u) b))
+          c.of_none.ensures.value t v (c.in-Some.ensures.some.upto t (upto_next t u)) b))
           (inr (λ t u. c.in-Some.ensures.some.before t (upto_next t u)));
-      plays = plays_told g.P.Shape chain way.over way.side old new known.plays c.of_none.result
+      plays = plays_told g.P.Shape chain way.over (place way.to) way.side old new known.plays c.of_none.result
           (λ m. absurd (false≢true (sym c.of_none.ensures.still ∙ m))) told;
     }) c.tell.ensures.told c.tell.ensures.ends
 
 pub returns-clause-entered : goal.returns-clause-entered
 returns-clause-entered g c chain known = on_ok_two c.tell.result (λ ends again t a u. c.in-Some.ensures.some.after t
-    (after_same (stop c.tell.new.self.out) (place c.in-Some.next) t ends a) (subst (λ x. Upto x t) (sym known.to) u))
+    (after_same (stop c.tell.new.self.out) (place c.in-Some.next) t ends a) u)
     c.tell.ensures.ends c.tell.ensures.ends
 
 pub returns-clause-wide : goal.returns-clause-wide
@@ -106,8 +108,9 @@ returns-clause-wide g c chain known =
     let way = c.args.way.now in
     let next = place c.in-Some.next in
     let out = stop c.args.window.now.out in
-    let lasts : AtMost next (stop chain) = subst (λ x. AtMost next x) known.to c.in-Some.ensures.some.upto in
-    on_err_weaker c.tell.result (λ some. IfSome_then c.tell.new.fault some (told_cause_none g.P.Shape chain way.over (assumption g.met.P.Shape) way.side
+    let lasts : AtMost next (stop chain) = reach_within g.P.Shape chain way (place c.args.met.now) next known.ahead c.in-Some.ensures.some in
+    on_err_weaker c.tell.result (λ some. IfSome_then c.tell.new.fault some (told_cause_none g.P.Shape chain way.over (place way.to)
+    (assumption g.met.P.Shape) way.side
     c.of_none.result next c.args.window.now c.of_none.ensures.value known.plays (le_of_at_most chain.from out known.stands.on)
     (le_of_at_most next (stop chain) lasts))) c.tell.ensures.wide
 

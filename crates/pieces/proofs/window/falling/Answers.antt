@@ -19,6 +19,7 @@ use Rattle.pieces.specs.Over.{IsCauseOver}
 use Rattle.pieces.specs.Sliding.{last_end}
 use Rattle.pieces.proofs.Counted.{fall_plays, low_comes, none_refused}
 use Rattle.pieces.proofs.Played.{plays_slid}
+use Rattle.pieces.proofs.Shifts.{low_from, low_to, room}
 use Rattle.pieces.proofs.window.falling.Goals as goal
 
 pub hold-requires-clause-met : goal.hold-requires-clause-met
@@ -65,16 +66,15 @@ returns-clause-met g c chain known =
     let until = place c.args.until.now in
     let held = holds_first c.requires.trend known in
     let past = c.in_ok-hold.ensures.past chain held in
-    let lasts : AtMost until (stop chain) = λ t u. subst (λ b. Upto b t) known.to (c.requires.left.upto t u).1 in
+    let lasts : AtMost until (place way.to) = λ t u. (c.requires.left.upto t u).1 in
     on_ok_weaker c.slide.result (λ here.
     let slid : HasSlid g.P.Shape way.side (stop old.out) old.steps.items c.at_low-slope.result until c.slide.new.steps.items =
     subst (λ b. HasSlid g.P.Shape way.side b old.steps.items c.at_low-slope.result until c.slide.new.steps.items) c.until-at.ensures.value here in
     met_piece known (stands_slid g.P.Shape laws chain way known.can.normal known.some from piece known.piece old
     (record { out = old.out; steps = c.slide.new.steps }) (c.in_ok-hold.ensures.stands chain held) refl
     (λ t a u. known.entered t (subst (λ o. After (stop o) t) c.hold.ensures.out a) u) past c.at_low-slope.result until c.requires.trend
-    c.at_low-slope.ensures.value slid (λ t u. ((c.requires.left.upto t u).0, lasts t u))
-    (λ t a u. c.requires.left.after t a (subst (λ b. Upto b t) (sym known.to) u)))
-    (plays_slid g.P.Shape chain way.over way.side old (record { out = old.out; steps = c.slide.new.steps })
+    c.at_low-slope.ensures.value slid c.requires.left.upto c.requires.left.after)
+    (plays_slid g.P.Shape chain way.over (place way.to) way.side old (record { out = old.out; steps = c.slide.new.steps })
     (c.in_ok-hold.ensures.plays chain held) refl c.at_low-slope.result until
     (λ order m. let b = c.at_low-slope.ensures.base m in (
       piece.shape,
@@ -82,7 +82,7 @@ returns-clause-met g c chain known =
       b.0,
       inr (
         b.1,
-        low_comes g.P.Shape chain way.over from
+        low_comes g.P.Shape chain way.over (place way.to) from
             (last_end old) until (le_of_at_most chain.from from known.piece.begins) order lasts past,
       ),
     ))
@@ -93,3 +93,9 @@ returns-clause-met g c chain known =
 pub returns-clause-wide : goal.returns-clause-wide
 returns-clause-wide g c chain known = on_err_anyway c.slide.result
     (none_refused c.hold.new.fault (IsCauseOver g.P.Shape chain c.args.way.now.over) c.in_ok-hold.ensures.still)
+
+pub at_low-slope-requires-clause-room : goal.at_low-slope-requires-clause-room
+at_low-slope-requires-clause-room g c =
+    let (chain, known) = c.requires.met in
+    room (g.P.Shape.base c.args.piece.now.shape) c.args.way.now.over.low (known.can.near c.args.piece.now.shape known.piece.has)
+    (low_from c.args.way.now.over known.can.small) (low_to c.args.way.now.over known.can.small)

@@ -19,14 +19,14 @@ use Rattle.pieces.specs.Windows.{high_place, low_place}
 use Rattle.pieces.proofs.Bests.{best_value}
 use Rattle.pieces.proofs.Ends.{after_le, upto_le, at_most_trans}
 use Rattle.pieces.proofs.StepLemmas.{give_some, hide_upto, to_end}
-use Rattle.pieces.proofs.Holding.{held_after, held_before, held_begins, held_bounded, held_ends, held_falls, held_lasts, held_plays, held_within}
+use Rattle.pieces.proofs.Holding.{held_after, held_before, held_begins, held_bounded, held_ends, held_early, held_falls, held_plays, held_within}
 use Rattle.pieces.proofs.Holding.{told_first, told_last, told_within}
 use Rattle.pieces.proofs.Meeting.{best_there, one_end}
 use Rattle.pieces.proofs.Moving.{stands_counted, stands_hidden, stands_left}
 use Rattle.std.proofs.lemmas.Option.{IfSome_then}
 use Rattle.rational.proofs.Lists.{on_err_anyway}
 use Rattle.pieces.specs.Over.{IsCauseOver}
-use Rattle.pieces.proofs.Counted.{moved_over, none_refused, value_cause}
+use Rattle.pieces.proofs.Counted.{moved_over, none_refused, value_cause_before}
 use Rattle.pieces.proofs.Played.{plays_counted}
 use Rattle.pieces.proofs.window.hold.Goals as goal
 
@@ -40,7 +40,7 @@ returns-then-not-precedes-clause-stands g c chain known =
     (held_ends laws known) refl refl e
     (λ t a. after_at_most e at t (at_most_of_not_before e at (λ b. false≢true (sym c.if-not-precedes.true ∙ c.precedes.ensures.1
     (subst (λ x. Before x e) (sym c.until-at.ensures.value) b)))) a)
-    (λ t a u. c.requires.left.after t a (subst (λ b. Upto b t) (sym known.to) u)) (held_begins laws known)
+    c.requires.left.after (held_begins laws known)
 
 pub returns-then-not-precedes-clause-past : goal.returns-then-not-precedes-clause-past
 returns-then-not-precedes-clause-past g c chain known t a u =
@@ -49,7 +49,7 @@ returns-then-not-precedes-clause-past g c chain known t a u =
     c.requires.left.after t (after_at_most e at t (at_most_of_not_before e at (λ b. false≢true (sym c.if-not-precedes.true
     ∙ c.precedes.ensures.1 (subst (λ x. Before x e) (sym c.until-at.ensures.value) b))))
     (after_at_most at (last_end c.args.window.now) t (to_end g.P.Shape c.args.way.now.side at c.args.window.now.steps.items known.keeps.steps) a))
-    (subst (λ b. Upto b t) (sym known.to) u)
+    u
 
 pub is_hidden-requires : goal.is_hidden-requires
 is_hidden-requires g c =
@@ -74,14 +74,14 @@ returns-then-is_hidden-clause-stands g c chain known =
     (c.is_hidden.ensures c.if-is_hidden.true)
     (λ t a u l. best_there g.P.Shape laws chain way known.can.normal from piece known.piece best known.is_best known.some t
     (known.entered t a u) l)
-    (λ t a u. c.requires.left.after t a (subst (λ b. Upto b t) (sym known.to) u)) (held_begins laws known)
+    c.requires.left.after (held_begins laws known)
 
 pub returns-then-is_hidden-clause-past : goal.returns-then-is_hidden-clause-past
 returns-then-is_hidden-clause-past g c chain known t a u =
     let e = place c.args.until.now in
     c.requires.left.after t (after_at_most e (last_end c.args.window.now) t (hide_upto g.P.Shape c.args.way.now.side (stop c.args.window.now.out)
     c.args.window.now.steps.items (value_at (g.P.Shape.function c.args.piece.now.shape) (place c.args.best.now).at) e
-    (c.is_hidden.ensures c.if-is_hidden.true)) a) (subst (λ b. Upto b t) (sym known.to) u)
+    (c.is_hidden.ensures c.if-is_hidden.true)) a) u
 
 pub constant-requires-clause-from : goal.constant-requires-clause-from
 constant-requires-clause-from g c =
@@ -125,10 +125,10 @@ constant-requires-clause-one g c same =
     let at = c.until-at.ensures.value in
     one_end c.args.way.now.over known.can.small (place c.until-at.result) (place c.args.until.now) (place c.args.best.now) chain.from
     (place c.args.way.now.to) c.requires.left.upto c.requires.left.after
-    (λ t a u. known.entered t (subst (λ s. After s t) at a) (subst (λ s. Upto s t) known.to u))
+    (λ t a u. known.entered t (subst (λ s. After s t) at a) u)
     (subst (λ s. AtMost s chain.from ⊎ ((t : Rational) → Upto s t → ¬ Before (place c.args.best.now)
     (high_place c.args.way.now.over.high c.args.way.now.over.high_in t))) (sym at) known.keeps.reached)
-    (held_after laws known) (subst (λ s. AtMost (place c.args.best.now) s) (sym known.to) (held_before laws known))
+    (held_after laws known) (λ t u. known.to t (held_before laws known t u))
     (c.precedes.ensures.0 c.if-not-precedes.false) same
 
 pub count-requires-clause-from_within : goal.count-requires-clause-from_within
@@ -167,7 +167,7 @@ count-requires-clause-last g c =
         | inr h ↦ (let x = give_some g.P.Shape c.args.way.now.side at xs t k u in
             let s = known.keeps.sees t x.0 (subst (λ b. StepsGive g.P.Shape c.args.way.now.side b xs t x.0)
             c.until-at.ensures.value x.1) in
-            absurd (c.requires.left.after t h (subst (λ b. Upto b t) (sym known.to) s.1)
+            absurd (c.requires.left.after t h s.1
             (before_at_most (low t) (place c.args.from.now) (place c.args.best.now) s.0 (held_begins laws known))))
       ]
     ]
@@ -189,24 +189,24 @@ returns-clause-stands g c chain known =
     best_value (symᵉ (c.in_ok-value.ensures.value t (after_le (place c.until-at.result) t (subst (λ b. After b t) (sym at) a))
     (upto_le (place c.args.until.now) t u)))
     (best_there g.P.Shape laws chain way known.can.normal from piece known.piece best known.is_best known.some t
-    (known.entered t a (subst (λ b. Upto b t) known.to seen.1)) seen.0))
-    (λ t u. let seen = c.requires.left.upto t u in (seen.0, subst (λ b. Upto b t) known.to seen.1))
-    (λ t a u. c.requires.left.after t a (subst (λ b. Upto b t) (sym known.to) u))) c.count.ensures
+    (known.entered t a seen.1) seen.0))
+    c.requires.left.upto
+    c.requires.left.after) c.count.ensures
 
 pub returns-clause-past : goal.returns-clause-past
 returns-clause-past g c chain known = on_ok_weaker c.count.result (λ counted t a u. c.requires.left.after t
     (after_same (steps_end (place c.until-at.result) c.count.new.steps.items) (place c.args.until.now) t counted.ends
     (subst (λ b. After (steps_end b c.count.new.steps.items) t) (sym c.until-at.ensures.value) a))
-    (subst (λ b. Upto b t) (sym known.to) u)) c.count.ensures
+    u) c.count.ensures
 
 pub returns-in_err-value-clause-wide : goal.returns-in_err-value-clause-wide
 returns-in_err-value-clause-wide g c chain known =
     let laws : ShapeLaws g.P.Shape = assumption g.met.P.Shape in
     let out = stop c.args.window.now.out in
     on_err_anyway c.from_residual.result (IfSome_then c.constant.new.fault c.in_err-value.ensures.wide
-    (λ pair x. value_cause g.P.Shape chain c.args.way.now.over c.args.piece.now.shape c.args.best.now.time out.at (place c.args.until.now).at
+    (λ pair x. value_cause_before g.P.Shape chain c.args.way.now.over c.args.piece.now.shape c.args.best.now.time out.at (place c.args.until.now).at
     (subst (λ b. b.at <ʳ (place c.args.until.now).at) c.until-at.ensures.value x.0) (le_of_at_most chain.from out known.keeps.on)
-    (le_of_at_most (place c.args.until.now) (stop chain) (held_lasts laws known (place c.args.until.now) c.requires.left))
+    (held_early laws known (place c.args.until.now) c.requires.left)
     (held_plays laws known (place c.args.until.now) c.requires.left) pair x.1))
 
 pub returns-clause-plays : goal.returns-clause-plays
@@ -216,11 +216,13 @@ returns-clause-plays g c chain known =
     let old = c.args.window.now in
     let until = place c.args.until.now in
     let here = c.until-at.ensures.value in
-    on_ok_weaker c.count.result (λ counted. plays_counted g.P.Shape chain way.over way.side old (record { out = old.out; steps = c.count.new.steps })
+    on_ok_weaker c.count.result (λ counted. plays_counted g.P.Shape chain way.over (place way.to) way.side old
+    (record { out = old.out; steps = c.count.new.steps })
     known.plays refl c.in_ok-value.value until
-    (moved_over g.P.Shape chain way.over c.args.piece.now.shape c.in_ok-value.value (place c.args.best.now).at (place c.until-at.result).at
+    (moved_over g.P.Shape chain way.over (place way.to) c.args.piece.now.shape c.in_ok-value.value (place c.args.best.now).at (place c.until-at.result).at
     known.piece.has c.in_ok-value.ensures.base (le_of_at_most chain.from (place c.args.best.now) (held_after laws known))
-    (subst (λ b. b.at ≤ʳ (stop chain).at) (sym here) (le_of_at_most (stop old.out) (stop chain) known.keeps.upto)))
+    (subst (λ b. b.at ≤ʳ (place way.to).at) (sym here) (le_trans (le_of_at_most (stop old.out) (stop chain) known.keeps.upto)
+    (le_of_at_most (stop chain) (place way.to) known.to))))
     (λ tau a b. held_plays laws known until c.requires.left tau (g.P.Shape.function c.in_ok-value.value) a b
     (λ t. symᵉ (c.in_ok-value.ensures.fixed (subst (λ b. b.at <ʳ until.at) (sym here) (lt_trans a b)) t)))
     (subst (λ b. HasCounted g.P.Shape way.side b old.steps.items c.in_ok-value.value until c.count.new.steps.items) here counted)) c.count.ensures

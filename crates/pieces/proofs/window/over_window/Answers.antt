@@ -1,33 +1,46 @@
 use Rattle.std.specs.Prelude.{IfSome}
-use Rattle.std.proofs.Common.{◌∙◌, sym, subst}
+use Rattle.std.proofs.Common.{◌∙◌, ◌^◌, ap, inl, sym, subst}
+use Rattle.rational.specs.Rational.{IsWithin}
+use Rattle.rational.specs.Places.{AtMost}
 use Rattle.frac128.specs.Cuts.{place}
 use Rattle.pl_signal.proofs.Kept.{fault_kept}
 use Rattle.pieces.specs.Chains.{Tells, stop}
 use Rattle.pieces.specs.Over.{BasesOver, HasCauseOver, IsCauseOver}
-use Rattle.pieces.specs.Windows.{Best, BestOver, CanSlide}
+use Rattle.pieces.specs.Meeting.{CanBegin}
+use Rattle.pieces.specs.Windows.{Best, BestOver}
+use Rattle.pieces.proofs.Ends.{at_most_itself}
 use Rattle.pieces.proofs.window.over_window.Given.{Over}
 use Rattle.pieces.proofs.window.over_window.Goals.{After-until}
 use Rattle.pieces.proofs.window.over_window.Goals as goal
 
--- the chain may be moved over
-can : (g : Over) (c : After-until g) → CanSlide g.P.Shape c.args.s.now c.args.over
-can g c = record {
-  normal = c.until.ensures.normal;
-  limited = c.requires.limited;
-  near = c.requires.near;
-  first = c.requires.first;
-  last = c.requires.last;
-  small = c.requires.small;
-}
+-- the window may begin where the chain does, on the way to where that ends
+can : (g : Over) (c : After-until g)
+    → CanBegin g.P.Shape c.args.s.now (record { side = c.args.side; over = c.args.over; to = c.until.result }) (place c.from.result)
+can g c =
+    let end = stop c.args.s.now in
+    record {
+      can = record {
+        normal = c.until.ensures.normal;
+        limited = c.requires.limited;
+        near = c.requires.near;
+        first = c.requires.first;
+        last = c.requires.last;
+        small = c.requires.small;
+      };
+      begins = c.from.ensures;
+      to = subst (λ e. AtMost end e) (sym c.until.ensures.value) (at_most_itself end);
+      within = subst (λ e. IsWithin (2 ^ 34) e.at) (sym c.until.ensures.value) c.requires.limited.ends;
+      ahead = inl (subst (λ e. AtMost e end) (sym c.until.ensures.value) (at_most_itself end));
+    }
 
 pub begin-requires : goal.begin-requires
-begin-requires g c = record {
-  can = (c.args.s.now, can g (goal.at.begin-requires g c).After-until, c.from.ensures, c.until.ensures.value);
-}
+begin-requires g c = record { can = (c.args.s.now, can g (goal.at.begin-requires g c).After-until) }
 
 pub slide_over-requires-clause-stands : goal.slide_over-requires-clause-stands
 slide_over-requires-clause-stands g c = c.in_ok-window.ensures.stands c.args.s.now (can g (goal.at.slide_over-requires-clause-stands g c).After-until)
-    c.from.ensures c.until.ensures.value
+
+pub slide_over-requires-clause-ends : goal.slide_over-requires-clause-ends
+slide_over-requires-clause-ends g c = ap (λ w. place w.to) c.in_ok-window.ensures.way ∙ c.until.ensures.value
 
 pub slide_over-requires-clause-begins : goal.slide_over-requires-clause-begins
 slide_over-requires-clause-begins g c = c.in_ok-window.ensures.met ∙ c.from.ensures

@@ -13,9 +13,10 @@ use Rattle.value_laws.specs.Members.{ShapeLaws}
 use Rattle.pieces.specs.Chains.{end, stop}
 use Rattle.pieces.proofs.Bests.{nw_back, nw_same, nw_trans}
 use Rattle.pieces.proofs.Counted.{rise_plays}
-use Rattle.pieces.proofs.Holding.{holds_moved, holds_past, met_piece, moved_entered, piece_first, piece_last, told_within}
+use Rattle.pieces.proofs.Holding.{holds_moved, holds_past, met_piece, moved_entered, piece_first, piece_last, reach_within, told_within}
 use Rattle.pieces.proofs.Meeting.{moved_level, on_ok_two}
 use Rattle.pieces.proofs.Played.{told_cause}
+use Rattle.pieces.proofs.Shifts.{high_from, high_to, room}
 use Rattle.pieces.proofs.window.rising.Goals as goal
 
 pub reached-requires-clause-from : goal.reached-requires-clause-from
@@ -36,7 +37,7 @@ reached-requires-clause-small g c =
 pub reached-requires-clause-to_within : goal.reached-requires-clause-to_within
 reached-requires-clause-to_within g c =
     let (chain, known) = c.requires.met in
-    subst (λ s. IsWithin (2 ^ 34) s.at) (sym known.to) known.can.limited.ends
+    known.within
 
 pub at_high-gap-requires-clause-small : goal.at_high-gap-requires-clause-small
 at_high-gap-requires-clause-small g c =
@@ -63,7 +64,7 @@ tell-requires-clause-order g c =
     let (chain, known) = c.requires.met in
     subst (λ s. AtMost s (place c.in-Some.next)) c.until.ensures.value
     (c.in-Some.ensures.on (subst (λ s. AtMost s (place c.args.way.now.to)) (sym c.until.ensures.value)
-    (subst (λ s. AtMost (stop c.args.window.now.out) s) (sym known.to) known.stands.upto)))
+    (λ t u. known.to t (known.stands.upto t u))))
 
 pub tell-requires-clause-from_within : goal.tell-requires-clause-from_within
 tell-requires-clause-from_within g c =
@@ -114,12 +115,14 @@ returns-in_err-tell-clause-wide g c chain known =
     let way = c.args.way.now in
     let next = place c.in-Some.next in
     let out = stop c.args.window.now.out in
-    let lasts : AtMost next (stop chain) = subst (λ x. AtMost next x) known.to c.in-Some.ensures.some.upto in
+    let lasts : AtMost next (stop chain) =
+    reach_within g.P.Shape chain way (end c.args.piece.now) next known.ahead c.in-Some.ensures.some in
     on_err_anyway c.from_residual.result (IfSome_then c.tell.new.fault c.in_err-tell.ensures.wide
-    (told_cause g.P.Shape chain way.over way.side c.at_high-gap.result next c.args.window.now known.plays (le_of_at_most chain.from out known.stands.on)
+    (told_cause g.P.Shape chain way.over (place way.to) way.side c.at_high-gap.result next c.args.window.now known.plays
+    (le_of_at_most chain.from out known.stands.on)
     (le_of_at_most next (stop chain) lasts)
     (rise_plays g.P.Shape chain way.over known.can.normal known.can.small known.some (place c.args.from.now) c.args.piece.now
-    known.piece out next (λ t a u. known.entered t a (lasts t u))
+    known.piece out next (λ t a u. known.entered t a (c.in-Some.ensures.some.upto t u))
     (λ t a u. c.in-Some.ensures.some.before t u)
     (g.P.Shape.function c.at_high-gap.result) c.at_high-gap.ensures.value)))
 
@@ -144,3 +147,9 @@ returns-in_default-clause-wide g c chain known =
 pub returns-in_default-clause-entered : goal.returns-in_default-clause-entered
 returns-in_default-clause-entered g c chain known = on_ok_weaker c.hold.result (λ still t a u. c.in_default.ensures.none refl t
     (subst (λ s. After s t) (sym c.until.ensures.value) (subst (λ o. After (stop o) t) c.hold.ensures.out a))) c.hold.ensures.still
+
+pub at_high-gap-requires-clause-room : goal.at_high-gap-requires-clause-room
+at_high-gap-requires-clause-room g c =
+    let (chain, known) = c.requires.met in
+    room (g.P.Shape.base c.args.piece.now.shape) c.args.way.now.over.high (known.can.near c.args.piece.now.shape known.piece.has)
+    (high_from c.args.way.now.over known.can.small) (high_to c.args.way.now.over known.can.small)

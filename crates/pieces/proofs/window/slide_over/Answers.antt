@@ -1,5 +1,6 @@
-use Rattle.std.proofs.Common.{arith, ◌≡◌, ◌+◌, suc, length, sym, ap, ◌∙◌, subst}
+use Rattle.std.proofs.Common.{inl, arith, ◌≡◌, ◌+◌, suc, length, sym, ap, ◌∙◌, subst}
 use Rattle.std.specs.Prelude.{IfSome, OnErr, OnOk}
+use Rattle.rational.specs.Places.{AtMost}
 use Rattle.frac128.specs.Cuts.{place}
 use Rattle.value_laws.specs.Members.{ShapeLaws}
 use Rattle.pieces.specs.Chains.{Tells, begin_at, end, stop}
@@ -7,6 +8,7 @@ use Rattle.pieces.specs.Meeting.{IsNext}
 use Rattle.pieces.specs.Over.{BasesOver, IsCauseOver}
 use Rattle.pieces.specs.Windows.{Best}
 use Rattle.pieces.proofs.Breakpoints.{breaks_at}
+use Rattle.pieces.proofs.Ends.{at_most_itself}
 use Rattle.pieces.proofs.OverWindow.{piece_from}
 use Rattle.pieces.proofs.Standing.{last_begin, next_begin}
 use Rattle.rational.proofs.Lists.{on_err_anyway}
@@ -15,13 +17,15 @@ use Rattle.pieces.proofs.window.slide_over.Goals.{After-loop-i, After-piece}
 use Rattle.pieces.proofs.window.slide_over.Goals as goal
 
 -- the next piece of the chain
-next : (g : Over) (c : After-piece g) → IsNext g.P.Shape c.args.s.now (place c.loop-i.window.met) c.piece.result.now
+next : (g : Over) (c : After-piece g) → IsNext g.P.Shape c.args.s.now c.loop-i.window.way (place c.loop-i.window.met) c.piece.result.now
 next g c =
     let s = c.args.s.now in
     let normal = c.loop-i.invariant.stands.met.can.normal in
-    subst (λ b. IsNext g.P.Shape s b c.piece.result.now) (sym c.loop-i.invariant.at) (record {
+    subst (λ b. IsNext g.P.Shape s c.loop-i.window.way b c.piece.result.now) (sym c.loop-i.invariant.at) (record {
       piece = piece_from g.P.Shape (assumption g.met.P.Shape) s c.loop-i.window.way normal c.loop-i.i c.piece.result.now c.piece.ensures;
       breaks = breaks_at g.P.Shape s c.loop-i.i c.piece.result.now normal c.piece.ensures;
+      ahead = inl (subst (λ e. AtMost (place c.loop-i.window.way.to) e) (ap (λ w. place w.to) c.loop-i.invariant.way ∙ c.requires.ends)
+          (at_most_itself (place c.loop-i.window.way.to)));
     })
 
 pub meet-requires-clause-next : goal.meet-requires-clause-next
@@ -47,26 +51,35 @@ all g c =
     let more = c.loop-i.auto.i-end in let none = c.loop-i-test.false in let count = c.len-i-end.ensures.value in omega arith in
     c.loop-i.invariant.at ∙ ap (λ n. begin_at chain.from chain.pieces n) last ∙ last_begin chain.from chain.pieces
 
+-- where its way ends
+at_stop : (g : Over) (c : After-loop-i g) → place c.loop-i.window.way.to ≡ stop c.args.s.now
+at_stop g c = ap (λ w. place w.to) c.loop-i.invariant.way ∙ c.requires.ends
+
 pub end-requires-clause-last : goal.end-requires-clause-last
-end-requires-clause-last g c = (c.args.s.now, c.loop-i.invariant.stands, all g (goal.at.end-requires-clause-last g c).After-loop-i)
+end-requires-clause-last g c =
+    let after = (goal.at.end-requires-clause-last g c).After-loop-i in
+    (c.args.s.now, c.loop-i.invariant.stands, all g after, at_stop g after)
 
 pub returns-clause-told : goal.returns-clause-told
 returns-clause-told g c =
     let s = c.args.s.now in
     subst (λ w. OnOk c.end.result (Tells g.P.Shape (Best g.P.Shape s w) s.from (stop s) c.end.new.self.sliding.out)) c.loop-i.invariant.way
-    (c.end.ensures.told s c.loop-i.invariant.stands (all g (goal.at.returns-clause-told g c).After-loop-i))
+    (c.end.ensures.told s c.loop-i.invariant.stands (all g (goal.at.returns-clause-told g c).After-loop-i)
+    (at_stop g (goal.at.returns-clause-told g c).After-loop-i))
 
 pub returns-clause-bases : goal.returns-clause-bases
 returns-clause-bases g c =
     let s = c.args.s.now in
     subst (λ w. OnOk c.end.result (BasesOver g.P.Shape s w.over c.end.new.self.sliding.out)) c.loop-i.invariant.way
-    (c.end.ensures.bases s c.loop-i.invariant.stands (all g (goal.at.returns-clause-bases g c).After-loop-i))
+    (c.end.ensures.bases s c.loop-i.invariant.stands (all g (goal.at.returns-clause-bases g c).After-loop-i)
+    (at_stop g (goal.at.returns-clause-bases g c).After-loop-i))
 
 pub returns-clause-wide : goal.returns-clause-wide
 returns-clause-wide g c =
     let s = c.args.s.now in
     subst (λ w. OnErr c.end.result (IfSome c.end.new.fault (IsCauseOver g.P.Shape s w.over))) c.loop-i.invariant.way
-    (c.end.ensures.wide s c.loop-i.invariant.stands (all g (goal.at.returns-clause-wide g c).After-loop-i))
+    (c.end.ensures.wide s c.loop-i.invariant.stands (all g (goal.at.returns-clause-wide g c).After-loop-i)
+    (at_stop g (goal.at.returns-clause-wide g c).After-loop-i))
 
 pub returns-in_err-meet-clause-wide : goal.returns-in_err-meet-clause-wide
 returns-in_err-meet-clause-wide g c =

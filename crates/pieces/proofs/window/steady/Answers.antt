@@ -23,6 +23,7 @@ use Rattle.pieces.proofs.Seeing.{steady_met}
 use Rattle.pieces.proofs.Moving.{falls_off, stands_counted, stands_left}
 use Rattle.pieces.proofs.Counted.{steady_plays}
 use Rattle.pieces.proofs.Played.{plays_counted}
+use Rattle.pieces.proofs.Shifts.{high_from, high_to, room}
 use Rattle.pieces.proofs.window.steady.Goals as goal
 
 pub count-requires-clause-from_within : goal.count-requires-clause-from_within
@@ -73,7 +74,7 @@ count-requires-clause-last g c =
         | inr h ↦ (let x = give_some g.P.Shape c.args.way.now.side at xs t k u in
             let s = known.stands.sees t x.0 (subst (λ b. StepsGive g.P.Shape c.args.way.now.side b xs t x.0)
             c.until-at.ensures.value x.1) in
-            absurd (c.requires.left.after t h (subst (λ b. Upto b t) (sym known.to) s.1)
+            absurd (c.requires.left.after t h s.1
             (before_trans (low t) (place c.args.from.now) (end c.args.piece.now) s.0 known.piece.order)))
       ]
     ]
@@ -86,7 +87,6 @@ returns-then-precedes g c chain known =
     let piece = c.args.piece.now in
     let old = c.args.window.now in
     let until = place c.args.until.now in
-    let lasts : AtMost until (stop chain) = λ t u. subst (λ b. Upto b t) known.to (c.requires.left.upto t u).1 in
     on_ok_weaker c.count.result (λ here.
     let counted : HasCounted g.P.Shape way.side (stop old.out) old.steps.items c.at_high-level.result until c.count.new.steps.items =
     subst (λ b. HasCounted g.P.Shape way.side b old.steps.items c.at_high-level.result until c.count.new.steps.items) c.until-at.ensures.value here in
@@ -96,14 +96,13 @@ returns-then-precedes g c chain known =
     (λ t a u. let seen = c.requires.left.upto t u in
     best_value (transᵉ (c.requires.trend t (add t (whole way.over.high))) (symᵉ (c.at_high-level.ensures.value t)))
     (steady_met g.P.Shape laws chain way known.can.normal known.some from piece known.piece t c.requires.trend
-    (known.entered t a (lasts t u)) seen.0 t))
-    (λ t u. ((c.requires.left.upto t u).0, lasts t u))
-    (λ t a u. c.requires.left.after t a (subst (λ b. Upto b t) (sym known.to) u)))
-    (plays_counted g.P.Shape chain way.over way.side old (record { out = old.out; steps = c.count.new.steps })
+    (known.entered t a seen.1) seen.0 t))
+    c.requires.left.upto c.requires.left.after)
+    (plays_counted g.P.Shape chain way.over (place way.to) way.side old (record { out = old.out; steps = c.count.new.steps })
     known.plays refl c.at_high-level.result until
     (λ m. let b = c.at_high-level.ensures.base m in (piece.shape, known.piece.has, b.0, inl b.1))
     (steady_plays g.P.Shape chain way.over known.can.normal known.can.small known.some from piece known.piece
-    (stop old.out) until known.breaks c.requires.trend (λ t a u. known.entered t a (lasts t u)) (λ t a u. (c.requires.left.upto t u).0)
+    (stop old.out) until known.breaks c.requires.trend (λ t a u. known.entered t a (c.requires.left.upto t u).1) (λ t a u. (c.requires.left.upto t u).0)
     (g.P.Shape.function c.at_high-level.result) c.at_high-level.ensures.value) counted)) c.count.ensures
 
 pub returns : goal.returns
@@ -115,5 +114,11 @@ returns g c chain known =
     (at_most_of_before (place c.args.from.now) (end c.args.piece.now) known.piece.order) refl refl e
     (λ t a. after_at_most e at t (at_most_of_not_before e at (λ b. false≢true (sym c.if-precedes.false ∙ c.precedes.ensures.1
     (subst (λ x. Before x e) (sym c.until-at.ensures.value) b)))) a)
-    (λ t a u. c.requires.left.after t a (subst (λ b. Upto b t) (sym known.to) u))
+    c.requires.left.after
     (at_most_of_before (place c.args.from.now) (end c.args.piece.now) known.piece.order)) known.plays
+
+pub at_high-level-requires-clause-room : goal.at_high-level-requires-clause-room
+at_high-level-requires-clause-room g c =
+    let (chain, known) = c.requires.met in
+    room (g.P.Shape.base c.args.piece.now.shape) c.args.way.now.over.high (known.can.near c.args.piece.now.shape known.piece.has)
+    (high_from c.args.way.now.over known.can.small) (high_to c.args.way.now.over known.can.small)

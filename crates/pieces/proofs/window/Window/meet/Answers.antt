@@ -25,7 +25,7 @@ left-until-requires-clause-small g c =
 pub left-until-requires-clause-to_within : goal.left-until-requires-clause-to_within
 left-until-requires-clause-to_within g c =
     let (s, st, next) = c.requires.next in
-    subst (λ x. IsWithin (2 ^ 34) x.at) (sym st.met.to) st.met.can.limited.ends
+    st.met.within
 
 pub pass-requires-clause-met : goal.pass-requires-clause-met
 pass-requires-clause-met g c =
@@ -42,7 +42,7 @@ returns-then-is_empty-clause-stands g c s st next =
     let laws : ShapeLaws g.P.Shape = assumption g.met.P.Shape in
     let empty = c.is_empty.ensures.empty c.if-is_empty.true in
     record {
-      met = met_blind laws (sees_nothing c.args.self.now.way.over empty) next.piece st.met;
+      met = met_blind laws (sees_nothing c.args.self.now.way.over empty) next st.met;
       ready = λ some. absurd (empty_or_some c.args.self.now.way.over empty some);
     }
 
