@@ -14,7 +14,8 @@ use Rattle.session_mux.specs.Sessions.{Tagged, IsTag}
 use Rattle.session_mux.specs.Tags.{number_of}
 use Rattle.session_mux.specs.Owning.{Own, own_of}
 use Rattle.session_mux.specs.Standing.{HasSaidSoFar}
-use Rattle.session_mux.specs.Knowing.{Register, shown, place_in, tags_of, tag_list, EachHasSaid, AreFound, IsSessionAt, Knows, HasBegun, IsNotBegun, IsTurnedAway, IsReady}
+use Rattle.session_mux.specs.Knowing.{Register, shown, place_in, tags_of, tag_list, EachHasSaid, AreFound, IsSessionAt, Knows}
+use Rattle.session_mux.specs.Knowing.{HasBegun, IsNotBegun, IsTurnedAway, IsReady}
 use Rattle.session_mux.specs.declared.fault.MuxFault.{MuxFault}
 use Rattle.session_mux.specs.declared.fault.MuxFault.TheVariants as fault
 use Rattle.session_mux.specs.declared.known.Known.{Known}

@@ -75,8 +75,8 @@ module _ (prefix text before rest mid now : List ℕ) (t : Putting prefix text b
   putting_on after next e more = record { front = t.front ++ done line ∷ []; split = all; added = all_said (after ++ next) e; begins = on_from after more }
 
   -- a part of one more
-  pub putting_cut : (after : List ℕ) → (left : List ℕ) × (after ++ left ≡ (mid ++ now) ++ (prefix ++ line ++ newline)) → (first : List ℕ) × (after ≡ mid ++ first)
-      → GrewInPart (Is (prefixed prefix (lines true text))) before after
+  pub putting_cut : (after : List ℕ) → (left : List ℕ) × (after ++ left ≡ (mid ++ now) ++ (prefix ++ line ++ newline))
+      → (first : List ℕ) × (after ≡ mid ++ first) → GrewInPart (Is (prefixed prefix (lines true text))) before after
   putting_cut after (left, e) more =
       let (first, k) = on_from after more in
       let whole : first ++ left ≡ prefixed prefix (t.front ++ done line ∷ []) =

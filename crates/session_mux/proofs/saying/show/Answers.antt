@@ -35,8 +35,8 @@ pub returns-in_err-put_line-clause-err : goal.returns-in_err-put_line-clause-err
 returns-in_err-put_line-clause-err c =
     on_err_anyway _ (shown_cut (c.args.tag.now ++ codes " ? ") c.args.out.now _ c.args.recent.now.items c.loop-place.place c.bytes-in-loop-place.result.now
     (sym c.in-Some.ensures ∙ ap Some (sym c.bytes-in-loop-place.ensures)) c.loop-place.invariant c.put_line.new.out
-    (subst (λ (t : List ℕ). GrewInPart (Is ((t ++ codes " ? ") ++ c.bytes-in-loop-place.result.now ++ newline)) c.loop-place.out c.put_line.new.out) c.bytes.ensures
-    c.in_err-put_line.ensures.err))
+    (subst (λ (t : List ℕ). GrewInPart (Is ((t ++ codes " ? ") ++ c.bytes-in-loop-place.result.now ++ newline)) c.loop-place.out c.put_line.new.out)
+    c.bytes.ensures c.in_err-put_line.ensures.err))
 
 pub loop-place-preserved : goal.loop-place-preserved
 loop-place-preserved c =

@@ -23,7 +23,8 @@ pub returns-in_err-say-in-Ok : goal.returns-in_err-say-in-Ok
 returns-in_err-say-in-Ok c = λ f o said content was recent going stands e.
     let p = err_from_is_err_and c.from_residual.result c.from_residual.ensures.1 in
     let mid = c.feed.new.self in
-    let alone = line_alone f c.args.tag.now o content said going mid (subst (λ w. IsLive WatchesRows verdicts mid (o.bytes ++ w) said) e (c.in-Ok.ensures.taken o.bytes said stands.stands))
+    let alone = line_alone f c.args.tag.now o content said going mid
+    (subst (λ w. IsLive WatchesRows verdicts mid (o.bytes ++ w) said) e (c.in-Ok.ensures.taken o.bytes said stands.stands))
     (c.in-Ok.ensures.formula ∙ stands.formula) (c.in-Ok.ensures.limits ∙ stands.limits) in
     let g : Grows f o (next_line o content) said mid.text = record { was = was; is = alone } in
     rw p.1 (cut_short g c.args.tag.now c.args.out.now c.say.new.out

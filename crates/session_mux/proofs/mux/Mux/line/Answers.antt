@@ -30,7 +30,8 @@ returns-clause-phase c =
     let x : Tagged = record { tag = c.in-Some.line.tag.now; content = c.in-Some.line.content.now } in
     line_moves p x c.args.content.now c.self.inside.known c.answer_line-outcome.new.self c.args.out.now c.answer_line-outcome.new.out
     c.self.inside.phase c.after_line-self-inside.result c.in_ok-allow.ensures s.knows
-    c.args.self.now c.self.view_is c.answer_line-outcome.result c.after_line-self-inside.ensures (c.answer_line-outcome.ensures.answered p.formula p.seen x s.knows refl)
+    c.args.self.now c.self.view_is c.answer_line-outcome.result c.after_line-self-inside.ensures
+    (c.answer_line-outcome.ensures.answered p.formula p.seen x s.knows refl)
 
 pub returns-clause-late : goal.returns-clause-late
 returns-clause-late c = λ late.

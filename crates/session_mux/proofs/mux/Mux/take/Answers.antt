@@ -39,7 +39,8 @@ returns-clause-phase c =
     let x : Tagged = record { tag = c.args.tag.now; content = content } in
     line_moves p x (x.tag ++ 32 ∷ x.content) c.self.inside.known c.answer-outcome.new.self c.args.out.now c.answer-outcome.new.out
     c.self.inside.phase c.after_line-self-inside.result c.in_ok-allow.ensures s.knows
-    c.args.self.now c.self.view_is c.answer-outcome.result c.after_line-self-inside.ensures (c.answer-outcome.ensures.answered p.formula p.seen x s.knows refl e)
+    c.args.self.now c.self.view_is c.answer-outcome.result c.after_line-self-inside.ensures
+    (c.answer-outcome.ensures.answered p.formula p.seen x s.knows refl e)
 
 pub returns-clause-late : goal.returns-clause-late
 returns-clause-late c = λ late.

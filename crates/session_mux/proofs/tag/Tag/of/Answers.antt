@@ -13,7 +13,8 @@ kept tag old mid new n m a b few room =
     let next : m ≡ n + 1 = b.size in
     let both : take (n + 1) new ≡ tag ++ codes " " = ap (λ k. take k new) (sym next) ∙ b.added ∙ ap (λ w. w ++ codes " ") is in
     let front : take n new ≡ tag =
-    sym (take-take n (n + 1) new (omega arith)) ∙ ap (take n) both ∙ take-append-le n tag (codes " ") (omega (arith, size)) ∙ take_all n tag (omega (arith, size)) in
+    sym (take-take n (n + 1) new (omega arith)) ∙ ap (take n) both ∙ take-append-le n tag (codes " ") (omega (arith, size))
+    ∙ take_all n tag (omega (arith, size)) in
     (omega (arith, size, few), front, both ∙ ap (λ w. w ++ codes " ") (sym front))
 
 pub invariant_of-result : goal.invariant_of-result
