@@ -7,8 +7,9 @@ use Rattle.stl_syntax.specs.Verdicts.{DescribesMargins}
 use Rattle.stl_syntax.specs.Texts.{start_line}
 use Rattle.stl_syntax.proofs.VerdictsLaw.{Describes-unique}
 use Rattle.stl_syntax.proofs.MarginsLaw.{DescribesMargins-unique}
-use Rattle.report.specs.Report.{Command, check, robust, explain, json, table, Out, nodes_for}
-use Rattle.report.proofs.OneText.{start_once}
+use Rattle.stl_syntax.specs.Scaling.{nodes_for}
+use Rattle.report.specs.Report.{Command, check, robust, explain, json, table, Out}
+use Rattle.answer_lines.proofs.OneText.{start_once}
 use Rattle.agreeing.specs.Contents.{Content, IsTextOf, JsonTellsAll, TableHasTheKnots}
 use Rattle.agreeing.proofs.AlikeTexts.{AllAlike, verdict_lines_alike, margin_lines_alike, table_alike, item_lines}
 

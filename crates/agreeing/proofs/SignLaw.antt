@@ -25,9 +25,9 @@ use Rattle.online_nodes.specs.Laws.{AreTold, AreTiles}
 use Rattle.online_nodes.proofs.StayLaw.{described}
 use Rattle.online_nodes.proofs.EmittedLaw.{describes_tiles}
 use Rattle.online_nodes.proofs.HeldLaw.{is_in}
-use Rattle.report.specs.Report.{nodes_for}
 use Rattle.agreeing.proofs.KnotsFrom.{TellFrom, go_on, all_tell, rise}
 use Rattle.agreeing.specs.Signs.{AgreeInSign, LinesAgreeInSign, RowsAgreeInSign, ReportsAgreeInSign}
+use Rattle.stl_syntax.specs.Scaling.{nodes_for}
 
 -- ---- verdicts
 

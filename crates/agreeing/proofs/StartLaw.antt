@@ -22,9 +22,9 @@ use Rattle.stl_syntax.specs.declared.items.Verdict.{Verdict}
 use Rattle.stl_syntax.proofs.LawProofs.{answers_stay, decisions_stay}
 use Rattle.stl_syntax.proofs.RowsLemmas.{first_to_last, last_time-push}
 use Rattle.values_exist.proofs.LawProofs.{truth_is_decided, rows_decide}
-use Rattle.report.specs.Report.{nodes_for}
-use Rattle.report.proofs.OneText.{start_once}
-use Rattle.report.proofs.Lines.{lines_join}
+use Rattle.stl_syntax.specs.Scaling.{nodes_for}
+use Rattle.answer_lines.proofs.OneText.{start_once}
+use Rattle.answer_lines.proofs.Lines.{lines_join}
 use Rattle.trace_stream.specs.Streams.{HoldsAtStart}
 use Rattle.agreeing.specs.Starts.{EndsWith, IsOneStart, OneStart, IsToldEarly, EarlyIsNoLater}
 

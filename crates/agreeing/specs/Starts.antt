@@ -7,7 +7,8 @@ use Rattle.stl_syntax.specs.Trace.{Header, Row, Trace, IsTrace, AreRows, row_tim
 use Rattle.stl_syntax.specs.Texts.{IsNumberText, AreVerdictLines, newline, start_line}
 use Rattle.stl_syntax.specs.declared.items.Verdict.{Verdict}
 use Rattle.trace_stream.specs.Streams.{verdicts, early, StreamText, HoldsAtStart}
-use Rattle.report.specs.Report.{check, explain, json, Out, nodes_for}
+use Rattle.stl_syntax.specs.Scaling.{nodes_for}
+use Rattle.report.specs.Report.{check, explain, json, Out}
 use Rattle.agreeing.specs.Contents.{Content, IsTextOf}
 
 -- the text ends with these bytes; it begins with them

@@ -9,7 +9,7 @@ use Rattle.stl_syntax.specs.WideCause.{IsCrossingCause, IsValueCause}
 use Rattle.trace_stream.specs.CaseReader.{IsWhole}
 use Rattle.trace_stream.specs.Streams.{margins, HasStream, limits_of}
 use Rattle.trace_stream.specs.Wides.{IsWideRows, IsWideStream}
-use Rattle.report.specs.Report.{nodes_for}
+use Rattle.stl_syntax.specs.Scaling.{nodes_for}
 
 -- over the whole trace a pair of functions, or a constant, that is in play at node i needs this denominator
 abbrev pub HasCause : Formula → Trace → ℕ → ℕ → Type 0

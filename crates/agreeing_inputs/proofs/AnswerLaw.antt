@@ -10,8 +10,9 @@ use Rattle.values_exist.proofs.LawProofs.{truth_is_decided}
 use Rattle.trace_reader.specs.TraceText.{IsTraceText}
 use Rattle.trace_reader.proofs.TraceRefusalLaw.{Trace-unique}
 use Rattle.trace_stream.specs.CaseReader.{IsWhole}
-use Rattle.report.specs.Report.{Command, check, robust, explain, json, table, Out, nodes_for}
-use Rattle.report.proofs.OneText.{start_once}
+use Rattle.stl_syntax.specs.Scaling.{nodes_for}
+use Rattle.report.specs.Report.{Command, check, robust, explain, json, table, Out}
+use Rattle.answer_lines.proofs.OneText.{start_once}
 use Rattle.stl_syntax.specs.declared.items.Verdict.{Verdict}
 use Rattle.agreeing.specs.Contents.{Content, IsVerdictText, IsTextOf, IsContentOf}
 use Rattle.agreeing.specs.Joined.{AreJoined}

@@ -5,7 +5,7 @@ use Rattle.stl_syntax.specs.Texts.{newline}
 use Rattle.stl_grammar.specs.declared.fault.What.{What}
 use Rattle.stl_grammar.specs.declared.fault.FormulaFault.TheVariants.{Expected, ConstantTooLarge}
 use Rattle.command_line.specs.ErrTexts.{what_text, formula_fault_text, not_streamed_text, wide_text}
-use Rattle.report.proofs.FaultLines.{at_once}
+use Rattle.answer_lines.proofs.FaultLines.{at_once}
 
 with_tail : (a x d t f : List ℕ) → (a ++ ((x ++ d) ++ t)) ++ f ≡ a ++ (x ++ (d ++ (t ++ f)))
 with_tail a x d t f = simp append_assoc

@@ -5,7 +5,7 @@ use Rattle.stl_grammar.specs.declared.fault.What.{What}
 use Rattle.stl_grammar.specs.declared.fault.What.TheVariants.{Operand, Number, Comma, Bracket, Star, Name, Term, Relation, Constant, Paren, End}
 use Rattle.stl_grammar.specs.declared.fault.FormulaFault.{FormulaFault}
 use Rattle.stl_grammar.specs.declared.fault.FormulaFault.TheVariants as formula
-pub use Rattle.report.specs.FaultTexts.{out_of_memory, in_line, in_field, kind_text, trace_fault_text, unknown_text, unit_fault_text}
+pub use Rattle.answer_lines.specs.FaultTexts.{out_of_memory, in_line, in_field, kind_text, trace_fault_text, unknown_text, unit_fault_text}
 
 -- what is expected, in words
 abbrev pub what_text : What → List ℕ

@@ -12,5 +12,7 @@ pub use line::say;
 pub use output::{write_all, write_left};
 pub use refusal::refuse;
 pub use request::{Command, Mode, Task, Workload, asked, workload_of};
-pub use texts::{no_form_line, no_memory_line, not_streamed_line, read_fault_line};
-pub use texts::{too_many_cells_line, wide_line, write_fault_line};
+pub use texts::{
+    no_form_line, no_memory_line, not_streamed_line, read_fault_line, too_many_cells_line,
+    wide_line, write_fault_line,
+};

@@ -1,15 +1,15 @@
 //! A line for the error stream, written at once and without taking memory.
 ghost use Rattle.std.specs.Prelude.{◌≡◌, ◌≤◌, ◌++◌, decimal, OnOk};
 ghost use Rattle.io_edge.specs.Causes.{HasCause};
-ghost use Rattle.report.specs.Lines.{line_text, number_text, detail_text};
+ghost use Rattle.answer_lines.specs.Lines.{line_text, number_text, detail_text};
 ghost use Rattle.command_line.specs.Saying.{IsSaid};
 ghost use Rattle.command_line.specs.Writing.{IsWritten};
 
 use crate::output::write_all;
+use answer_lines::{Detail, Line};
 use arrayvec::{ArrayVec, CapacityError};
 use io_edge::{Failed, Sink};
 use itoa::Buffer;
-use report::{Detail, Line};
 
 /// Room for the longest line: that of a column whose name is as long as a formula's text may be.
 type Whole = ArrayVec<u8, 8_256>;

@@ -3,8 +3,8 @@ ghost use Rattle.std.specs.Prelude.{◌++◌, ℕ, List, Option};
 ghost use Rattle.io_edge.specs.Causes.{HasCause};
 ghost use Rattle.command_line.specs.Writing.{IsWritten};
 
+use answer_lines::{LineRoom, LinesLeft};
 use io_edge::{Failed, Sink};
-use report::{LineRoom, LinesLeft};
 
 /// Writes all of the text.
 ///

@@ -4,9 +4,9 @@ ghost use Rattle.stl_syntax.specs.Texts.{newline};
 ghost use Rattle.command_line.specs.ErrTexts.{formula_fault_text, not_streamed_text, what_text, wide_text, too_many_cells_text};
 ghost use Rattle.command_line.specs.ErrTexts.{out_of_memory, read_fault, write_fault};
 ghost use Rattle.command_line.specs.Words.{usage_line};
-ghost use Rattle.report.specs.Lines.{line_text};
+ghost use Rattle.answer_lines.specs.Lines.{line_text};
 
-use report::{Detail, Line};
+use answer_lines::{Detail, Line};
 use stl_grammar::{FormulaFault, What};
 
 /// The line where memory was wanting.

@@ -15,8 +15,8 @@ use Rattle.early_verdict.specs.Deciding.{IsAnswer, IsBlockAnswer, IsTruthAtStart
 use Rattle.early_verdict.specs.declared.early.Decided.{Decided}
 use Rattle.early_verdict.proofs.DecideLemmas.{none_more, none_first}
 use Rattle.early_verdict.proofs.RowLemmas.{last_is}
-use Rattle.report.specs.Appended.{Grew}
-use Rattle.report.specs.EarlyLines.{IsDecidedLine}
+use Rattle.answer_lines.specs.Appended.{Grew}
+use Rattle.answer_lines.specs.EarlyLines.{IsDecidedLine}
 use Rattle.trace_stream.specs.Cases.{IsCase, with_row}
 use Rattle.trace_stream.specs.Kept.{with_rows}
 use Rattle.trace_stream.specs.Streams.{early, status_of_truth}

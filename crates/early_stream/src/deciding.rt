@@ -1,12 +1,12 @@
 //! `early`: the verdict at the start, at the first row that settles it.
 ghost use Rattle.std.specs.Prelude.{◌≡◌, ◌≤◌, ◌++◌, codes, true, false, MatchOption, OnOk};
 ghost use Rattle.stl_syntax.specs.Texts.{newline, start_line};
-ghost use Rattle.report.specs.Appended.{Grew};
+ghost use Rattle.answer_lines.specs.Appended.{Grew};
 ghost use Rattle.early_stream.specs.EarlyLines.{AreDecidedLines};
 
+use answer_lines::{put_decided, put_start};
 use early_verdict::{Decided, Early};
 use frac128::Memory;
-use report::{put_decided, put_start};
 use std::alloc::Global;
 use stl_syntax::{Scale, Text};
 use trace_reader::{Row, Rows};

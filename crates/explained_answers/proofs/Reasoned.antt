@@ -18,8 +18,9 @@ use Rattle.implicants.specs.declared.explaining.ExplainFault.{ExplainFault}
 use Rattle.implicants.specs.declared.explaining.ExplainFault.TheVariants as F
 use Rattle.implicants.proofs.Counting.{too_many_is_more}
 use Rattle.implicants.proofs.OfAtoms.{OfAtom, kept_of_atoms}
+use Rattle.stl_syntax.specs.Scaling.{nodes_for}
 use Rattle.report.specs.ItemLines.{IsOfAtom}
-use Rattle.report.specs.Report.{explain, nodes_for, AreItemLines}
+use Rattle.report.specs.Report.{explain, AreItemLines}
 use Rattle.trace_stream.specs.declared.case.Case.{Case}
 use Rattle.trace_stream.specs.Cases.{IsCase}
 use Rattle.whole_answers.specs.Judging.{IsUnexplained}

@@ -8,8 +8,8 @@ use Rattle.implicants.specs.Explaining.{IsExplained}
 use Rattle.implicants.specs.declared.explaining.Explained.{Explained}
 use Rattle.implicants.specs.declared.explaining.Explained.TheVariants.{Holds, Violated}
 use Rattle.implicants.proofs.OneExplanation.{one_is_enough, kept_refutes}
-use Rattle.report.specs.Report.{nodes_for}
 use Rattle.whole_answers.specs.Judging.{KeptRefute}
+use Rattle.stl_syntax.specs.Scaling.{nodes_for}
 
 -- what is kept of a violation refutes the formula, since the answer does
 pub kept_refute : (f : Formula) (tr : Trace) (steps : ℕ) (e : Explained) → IsPostOrder (nodes_for f tr)

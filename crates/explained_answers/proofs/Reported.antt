@@ -27,8 +27,9 @@ use Rattle.stl_syntax.proofs.LawProofs.{margins_hold}
 use Rattle.implicants.specs.Explaining.{IsExplained}
 use Rattle.implicants.specs.declared.explaining.Explained.{Explained}
 use Rattle.implicants.specs.declared.explaining.Explained.TheVariants.{Holds, Violated}
+use Rattle.stl_syntax.specs.Scaling.{nodes_for}
 use Rattle.report.specs.Json.{IsReportData}
-use Rattle.report.specs.Report.{explain, robust, json, nodes_for, IsItemLines}
+use Rattle.report.specs.Report.{explain, robust, json, IsItemLines}
 use Rattle.report.specs.ReportText.{IsReportText}
 use Rattle.report.specs.SignalVerdicts.{sign_of}
 use Rattle.report.proofs.MarginLaw.{knots_describe}

@@ -8,9 +8,10 @@ ghost use Rattle.trace_stream.specs.Cases.{IsCase};
 ghost use Rattle.explained_answers.specs.Reasons.{items_of, IsReasonText, stop_of_explaining};
 ghost use Rattle.whole_answers.specs.Judging.{IsAnswerOf, IsUnanswered};
 
+use answer_lines::put_start;
 use frac128::{Memory, Steps};
 use implicants::{ExplainFault, Explained, explain};
-use report::{put_items, put_start};
+use report::put_items;
 use std::alloc::Global;
 use std::marker::Brand;
 use std::sync::ledger::{Blank, Ledger};

@@ -32,7 +32,7 @@ use Rattle.margin_stream.specs.Margining.{past_of, denominator_of, fault_of, Giv
 use Rattle.trace_stream.specs.declared.case.Case.{Case}
 use Rattle.trace_stream.specs.declared.follow.FollowFault.{FollowFault}
 use Rattle.trace_stream.specs.declared.follow.FollowFault.TheVariants as F
-use Rattle.report.specs.declared.last_part.LastPart.{LastPart}
+use Rattle.answer_lines.specs.declared.last_part.LastPart.{LastPart}
 use Rattle.margin_stream.specs.declared.margins.Margins.{Margins}
 
 -- ---- rows

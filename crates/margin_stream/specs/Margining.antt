@@ -12,7 +12,7 @@ use Rattle.online_robust.specs.Pasts.{Past, part_of}
 use Rattle.online_robust.specs.declared.line.MarginLine.{MarginLine}
 use Rattle.online_robust.specs.declared.net.RobustFault.{RobustFault}
 use Rattle.online_robust.specs.declared.net.RobustFault.TheVariants as R
-use Rattle.report.specs.Appended.{Grew}
+use Rattle.answer_lines.specs.Appended.{Grew}
 use Rattle.trace_stream.specs.declared.case.Case.{Case}
 use Rattle.trace_stream.specs.declared.follow.FollowFault.{FollowFault}
 use Rattle.trace_stream.specs.declared.follow.FollowFault.TheVariants.{Memory, Wide}

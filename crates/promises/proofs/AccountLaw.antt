@@ -9,7 +9,8 @@ use Rattle.stl_syntax.specs.Kept.{Kept}
 use Rattle.stl_syntax.specs.Texts.{start_line}
 use Rattle.stl_syntax.specs.declared.items.Item.{Item}
 use Rattle.implicants.proofs.KeptCells.{kept_is_needed, certainty_grows}
-use Rattle.report.specs.Report.{explain, json, IsExplained as Described, IsItemLines, AreItemLines, nodes_for}
+use Rattle.stl_syntax.specs.Scaling.{nodes_for}
+use Rattle.report.specs.Report.{explain, json, IsExplained as Described, IsItemLines, AreItemLines}
 use Rattle.report.proofs.JoinedTimes.{SayMore, joined_say, line_without}
 use Rattle.report.proofs.JoinedCells.{cover_as, so_as}
 use Rattle.trace_stream.specs.Streams.{HoldsAtStart}

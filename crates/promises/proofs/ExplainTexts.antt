@@ -24,8 +24,9 @@ use Rattle.implicants.specs.Keeping.{CoverMore}
 use Rattle.implicants.proofs.Counting.{cuts_are_same}
 use Rattle.implicants.proofs.Growing.{must_not}
 use Rattle.implicants.proofs.OneExplanation.{AreAlike, AreAllAlike, alike_sym, alike_trans, in_alike, same_cells}
-use Rattle.report.specs.Report.{explain, Join, AreJoined, IsItemLines, AreItemLines, IsExplained, Out, nodes_for}
-use Rattle.report.proofs.OneText.{span_once, start_once}
+use Rattle.stl_syntax.specs.Scaling.{nodes_for}
+use Rattle.report.specs.Report.{explain, Join, AreJoined, IsItemLines, AreItemLines, IsExplained, Out}
+use Rattle.answer_lines.proofs.OneText.{span_once, start_once}
 
 -- items of one node and truth on spans that are alike
 pub record AreSame (e g : Item) : Type 0 where

@@ -21,9 +21,10 @@ use Rattle.stl_syntax.proofs.VerdictsLaw.{Describes-unique}
 use Rattle.stl_syntax.proofs.MarginsLaw.{DescribesMargins-unique}
 use Rattle.serde_json.specs.Data.{Data, boolean, string, array, object, Items, item, no_members, member}
 use Rattle.serde_json.specs.Written.{compact_text}
+use Rattle.stl_syntax.specs.Scaling.{nodes_for}
 use Rattle.report.specs.Json.{AreVerdictData, AreItemData, IsKnotData, IsPieceData, ArePieceData, AreMarginData, IsReportData}
-use Rattle.report.specs.Report.{json, Out, nodes_for}
-use Rattle.report.proofs.OneText.{number_once, span_once, value_once}
+use Rattle.report.specs.Report.{json, Out}
+use Rattle.answer_lines.proofs.OneText.{number_once, span_once, value_once}
 use Rattle.promises.proofs.ExplainTexts.{AreAllSame, explained_same}
 
 verdicts_data : (scale : Scale) (vs ws : List Verdict) (xs ys : Items) → AreAlike vs ws → AreVerdictData scale vs xs → AreVerdictData scale ws ys → xs ≡ ys

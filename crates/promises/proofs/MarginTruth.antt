@@ -14,7 +14,8 @@ use Rattle.stl_syntax.specs.Knots.{Knot, Piece, Knots, IsInside, ReadsFrom, Read
 use Rattle.stl_syntax.specs.SupInf.{Robustness, margin_setting}
 use Rattle.stl_syntax.specs.Verdicts.{IsRobust, IsRobustInside, PiecesGoOn, TellsAfter, DescribesMargins}
 use Rattle.stl_syntax.proofs.LawProofs.{values_are_of_times}
-use Rattle.report.specs.Report.{Command, robust, json, table, nodes_for}
+use Rattle.stl_syntax.specs.Scaling.{nodes_for}
+use Rattle.report.specs.Report.{Command, robust, json, table}
 use Rattle.workbench.specs.Ended.{TellTruth, IsAnsweredWhole}
 use Rattle.promises.specs.Measured.{IsBelowSize, AreTrueKnots, HasKnots, IsMeasured}
 use Rattle.workbench.specs.InputFaults.{whole_limits}

@@ -10,13 +10,14 @@ use Rattle.stl_syntax.specs.Trace.{Trace}
 use Rattle.stl_syntax.proofs.VerdictsLaw.{Describes-unique}
 use Rattle.stl_syntax.proofs.MarginsLaw.{DescribesMargins-unique}
 use Rattle.trace_reader.proofs.TraceRefusalLaw.{Trace-unique}
-use Rattle.report.specs.Report.{Command, check, robust, explain, json, table, Out, nodes_for}
+use Rattle.stl_syntax.specs.Scaling.{nodes_for}
+use Rattle.report.specs.Report.{Command, check, robust, explain, json, table, Out}
 use Rattle.report.specs.Table.{AreRecords, heading}
-use Rattle.report.proofs.StreamTexts.{IsLonger}
+use Rattle.answer_lines.proofs.StreamTexts.{IsLonger}
 use Rattle.trace_stream.proofs.OwedRows.{stream_owed_once, stream_owed_grows}
 use Rattle.trace_stream.proofs.WideTexts.{AreFirst, wide_text_of_all}
 use Rattle.session_mux.proofs.OwedLines.{lines_owed_once, lines_owed_grow}
-use Rattle.report.proofs.OneText.{number_once, value_once, verdicts_once, start_once, margins_once}
+use Rattle.answer_lines.proofs.OneText.{number_once, value_once, verdicts_once, start_once, margins_once}
 use Rattle.promises.proofs.ExplainTexts.{explain_once}
 use Rattle.promises.proofs.JsonTexts.{json_once}
 use Rattle.workbench.specs.Requests.{Stream, verdicts, early, margins, stream, sessions}

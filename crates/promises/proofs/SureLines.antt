@@ -20,8 +20,8 @@ use Rattle.online_nodes.specs.Laws.{AreTold, AreTiles, answered_to}
 use Rattle.online_nodes.proofs.StayLaw.{Agree, AgreeOn, described, told_append}
 use Rattle.online_nodes.proofs.Writing.{same_itself}
 use Rattle.online_nodes.proofs.EmittedLaw.{describes_tiles, tiles_append}
-use Rattle.report.specs.Report.{nodes_for}
-use Rattle.report.proofs.Lines.{lines_join}
+use Rattle.stl_syntax.specs.Scaling.{nodes_for}
+use Rattle.answer_lines.proofs.Lines.{lines_join}
 use Rattle.workbench.specs.Requests.{verdicts}
 use Rattle.workbench.specs.Ended.{IsAnsweredByRow}
 use Rattle.promises.specs.SureLines.{AreSure, AreSureByRow, AreSureToEnd, IsCoverText, TellAlike, IsWatchText}

@@ -20,13 +20,13 @@ use Rattle.stl_syntax.proofs.LawProofs.{answered_margins_stay, values_are_of_tim
 use Rattle.stl_syntax.proofs.SupInfLemmas.{SupInf-unique, margins_give_one}
 use Rattle.online_nodes.specs.MarginEdges.{Part, point, gap, parts_after, parts_of}
 use Rattle.online_nodes.specs.MarginStream.{TellsLeftOpen, IsNewMargins, IsMarginStream}
-use Rattle.report.specs.Report.{nodes_for}
 use Rattle.workbench.specs.Requests.{margins}
 use Rattle.workbench.specs.Ended.{IsAnsweredByRow}
 use Rattle.promises.specs.SureMargins.{ArePartLines, IsTruePart, AreTrueParts, AreSureMargins, AreSureMarginsByRow}
 use Rattle.promises.specs.SureMargins.{AreSureMarginsToEnd, AreInTurn, CoverParts, IsMarginCover, ReadsPart, IsMarginText}
 use Rattle.promises.proofs.MarginTruth.{one_inside, reads}
 use Rattle.promises.proofs.SureRows.{Low, Lines, IsKind, sure_by_row, sure_at_end, whole_passage}
+use Rattle.stl_syntax.specs.Scaling.{nodes_for}
 
 -- ---- the parts of knots
 

@@ -10,8 +10,9 @@ use Rattle.stl_syntax.specs.declared.items.Item.{Item}
 use Rattle.stl_syntax.specs.declared.items.Verdict.{Verdict}
 use Rattle.serde_json.specs.Data.{Data}
 use Rattle.serde_json.specs.Written.{compact_text}
+use Rattle.stl_syntax.specs.Scaling.{nodes_for}
 use Rattle.report.specs.Json.{IsReportData}
-use Rattle.report.specs.Report.{IsItemLines, AreItemLines, nodes_for}
+use Rattle.report.specs.Report.{IsItemLines, AreItemLines}
 use Rattle.trace_stream.specs.Streams.{HoldsAtStart}
 use Rattle.workbench.specs.InputFaults.{whole_limits}
 use Rattle.trace_stream.specs.CaseReader.{IsWhole}

@@ -14,9 +14,10 @@ use Rattle.stl_syntax.specs.declared.items.Verdict.{Verdict}
 use Rattle.stl_syntax.specs.declared.items.Item.{Item}
 use Rattle.serde_json.specs.Data.{Data}
 use Rattle.serde_json.specs.Written.{compact_text}
+use Rattle.stl_syntax.specs.Scaling.{nodes_for}
 use Rattle.report.specs.Json.{IsReportData}
 use Rattle.report.specs.Table.{IsTableText}
-use Rattle.report.specs.Report.{Command, robust, json, table, nodes_for}
+use Rattle.report.specs.Report.{Command, robust, json, table}
 use Rattle.workbench.specs.InputFaults.{whole_limits}
 use Rattle.trace_stream.specs.CaseReader.{IsWhole}
 

@@ -9,10 +9,10 @@ use Rattle.stl_syntax.specs.Texts.{AreVerdictLines, IsStartLine}
 use Rattle.stl_syntax.specs.declared.items.Verdict.{Verdict}
 use Rattle.rational.specs.Places.{begins, ends}
 use Rattle.online_nodes.specs.Laws.{AreTold, AreTiles}
-use Rattle.report.specs.Report.{nodes_for}
 use Rattle.workbench.specs.InputFaults.{stream_limits}
 use Rattle.trace_stream.specs.CaseReader.{IsWhole}
 use Rattle.promises.specs.SureRows.{AreByRow}
+use Rattle.stl_syntax.specs.Scaling.{nodes_for}
 
 -- the text is the lines of verdicts, each of which is the truth at each time of its span in every trace that goes on from the rows
 pub record AreSure (p : Subformula) (header : Header) (rows : List Row) (ended : Bool) (text : List ℕ) : Type 0 where

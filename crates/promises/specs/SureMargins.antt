@@ -8,10 +8,10 @@ use Rattle.stl_syntax.specs.Knots.{Knots, IsInside, Reads}
 use Rattle.stl_syntax.specs.Verdicts.{IsRobust, IsRobustInside, DescribesMargins}
 use Rattle.stl_syntax.specs.declared.scale.Scale.{Scale}
 use Rattle.online_nodes.specs.MarginEdges.{Part, point, gap, IsPartLine}
-use Rattle.report.specs.Report.{nodes_for}
 use Rattle.workbench.specs.InputFaults.{stream_limits}
 use Rattle.trace_stream.specs.CaseReader.{IsWhole}
 use Rattle.promises.specs.SureRows.{AreByRow}
+use Rattle.stl_syntax.specs.Scaling.{nodes_for}
 
 -- the lines of the parts in order
 abbrev pub ArePartLines : Scale → List Part → List ℕ → Type 0

@@ -9,7 +9,7 @@ use Rattle.serde_json.specs.declared.value.Value.{Value}
 use Rattle.stl_syntax.specs.declared.scale.Scale.{Scale}
 use Rattle.report.specs.Blocks.{after_commas, AreStepForms, IsStepForm, IsStepData}
 use Rattle.report.specs.JsonTexts.{IsStepEntry}
-use Rattle.report.specs.Steps.{Step}
+use Rattle.answer_lines.specs.Steps.{Step}
 
 -- ---- their texts
 

@@ -21,8 +21,8 @@ use Rattle.stl_syntax.specs.declared.node.Node.TheVariants.{Atom as Leaf}
 use Rattle.stl_syntax.specs.Print.{IsAtomText}
 use Rattle.report.specs.ItemLines.{IsOfAtom, IsItemLine, AreItemsText}
 use Rattle.report.specs.Report.{Join, AreJoined, AreItemLines}
-use Rattle.report.proofs.Lines.{number_exists}
-use Rattle.report.proofs.Spans.{span_text}
+use Rattle.answer_lines.proofs.Lines.{number_exists}
+use Rattle.answer_lines.proofs.Spans.{span_text}
 
 -- it is so, or it is not
 abbrev pub Decided : Type 0 → Type 0

@@ -13,10 +13,10 @@ use Rattle.stl_syntax.specs.Texts.{bool_text}
 use Rattle.stl_syntax.specs.declared.scale.Scale.{Scale}
 use Rattle.stl_syntax.specs.declared.items.Verdict.{Verdict}
 use Rattle.stl_syntax.specs.declared.items.Item.{Item}
-use Rattle.report.specs.Appended.{AreEach, Then}
+use Rattle.answer_lines.specs.Appended.{AreEach, Then}
 use Rattle.report.specs.Json.{AreVerdictData, AreItemData, ArePieceData, AreMarginData}
 use Rattle.report.specs.JsonTexts.{IsItemEntry, IsStepEntry, AreMarginEntries, margins_data, start_data, EndsWithList, IsOpened, IsOpening}
-use Rattle.report.specs.Steps.{steps_from}
+use Rattle.answer_lines.specs.Steps.{steps_from}
 use Rattle.report.specs.VerdictForms.{IsEntry}
 
 -- ---- what stands around the lists

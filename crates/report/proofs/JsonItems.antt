@@ -8,15 +8,15 @@ use Rattle.stl_syntax.specs.declared.scale.Scale.{Scale}
 use Rattle.stl_syntax.specs.declared.items.Item.{Item}
 use Rattle.serde_json.specs.Data.{no_items, item}
 use Rattle.serde_json.specs.Written.{compact_text}
-use Rattle.report.specs.Appended.{Grew, GrewInPart, AreEach, Then, Is}
+use Rattle.answer_lines.specs.Appended.{Grew, GrewInPart, AreEach, Then, Is}
 use Rattle.report.specs.ItemLines.{IsOfAtom, IsFirstLine}
 use Rattle.report.specs.JsonTexts.{IsItemEntry, AreLaterEntries, AreItemEntries}
 use Rattle.report.specs.Report.{IsItemLines, AreItemLines}
-use Rattle.report.proofs.Growths as growth
+use Rattle.answer_lines.proofs.Growths as growth
 use Rattle.report.proofs.ItemTexts.{items_exist}
 use Rattle.report.proofs.JsonData.{item_data, later_data}
 use Rattle.report.proofs.JsonParts.{item_entry_exists}
-use Rattle.report.proofs.Sequences.{each_join, each_one, each_grow}
+use Rattle.answer_lines.proofs.Sequences.{each_join, each_one, each_grow}
 
 -- ---- a list of items
 

@@ -12,22 +12,19 @@ use Rattle.stl_syntax.specs.Printing.{atom_text, printed}
 use Rattle.stl_syntax.proofs.PrintedText.{atom_is, printed_formula}
 use Rattle.stl_syntax.specs.declared.scale.Scale.{Scale}
 use Rattle.stl_syntax.specs.declared.items.Item.{Item}
-use Rattle.report.specs.Appended.{AreEach, Then, Is}
+use Rattle.answer_lines.specs.Appended.{AreEach, Then, Is}
 use Rattle.report.specs.ItemLines.{IsOfAtom}
 use Rattle.report.specs.JsonTexts.{IsItemEntry, IsKnotEntry, IsPieceEntry, IsStepEntry, AreMarginEntries}
 use Rattle.report.specs.JsonTexts.{margins_data, start_data, EndsWithList, IsOpened, IsOpening}
-use Rattle.report.specs.Steps.{Step, steps_of}
-use Rattle.report.proofs.Growths as growth
-use Rattle.report.proofs.Growths.{some_then}
+use Rattle.answer_lines.specs.Steps.{Step, steps_of}
+use Rattle.answer_lines.proofs.Growths as growth
+use Rattle.answer_lines.proofs.Growths.{word_exists}
+use Rattle.answer_lines.proofs.Growths.{some_then}
 use Rattle.report.proofs.ItemTexts.{span_exists}
 use Rattle.report.proofs.JsonData.{head_value, head_front, head_ends, margins_end, start_front, start_ends}
-use Rattle.report.proofs.Lines.{number_exists}
-use Rattle.report.proofs.MarginTexts.{value_exists}
-use Rattle.report.proofs.Sequences.{each_exist}
-
--- these bytes
-pub word_exists : (word : List ℕ) → growth.Some (Is word)
-word_exists word = (word, refl)
+use Rattle.answer_lines.proofs.Lines.{number_exists}
+use Rattle.answer_lines.proofs.MarginTexts.{value_exists}
+use Rattle.answer_lines.proofs.Sequences.{each_exist}
 
 -- the first of the plain knots
 pub first_is : {P : Type 0} (shape : ShapeOf P) (ks : List (SignalKnot P)) (k : SignalKnot P) → slice_get ks 0 ≡ Some k

@@ -12,7 +12,7 @@ use Rattle.stl_syntax.specs.Formula.{Formula}
 use Rattle.stl_syntax.specs.Texts.{newline}
 use Rattle.stl_syntax.specs.declared.scale.Scale.{Scale}
 use Rattle.stl_syntax.specs.declared.items.Item.{Item}
-use Rattle.report.specs.Appended.{Then, Is}
+use Rattle.answer_lines.specs.Appended.{Then, Is}
 use Rattle.report.specs.ItemLines.{IsOfAtom}
 use Rattle.report.specs.JsonTexts.{AreItemEntries, AreMarginEntries, IsOpened, IsOpening, margins_data, start_data, HeadParts}
 use Rattle.report.specs.ReportText.{IsReportText, TailParts}
@@ -20,12 +20,13 @@ use Rattle.report.specs.SignalVerdicts.{sign_of}
 use Rattle.report.specs.VerdictForms.{AreEntries}
 use Rattle.report.specs.declared.spelling.OpenSpan.{OpenSpan}
 use Rattle.report.proofs.Advances.{spelled_start, told_to_end}
-use Rattle.report.proofs.Growths as growth
-use Rattle.report.proofs.Growths.{some_then}
+use Rattle.answer_lines.proofs.Growths as growth
+use Rattle.answer_lines.proofs.Growths.{some_then}
 use Rattle.report.proofs.JsonData.{json_string, start_member, report_value, report_text, opening_is, margins_opened, start_opened, margins_items, verdicts_data}
 use Rattle.report.proofs.JsonItems.{list_exists}
-use Rattle.report.proofs.JsonParts.{word_exists, margin_entries_exist, opening_exists, margins_open, start_opens}
-use Rattle.report.proofs.Lines.{entries_text}
+use Rattle.report.proofs.JsonParts.{margin_entries_exist, opening_exists, margins_open, start_opens}
+use Rattle.answer_lines.proofs.Growths.{word_exists}
+use Rattle.report.proofs.Entries.{entries_text}
 
 -- a report up to its items, and with them, has a text
 pub head_exists : (scale : Scale) (f : Formula) (items : List Item) → All (IsOfAtom f) items → growth.Some (HeadParts scale f items)

@@ -6,7 +6,7 @@ use Rattle.rational.specs.Knots.{last_knot}
 use Rattle.value_laws.specs.Members.{ShapeOf}
 use Rattle.pl_signal.specs.declared.knot.Knot.{Knot}
 use Rattle.pl_signal.specs.Plain.{plain_knot, plain_piece, knots_of}
-use Rattle.report.specs.Steps.{step, steps_of}
+use Rattle.answer_lines.specs.Steps.{step, steps_of}
 
 module _ {P : Type 0} (shape : ShapeOf P) where
   -- the step at a place is that of the knots there

@@ -1,7 +1,7 @@
 -- Texts that were gathered in a room and made strings.
 use Rattle.std.proofs.Common.{◌≡◌, ℕ, List, [], ◌++◌, ap, ◌∙◌}
 use Rattle.serde_json.specs.Data.{Data, string}
-use Rattle.report.specs.Appended.{Grew}
+use Rattle.answer_lines.specs.Appended.{Grew}
 use Rattle.report.specs.JsonTexts.{IsStringOf}
 
 -- a text of a kind that grew in an empty room is, as a string, one of that kind

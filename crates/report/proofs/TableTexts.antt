@@ -4,15 +4,15 @@ use Rattle.std.specs.Prelude.{flat_map}
 use Rattle.csv.specs.Writing.{row_text, default_writer}
 use Rattle.stl_syntax.specs.Knots.{Knot, Piece, Knots, last_knot}
 use Rattle.stl_syntax.specs.declared.scale.Scale.{Scale}
-use Rattle.report.specs.Appended.{AreEach, Then, Is}
-use Rattle.report.specs.Steps.{Step, steps_from, steps_of}
+use Rattle.answer_lines.specs.Appended.{AreEach, Then, Is}
+use Rattle.answer_lines.specs.Steps.{Step, steps_from, steps_of}
 use Rattle.report.specs.Table.{AreRecords, IsTableText, heading}
 use Rattle.report.specs.TableRows.{IsStepRow, IsLastRow}
-use Rattle.report.proofs.Growths as growth
-use Rattle.report.proofs.Growths.{some_then}
-use Rattle.report.proofs.Lines.{number_exists}
-use Rattle.report.proofs.MarginTexts.{value_exists}
-use Rattle.report.proofs.Sequences.{each_exist}
+use Rattle.answer_lines.proofs.Growths as growth
+use Rattle.answer_lines.proofs.Growths.{some_then}
+use Rattle.answer_lines.proofs.Lines.{number_exists}
+use Rattle.answer_lines.proofs.MarginTexts.{value_exists}
+use Rattle.answer_lines.proofs.Sequences.{each_exist}
 
 module _ (scale : Scale) where
   -- each step has a record

@@ -6,7 +6,7 @@ use Rattle.std.specs.Prelude.{All, slice_get, slice_index_or}
 use Rattle.stl_syntax.specs.Formula.{Formula}
 use Rattle.stl_syntax.specs.declared.scale.Scale.{Scale}
 use Rattle.stl_syntax.specs.declared.items.Item.{Item}
-use Rattle.report.specs.Appended.{Grew, GrewInPart}
+use Rattle.answer_lines.specs.Appended.{Grew, GrewInPart}
 use Rattle.report.specs.ItemLines.{IsOfAtom, IsItemLine, AreItemsText, IsFirstLine}
 use Rattle.report.specs.Report.{IsItemLines, AreItemLines}
 use Rattle.report.proofs.ItemTexts.{items_exist, lines_join, line_of_one}

@@ -6,7 +6,7 @@ use Rattle.serde_json.specs.declared.value.Value.{Value}
 use Rattle.stl_syntax.specs.declared.scale.Scale.{Scale}
 use Rattle.report.specs.Forms.{IsKnotForm, IsPieceForm}
 use Rattle.report.specs.Json.{IsKnotData, IsPieceData}
-use Rattle.report.specs.Steps.{Step}
+use Rattle.answer_lines.specs.Steps.{Step}
 
 -- the texts of objects, each after a comma
 abbrev pub after_commas : List Value → List ℕ

@@ -12,10 +12,10 @@ use Rattle.stl_syntax.specs.declared.items.Item.{Item}
 use Rattle.stl_syntax.specs.declared.items.Verdict.{Verdict}
 use Rattle.stl_syntax.specs.declared.atom.Atom.{Atom}
 use Rattle.stl_syntax.specs.declared.node.Node.TheVariants.{Atom as Leaf}
-use Rattle.report.specs.Appended.{AreEach, Then, Is}
+use Rattle.answer_lines.specs.Appended.{AreEach, Then, Is}
 use Rattle.report.specs.Json.{IsKnotData, IsPieceData, AreItemData}
 use Rattle.report.specs.Report.{IsItemLines}
-use Rattle.report.specs.Steps.{Step, steps_of}
+use Rattle.answer_lines.specs.Steps.{Step, steps_of}
 
 -- a text of a kind as a string
 abbrev pub IsStringOf : (List ℕ → Type 0) → Data → Type 0

@@ -7,13 +7,13 @@ use Rattle.stl_syntax.specs.Truth.{Truth}
 use Rattle.stl_syntax.specs.Knots.{Knots}
 use Rattle.stl_syntax.specs.Kept.{Kept}
 use Rattle.stl_syntax.specs.Formula.{Formula, root}
-use Rattle.stl_syntax.specs.Scaling.{scaled}
 use Rattle.stl_syntax.specs.Print.{IsAtomText}
 use Rattle.stl_syntax.specs.declared.scale.Scale.{Scale}
 use Rattle.stl_syntax.specs.Verdicts.{Describes, DescribesMargins}
 use Rattle.stl_syntax.specs.Texts.{AreVerdictLines, IsStartLine, AreMarginLines, newline, bool_text, IsSpanText}
 use Rattle.serde_json.specs.Data.{Data}
 use Rattle.serde_json.specs.Written.{compact_text}
+use Rattle.stl_syntax.specs.Scaling.{nodes_for}
 use Rattle.report.specs.Json.{IsReportData}
 use Rattle.report.specs.Table.{IsTableText}
 use Rattle.stl_syntax.specs.declared.items.Verdict.{Verdict}
@@ -53,10 +53,6 @@ AreItemLines scale f [] text = text ≡ []
 AreItemLines scale f (e ∷ items) text =
     (a : Atom) × (slice_get f.nodes e.node ≡ Some (Leaf a)) × ((name on later : List ℕ) × IsAtomText f.scale a name × IsSpanText scale e.on on
     × AreItemLines scale f items later × (text ≡ name ++ codes " " ++ bool_text e.holds ++ codes " on " ++ on ++ newline ++ later))
-
--- the formula's nodes in ticks of the trace
-abbrev pub nodes_for : Formula → Trace → List Node
-nodes_for f tr = (scaled f tr.header.scale).nodes
 
 -- no item where the formula holds at the start, and else those that are kept, with neighbours joined
 abbrev pub IsExplained : Formula → Trace → List Item → Type 0

@@ -14,7 +14,7 @@ use Rattle.stl_syntax.specs.Texts.{newline}
 use Rattle.stl_syntax.specs.declared.scale.Scale.{Scale}
 use Rattle.stl_syntax.specs.declared.items.Verdict.{Verdict}
 use Rattle.stl_syntax.specs.declared.items.Item.{Item}
-use Rattle.report.specs.Appended.{Then, Is}
+use Rattle.answer_lines.specs.Appended.{Then, Is}
 use Rattle.report.specs.Json.{IsReportData}
 use Rattle.report.specs.JsonTexts.{AreMarginEntries, IsOpened, margins_data, start_data}
 use Rattle.report.specs.Report.{IsItemLines}

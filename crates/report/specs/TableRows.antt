@@ -6,7 +6,7 @@ use Rattle.csv.specs.declared.writer.Writer.{Writer}
 use Rattle.stl_syntax.specs.Knots.{Knot, Piece}
 use Rattle.stl_syntax.specs.Texts.{IsNumberText, IsValueText}
 use Rattle.stl_syntax.specs.declared.scale.Scale.{Scale}
-use Rattle.report.specs.Steps.{Step}
+use Rattle.answer_lines.specs.Steps.{Step}
 use Rattle.report.specs.declared.table.Fields.{Fields}
 
 -- the record of a knot and the piece after it

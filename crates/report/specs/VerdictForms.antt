@@ -8,22 +8,14 @@ use Rattle.value_laws.specs.Members.{ShapeOf}
 use Rattle.value_laws.specs.declared.truth.Truth.{Truth}
 use Rattle.pl_signal.specs.declared.knot.Knot.{Knot}
 use Rattle.pl_signal.specs.Knots.{start, stop, IsWorth}
-use Rattle.stl_syntax.specs.Texts.{bool_text, newline, IsVerdictLine}
+use Rattle.stl_syntax.specs.Texts.{IsVerdictLine}
 use Rattle.stl_syntax.specs.declared.scale.Scale.{Scale}
 use Rattle.stl_syntax.specs.declared.items.Verdict.{Verdict}
-use Rattle.report.specs.Appended.{Grew, GrewInPart, AreEach, Then}
+use Rattle.answer_lines.specs.Appended.{Grew, GrewInPart, AreEach, Then}
 use Rattle.report.specs.JsonTexts.{IsVerdictData}
 use Rattle.report.specs.SignalVerdicts.{DescribesFunction}
 use Rattle.report.specs.Spelling.{GoesTo, Past, listed}
 use Rattle.report.specs.declared.spelling.OpenSpan.{OpenSpan}
-
--- the bracket before a span
-abbrev pub line_begin : Verdict → List ℕ
-line_begin v = if v.on.from_in then codes "[" else codes "("
-
--- the bracket after a span, the truth, and the end of the line
-abbrev pub line_end : Verdict → List ℕ
-line_end v = (if v.on.to_in then codes "]" else codes ")") ++ codes " " ++ bool_text v.holds ++ newline
 
 -- the end of the list, or what parts an object from the next
 abbrev pub separator : Bool → List ℕ

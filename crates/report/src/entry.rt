@@ -4,13 +4,13 @@ ghost use Rattle.serde_json.specs.Data.{boolean, string, object, member, no_memb
 ghost use Rattle.serde_json.specs.View.{view};
 ghost use Rattle.serde_json.specs.Written.{compact_text, has_float};
 ghost use Rattle.stl_syntax.specs.Texts.{IsSpanText};
-ghost use Rattle.report.specs.Appended.{Grew, GrewInPart, Is};
+ghost use Rattle.answer_lines.specs.Appended.{Grew, GrewInPart, Is};
 ghost use Rattle.report.specs.ItemLines.{IsOfAtom};
 ghost use Rattle.report.specs.JsonTexts.{IsStringOf, IsItemData, IsItemEntry};
 
 use crate::form::text_of;
 use crate::items::atom_text;
-use crate::verdict::put_span;
+use answer_lines::put_span;
 use frac128::{Memory, Span};
 use serde_json::{Value, json};
 use std::alloc::{AllocError, Global};

@@ -10,8 +10,7 @@ ghost use Rattle.serde_json.specs.View.{view, members_view};
 ghost use Rattle.stl_syntax.specs.Texts.{IsNumberText, IsValueText};
 ghost use Rattle.report.specs.Forms.{replaced, with_member, HasText, HasTextAt, Sets, SetsSome};
 
-use crate::time_text::TimeText;
-use crate::value_text::ValueText;
+use answer_lines::{TimeText, ValueText};
 use frac128::{Frac, Memory};
 use serde_json::{Map, Value};
 use std::str;

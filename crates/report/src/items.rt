@@ -4,11 +4,11 @@ ghost use Rattle.stl_syntax.specs.Print.{IsAtomText};
 ghost use Rattle.stl_syntax.specs.Texts.{bool_text};
 ghost use Rattle.stl_syntax.specs.declared.atom.Atom.{Atom as Compared};
 ghost use Rattle.stl_syntax.specs.declared.node.Node.TheVariants.{Atom as Leaf};
-ghost use Rattle.report.specs.Appended.{Grew, GrewInPart};
+ghost use Rattle.answer_lines.specs.Appended.{Grew, GrewInPart};
 ghost use Rattle.report.specs.ItemLines.{IsOfAtom, IsItemLine, AreItemsText, IsLonger, IsFirstLine};
 ghost use Rattle.report.specs.Report.{Join};
 
-use crate::verdict::put_span;
+use answer_lines::put_span;
 use frac128::{Memory, Span};
 use stl_syntax::{Formula, Item, Items, Node, Scale, Text};
 

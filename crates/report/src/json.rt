@@ -13,13 +13,13 @@ ghost use Rattle.pl_signal.specs.Plain.{knots_of};
 ghost use Rattle.serde_json.specs.Data.{object, array, member, no_items, no_members};
 ghost use Rattle.serde_json.specs.View.{view};
 ghost use Rattle.serde_json.specs.Written.{has_float};
-ghost use Rattle.report.specs.Appended.{Grew, GrewInPart, AreEach};
+ghost use Rattle.answer_lines.specs.Appended.{Grew, GrewInPart, AreEach};
 ghost use Rattle.report.specs.ItemLines.{IsOfAtom};
 ghost use Rattle.report.specs.JsonTexts.{AreLaterEntries, AreItemEntries, IsStepEntry, AreMarginEntries};
 ghost use Rattle.report.specs.JsonTexts.{IsHeadData, margins_data, start_data, EndsWithList, IsOpened, HeadParts};
 ghost use Rattle.report.specs.ReportText.{IsReportText, TailParts};
 ghost use Rattle.report.specs.SignalVerdicts.{sign_of};
-ghost use Rattle.report.specs.Steps.{steps_of};
+ghost use Rattle.answer_lines.specs.Steps.{steps_of};
 
 use crate::entry::{put_item_entry, string_value};
 use crate::items::line_from;

@@ -3,13 +3,13 @@ ghost use Rattle.std.specs.Prelude.{◌≡◌, ◌≤◌, ◌&&◌, ◌++◌, �
 ghost use Rattle.rational.specs.Time.{HasTimeBetween, ◌<ʳ◌};
 ghost use Rattle.frac128.specs.Value.{value};
 ghost use Rattle.value_laws.specs.Kinds.{truth_shape};
-ghost use Rattle.report.specs.Appended.{Grew, GrewInPart};
+ghost use Rattle.answer_lines.specs.Appended.{Grew, GrewInPart};
 ghost use Rattle.report.specs.SignalVerdicts.{AreSignalLines};
 ghost use Rattle.report.specs.VerdictForms.{TurnedTo, TurnCut, WrittenPast, CutPast, AreEntries};
 
 use crate::spelling::OpenSpan;
 use crate::verdict_entry::VerdictEntries;
-use crate::verdict_lines::VerdictLines;
+use answer_lines::VerdictLines;
 use frac128::{Frac, Memory};
 use pl_signal::{Knot, Signal};
 use stl_syntax::{Scale, Text};

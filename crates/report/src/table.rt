@@ -6,13 +6,12 @@ ghost use Rattle.frac128.specs.Value.{value};
 ghost use Rattle.value_laws.specs.Kinds.{margin_shape};
 ghost use Rattle.pl_signal.specs.Knots.{start, stop, IsSignal};
 ghost use Rattle.pl_signal.specs.Plain.{knots_of, plain_knot, plain_piece};
-ghost use Rattle.report.specs.Appended.{Grew, GrewInPart, AreEach};
-ghost use Rattle.report.specs.Steps.{steps_of, step, between};
+ghost use Rattle.answer_lines.specs.Appended.{Grew, GrewInPart, AreEach};
+ghost use Rattle.answer_lines.specs.Steps.{steps_of, step, between};
 ghost use Rattle.report.specs.Table.{IsTableText, heading};
 ghost use Rattle.report.specs.TableRows.{IsStepRow, IsLastRow, IsReady, rows_text, field_list, HasKnot, HasPiece};
 
-use crate::margin::put_value;
-use crate::number::put_time;
+use answer_lines::{put_time, put_value};
 use csv::Writer;
 use frac128::Memory;
 use pl_signal::{Knot, Signal};

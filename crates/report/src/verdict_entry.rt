@@ -2,16 +2,14 @@
 ghost use Rattle.std.specs.Prelude.{◌≡◌, ◌≤◌, ◌∷◌, [], if◌then◌else◌, codes, true, IfOk, OnOk, OnErr};
 ghost use Rattle.serde_json.specs.View.{view};
 ghost use Rattle.stl_syntax.specs.Texts.{IsSpanText};
-ghost use Rattle.report.specs.Appended.{Grew, GrewInPart};
+ghost use Rattle.answer_lines.specs.Appended.{Grew, GrewInPart};
 ghost use Rattle.report.specs.Forms.{verdict_object, HasText, IsVerdictForm, Sets, SetsSome};
 ghost use Rattle.report.specs.JsonTexts.{IsDataText, IsVerdictData};
 ghost use Rattle.report.specs.VerdictForms.{separator, IsEntry};
 
-use crate::after::add_byte;
 use crate::entry::put_data;
 use crate::form::{SPAN_ROOM, set_text};
-use crate::time_text::TimeText;
-use crate::verdict_lines::bracket;
+use answer_lines::{TimeText, add_byte, bracket};
 use frac128::{Memory, Span};
 use serde_json::{Value, json};
 use std::alloc::{AllocError, Global};

@@ -3,7 +3,7 @@ use Rattle.std.proofs.Common.{◌≡◌, inl, inr, ℕ, Bool, true, false, List,
 use Rattle.std.proofs.lemmas.Bool.{false≢true}
 use Rattle.stl_syntax.specs.Formula.{Formula}
 use Rattle.stl_syntax.specs.Trace.{Header, Row}
-use Rattle.report.specs.FaultTexts.{fault_text}
+use Rattle.answer_lines.specs.FaultTexts.{fault_text}
 use Rattle.trace_reader.specs.InputFaults.{stream_limits}
 use Rattle.trace_stream.specs.Streams.{verdicts, StreamOf, OwesRows}
 use Rattle.trace_stream.proofs.OwedRows.{stream_owed_grows}

@@ -4,8 +4,9 @@ use Rattle.stl_syntax.specs.Formula.{Formula}
 use Rattle.stl_syntax.specs.Kept.{most_cells}
 use Rattle.stl_syntax.specs.Trace.{Trace}
 use Rattle.implicants.proofs.Counting.{one_too_many}
-use Rattle.report.specs.FaultTexts.{fault_text}
-use Rattle.report.specs.Report.{Command, check, robust, explain, json, table, nodes_for}
+use Rattle.stl_syntax.specs.Scaling.{nodes_for}
+use Rattle.answer_lines.specs.FaultTexts.{fault_text}
+use Rattle.report.specs.Report.{Command, check, robust, explain, json, table}
 use Rattle.trace_reader.proofs.TraceRefusalLaw.{Trace-unique}
 use Rattle.trace_reader.specs.InputFaults.{whole_limits, sound}
 use Rattle.trace_reader.specs.TraceText.{lines}

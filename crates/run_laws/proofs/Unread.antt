@@ -8,9 +8,10 @@ use Rattle.stl_syntax.specs.Texts.{newline, IsStartLine}
 use Rattle.stl_syntax.specs.Trace.{Trace}
 use Rattle.stl_syntax.proofs.VerdictsLaw.{Describes-unique}
 use Rattle.stl_grammar.proofs.LawProofs.{one_formula}
-use Rattle.report.specs.Report.{check, Out, nodes_for}
-use Rattle.report.proofs.OneText.{verdicts_once, start_once}
-use Rattle.report.proofs.StreamTexts.{stream_once}
+use Rattle.stl_syntax.specs.Scaling.{nodes_for}
+use Rattle.report.specs.Report.{check, Out}
+use Rattle.answer_lines.proofs.OneText.{verdicts_once, start_once}
+use Rattle.answer_lines.proofs.StreamTexts.{stream_once}
 use Rattle.workbench.specs.Requests.{Request, no_form, refused, whole, stream, sessions, generated, has_input, usage_line}
 use Rattle.workload_summary.specs.Generator.{IsSummary, generated as generated_trace, judged, line_count}
 use Rattle.workbench.specs.Ended.{EndsWith, none, bad, faulty, answered, wide, overfull}

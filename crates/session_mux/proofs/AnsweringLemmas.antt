@@ -7,7 +7,7 @@ use Rattle.std.proofs.lemmas.List.{append-nil, take-append-drop, take_all}
 use Rattle.std.proofs.lemmas.Slice.Eq.{bytes_eq-Decides}
 use Rattle.rational.proofs.Lists.{slice_get-set_same, slice_get-set_other, drop_on}
 use Rattle.stl_syntax.specs.Formula.{Formula}
-use Rattle.report.proofs.Sequences.{take_at, place_inside}
+use Rattle.answer_lines.proofs.Sequences.{take_at, place_inside}
 use Rattle.trace_reader.specs.TraceText.{lines}
 use Rattle.session_mux.specs.Sessions.{Tagged, IsTag, IsAnswer, AreEnds, prefixed, last_eight}
 use Rattle.session_mux.specs.Tags.{number_of}

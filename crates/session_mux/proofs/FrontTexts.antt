@@ -15,7 +15,7 @@ use Rattle.trace_reader.specs.InputFaults.{Fault, line_of, stream_limits, IsHead
 use Rattle.trace_reader.specs.InputFaults.{IsInputFault, AreRowsBefore, sound, no_header_yet, faulted, faulted_header}
 use Rattle.trace_reader.proofs.LineLemmas.{IsDone}
 use Rattle.trace_reader.proofs.OpenLines.{Parts}
-use Rattle.report.proofs.StreamTexts.{IsLonger}
+use Rattle.answer_lines.proofs.StreamTexts.{IsLonger}
 use Rattle.trace_stream.specs.Streams.{verdicts}
 use Rattle.trace_stream.proofs.HeaderLines.{header_stays}
 use Rattle.trace_stream.proofs.OneFault.{one_fault}

@@ -11,7 +11,7 @@ use Rattle.trace_reader.specs.TraceText.{Line, lines, content, is_blank_line}
 use Rattle.trace_reader.specs.Feeds.{IsOpenLine}
 use Rattle.trace_reader.proofs.LineLemmas.{IsDone, rest}
 use Rattle.trace_reader.proofs.OpenLines.{Parts, parts, lines-now, open_line}
-use Rattle.report.proofs.StreamTexts.{IsLonger}
+use Rattle.answer_lines.proofs.StreamTexts.{IsLonger}
 use Rattle.trace_stream.proofs.FaultPlaces.{at_true, at_false}
 use Rattle.session_mux.specs.Sessions.{Tagged, IsTagged, AreTagged, none, unfinished, blank, next, is_query, own, is_stopped}
 use Rattle.session_mux.specs.Sessions.{prefixed, last_eight, IsAnswer, AreAnswers, AreEnds, tags_after, MuxText}

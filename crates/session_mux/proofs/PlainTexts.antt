@@ -23,7 +23,7 @@ use Rattle.trace_reader.specs.InputFaults.{Fault, stream_limits, IsInputFault}
 use Rattle.trace_reader.specs.declared.refusal.TraceKind.{TraceKind}
 use Rattle.trace_reader.specs.declared.refusal.TraceKind.TheVariants as trace
 use Rattle.trace_reader.proofs.LineLemmas.{put, done, lines-nil, lines-feed, lines-other, lines-append, lines-line}
-use Rattle.report.specs.FaultTexts.{in_line, fault_text, kind_text, unit_fault_text}
+use Rattle.answer_lines.specs.FaultTexts.{in_line, fault_text, kind_text, unit_fault_text}
 use Rattle.session_mux.specs.Hearing.{is_plain, begins_with, HasPlainNames}
 use Rattle.session_mux.specs.Sessions.{IsRowsStream, Alone}
 use Rattle.session_mux.proofs.TextLemmas.{EndsInFeed, lines_joined, rows_stream_ends, new_ends, rows_end}

@@ -5,8 +5,8 @@ use Rattle.std.proofs.lemmas.Bool.{false≢true}
 use Rattle.std.proofs.lemmas.List.{append-nil, append_cancel_left}
 use Rattle.std.proofs.lemmas.Grind.{flat_map-append}
 use Rattle.circular_buffer.specs.Buffer.{Buffer, buffer, keep_last}
-use Rattle.report.specs.Appended.{GrewInPart, Is}
-use Rattle.report.specs.FaultTexts.{fault_text}
+use Rattle.answer_lines.specs.Appended.{GrewInPart, Is}
+use Rattle.answer_lines.specs.FaultTexts.{fault_text}
 use Rattle.stl_syntax.specs.Formula.{Formula}
 use Rattle.stl_syntax.specs.Texts.{newline}
 use Rattle.trace_reader.specs.TraceText.{Line, lines}

@@ -9,7 +9,7 @@ use Rattle.stl_syntax.specs.Texts.{newline}
 use Rattle.stl_syntax.specs.Trace.{Header, Row}
 use Rattle.trace_reader.specs.TraceText.{Line, Heading, lines}
 use Rattle.trace_reader.specs.InputFaults.{stream_limits, Fault, IsHeaderAt, here, later, IsInputFault, no_header_yet}
-use Rattle.report.specs.FaultTexts.{fault_text}
+use Rattle.answer_lines.specs.FaultTexts.{fault_text}
 use Rattle.trace_stream.specs.Streams.{verdicts, StreamOf}
 use Rattle.session_mux.specs.Sessions.{Tagged, is_query, is_stop, own, is_stopped, Alone, SoFar, IsRowsStream, IsFaultLine, prefixed, IsAnswer, AreAnswers}
 use Rattle.session_mux.specs.SessionsAlone.{lines_of, is_of, IsAdded, AreSaidTo, OneTextAlone, EachIsAsAlone, OthersAddNothing}

@@ -18,7 +18,7 @@ use Rattle.trace_reader.specs.declared.refusal.Limits.{Limits}
 use Rattle.trace_reader.specs.declared.refusal.TraceKind.{TraceKind}
 use Rattle.trace_reader.specs.declared.refusal.TraceKind.TheVariants as trace
 use Rattle.trace_reader.proofs.LineLemmas.{lines-nil, lines-append}
-use Rattle.report.specs.FaultTexts.{in_line, in_field, fault_text, kind_text, unit_fault_text}
+use Rattle.answer_lines.specs.FaultTexts.{in_line, in_field, fault_text, kind_text, unit_fault_text}
 use Rattle.trace_stream.specs.Streams.{verdicts, StreamOf}
 use Rattle.trace_stream.specs.Following.{IsTextOf}
 use Rattle.trace_stream.proofs.RowsBefore.{rows_stay, fault_stays}

@@ -4,7 +4,7 @@ use Rattle.stl_syntax.specs.Characters.{is_among}
 use Rattle.stl_syntax.specs.Choice.{◌or_else◌, Where, Nothing}
 use Rattle.stl_syntax.specs.Formula.{Formula}
 use Rattle.trace_reader.specs.TraceText.{Line, lines, content, is_blank_line}
-use Rattle.report.specs.FaultTexts.{in_line}
+use Rattle.answer_lines.specs.FaultTexts.{in_line}
 use Rattle.session_mux.specs.Sessions.{Tagged, IsTagged, AreTagged, MuxText}
 
 -- a fault of the input itself

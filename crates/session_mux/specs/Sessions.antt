@@ -8,7 +8,7 @@ use Rattle.stl_syntax.specs.Trace.{Header, Row}
 use Rattle.trace_reader.specs.TraceText.{Line, lines, content, is_blank_line}
 use Rattle.stl_syntax.specs.Texts.{newline}
 use Rattle.trace_reader.specs.InputFaults.{stream_limits, Fault, IsInputFault, AreRowsBefore}
-use Rattle.report.specs.FaultTexts.{fault_text}
+use Rattle.answer_lines.specs.FaultTexts.{fault_text}
 use Rattle.stl_syntax.specs.Stream.{IsStreamText}
 
 -- a line that is not blank: its tag and its content

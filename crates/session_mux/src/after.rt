@@ -1,6 +1,6 @@
 //! Bytes put behind others, in a buffer that is filled from its beginning on.
 ghost use Rattle.std.specs.Prelude.{◌≡◌, ◌≤◌, ◌+◌, ◌∷◌, [], length, take};
-ghost use Rattle.report.specs.After.{IsAdded};
+ghost use Rattle.answer_lines.specs.After.{IsAdded};
 
 /// Puts the first `len` bytes of a word behind what stands before `at`, and answers where they end. What stands behind them does not matter:
 /// a word with a few bytes more is copied as one.

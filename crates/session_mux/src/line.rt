@@ -1,11 +1,11 @@
 //! The line of the first fault of an input of several sessions.
 ghost use Rattle.std.specs.Prelude.{◌≡◌};
-ghost use Rattle.report.specs.Lines.{line_text};
+ghost use Rattle.answer_lines.specs.Lines.{line_text};
 ghost use Rattle.session_mux.specs.Inputs.{input_fault_text};
 ghost use Rattle.session_mux.specs.Taking.{fault_of};
 
 use crate::stop::{LineFault, LineKind};
-use report::Line;
+use answer_lines::Line;
 
 /// The line of the first fault of an input of several sessions.
 pub fn input_fault_line(fault: LineFault) -> Line<'static>

@@ -3,7 +3,7 @@ ghost use Rattle.std.specs.Prelude.{◌≡◌, ◌≢◌, ◌↔◌, ◌==◌, �
 ghost use Rattle.std.specs.Int.{bit_at};
 ghost use Rattle.memchr.specs.Find.{is_byte, IsFirstByte};
 ghost use Rattle.memchr.specs.Lanes.{HasLanes};
-ghost use Rattle.report.specs.After.{IsAdded};
+ghost use Rattle.answer_lines.specs.After.{IsAdded};
 ghost use Rattle.session_mux.specs.Near.{IsNoFeed, IsNextFeed};
 
 use crate::after::add_part;

@@ -3,7 +3,7 @@ ghost use Rattle.std.specs.Prelude.{◌≡◌, ◌≤◌, ◌+◌, ◌++◌, ◌
 ghost use Rattle.stl_syntax.specs.Texts.{newline};
 ghost use Rattle.trace_reader.specs.TraceText.{content};
 ghost use Rattle.session_mux.specs.Sessions.{IsTag};
-ghost use Rattle.report.specs.After.{IsAdded};
+ghost use Rattle.answer_lines.specs.After.{IsAdded};
 ghost use Rattle.session_mux.specs.Taking.{ended_line};
 ghost use Rattle.session_mux.specs.Running.{IsOwnLine, HasGathered};
 

@@ -2,7 +2,7 @@
 ghost use Rattle.std.specs.Prelude.{◌≡◌, ◌<◌, ◌≤◌, ◌++◌, ◌∷◌, ℕ, List, [], true, codes, length, take, OnOk, OnErr, MatchResult};
 ghost use Rattle.stl_syntax.specs.Texts.{newline};
 ghost use Rattle.trace_reader.specs.TraceText.{lines};
-ghost use Rattle.report.specs.Appended.{GrewInPart, Is};
+ghost use Rattle.answer_lines.specs.Appended.{GrewInPart, Is};
 ghost use Rattle.circular_buffer.specs.Buffer.{buffer, keep_last};
 ghost use Rattle.session_mux.specs.Saying.{texts, prefixed_texts, said_lines, HasSaid};
 

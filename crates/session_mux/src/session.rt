@@ -1,7 +1,7 @@
 //! One session: its trace as it comes, and the last lines that were said to it.
 ghost use Rattle.std.specs.Prelude.{◌≡◌, ◌<◌, ◌≤◌, ◌++◌, ◌∷◌, bytes_eq, length, ℕ, IsTrue, List, [], false, true, None, IfOk, MatchResult};
-ghost use Rattle.report.specs.Appended.{GrewInPart, Is};
-ghost use Rattle.report.specs.FaultTexts.{fault_text};
+ghost use Rattle.answer_lines.specs.Appended.{GrewInPart, Is};
+ghost use Rattle.answer_lines.specs.FaultTexts.{fault_text};
 ghost use Rattle.stl_syntax.specs.Formula.{Formula as Parsed};
 ghost use Rattle.stl_syntax.specs.Texts.{newline};
 ghost use Rattle.trace_reader.specs.InputFaults.{Fault as FirstFault};
@@ -17,8 +17,8 @@ ghost use Rattle.session_mux.specs.Standing.{HasSaidSome, IsGrowth, IsReply, Has
 use crate::recent::{Recent, no_lines};
 use crate::saying::{say, show};
 use crate::tag::Tag;
+use answer_lines::put_line;
 use frac128::Memory;
-use report::put_line;
 use std::alloc::Global;
 use stl_syntax::{Formula, Text};
 use trace_reader::Limits;

@@ -2,7 +2,7 @@
 ghost use Rattle.std.specs.Prelude.{◌≡◌, ◌<◌, ◌≤◌, ◌^◌, ◌+◌, ◌++◌, codes, length, take, drop, true, MatchOption};
 ghost use Rattle.stl_syntax.specs.Characters.{is_space as is_spacing, all, StopsAt};
 ghost use Rattle.session_mux.specs.Sessions.{is_tag_byte as is_of_tag, Tagged, IsTag, IsTagged};
-ghost use Rattle.report.specs.After.{IsAdded};
+ghost use Rattle.answer_lines.specs.After.{IsAdded};
 ghost use Rattle.session_mux.specs.Tags.{number_of as number};
 
 use crate::after::{add_byte, add_part};

@@ -1,10 +1,11 @@
 -- A formula counted in smaller ticks.
-use Rattle.std.specs.Prelude.{ℕ, ◌*◌, ◌-◌, ◌^◌, Bool, false, nat_lt, pos, ◌*ℤ◌, nat_abs, map, option_map}
+use Rattle.std.specs.Prelude.{ℕ, List, ◌*◌, ◌-◌, ◌^◌, Bool, false, nat_lt, pos, ◌*ℤ◌, nat_abs, map, option_map}
 use Rattle.stl_syntax.specs.declared.atom.Atom.{Atom}
 use Rattle.stl_syntax.specs.declared.node.Node.{Node}
 use Rattle.stl_syntax.specs.declared.node.Node.TheVariants.{Atom as Leaf, Until, Eventually, Always, Since, Once, Historically}
 use Rattle.stl_syntax.specs.declared.scale.Scale.{Scale}
 use Rattle.stl_syntax.specs.Formula.{Formula}
+use Rattle.stl_syntax.specs.Trace.{Trace}
 
 -- the atom with its constant times k
 abbrev pub scaled_atom : ℕ → Atom → Atom
@@ -32,3 +33,7 @@ scaled f scale = record {
 abbrev pub has_large_constant : ℕ → Node → Bool
 has_large_constant k (Leaf a) = nat_lt 1073741824 (nat_abs a.limit * k)
 has_large_constant k n = false
+
+-- the formula's nodes in ticks of the trace
+abbrev pub nodes_for : Formula → Trace → List Node
+nodes_for f tr = (scaled f tr.header.scale).nodes

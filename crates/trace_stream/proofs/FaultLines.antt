@@ -7,8 +7,8 @@ use Rattle.stl_syntax.specs.declared.atom.Term.{Term}
 use Rattle.stl_syntax.specs.declared.scale.UnitFault.{UnitFault}
 use Rattle.trace_reader.specs.declared.refusal.TraceRefusal.{TraceRefusal}
 use Rattle.trace_reader.specs.InputFaults.{Fault}
-use Rattle.report.specs.FaultTexts.{fault_text}
-use Rattle.report.specs.FaultTexts.{trace_fault_text, unknown_text, unit_fault_text}
+use Rattle.answer_lines.specs.FaultTexts.{fault_text}
+use Rattle.answer_lines.specs.FaultTexts.{trace_fault_text, unknown_text, unit_fault_text}
 use Rattle.trace_stream.specs.Cases.{IsFault, IsNamed}
 use Rattle.trace_stream.specs.declared.fault.TraceFault.{TraceFault}
 use Rattle.trace_stream.specs.declared.fault.TraceFault.TheVariants.{Trace as InTrace, Unknown, Unit as InTicks}

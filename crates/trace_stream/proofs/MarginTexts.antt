@@ -9,8 +9,8 @@ use Rattle.stl_syntax.specs.Knots.{Knot, Piece}
 use Rattle.stl_syntax.specs.Texts.{ArePieceLines}
 use Rattle.online_nodes.specs.MarginStream.{TellsLeftOpen, IsNewMargins, IsMarginStream}
 use Rattle.stl_syntax.proofs.MarginsLaw.{closed_once, after_once}
-use Rattle.report.proofs.OneText.{pieces_once, margins_once}
-use Rattle.report.proofs.StreamTexts.{IsLonger, IsOneText, by_test, rows_once, rows_grow, rest_once}
+use Rattle.answer_lines.proofs.OneText.{pieces_once, margins_once}
+use Rattle.answer_lines.proofs.StreamTexts.{IsLonger, IsOneText, by_test, rows_once, rows_grow, rest_once}
 
 -- the lines of robustness after an old front
 abbrev IsOpenText : Subformula → Trace → ℤ → ℤ → List ℕ → Type 0

@@ -4,7 +4,7 @@ use Rattle.stl_syntax.specs.Formula.{Formula, Subformula}
 use Rattle.stl_syntax.specs.Trace.{Header, Row}
 use Rattle.stl_syntax.specs.EarlyText.{IsEarlyText, at_row, at_end, not_yet}
 use Rattle.trace_reader.specs.InputFaults.{AreRowsBefore}
-use Rattle.report.proofs.StreamTexts.{IsLonger, stream_once, stream_grows, early_once, early_grows}
+use Rattle.answer_lines.proofs.StreamTexts.{IsLonger, stream_once, stream_grows, early_once, early_grows}
 use Rattle.trace_stream.specs.Streams.{Stream, verdicts, early, margins, limits_of, StreamText, StreamOf, OwesRows}
 use Rattle.trace_stream.proofs.MarginTexts.{margin_stream_once, margin_stream_grows}
 use Rattle.trace_stream.proofs.RowsBefore.{GoesOnFrom, from_none, from_some, rows_go_on, rows_once}

@@ -6,7 +6,7 @@ use Rattle.stl_syntax.specs.Trace.{Header, Row}
 use Rattle.online_nodes.specs.MarginStream.{IsMarginStream}
 use Rattle.trace_reader.specs.InputFaults.{AreRowsBefore, sound}
 use Rattle.trace_reader.specs.TraceText.{TraceOf}
-use Rattle.report.proofs.StreamTexts.{IsLonger}
+use Rattle.answer_lines.proofs.StreamTexts.{IsLonger}
 use Rattle.trace_stream.specs.Streams.{margins, limits_of, StreamOf, OwesRows}
 use Rattle.trace_stream.specs.CaseReader.{IsSound}
 use Rattle.trace_stream.specs.Wides.{IsWideRows, at_row, at_end, IsWideByRow}

@@ -1,7 +1,7 @@
 -- The commands that answer row by row: the text of the rows so far, and the verdict at the end.
 use Rattle.std.specs.Prelude.{◌≡◌, ◌⊎◌, ℕ, Bool, true, false, List, [], Option, Some, None, slice_get}
 use Rattle.stl_syntax.specs.Formula.{Formula, Subformula, root}
-use Rattle.stl_syntax.specs.Scaling.{scaled}
+use Rattle.stl_syntax.specs.Scaling.{scaled, nodes_for}
 use Rattle.stl_syntax.specs.Trace.{Header, Row, Trace, start}
 use Rattle.stl_syntax.specs.Truth.{Truth}
 use Rattle.stl_syntax.specs.Stream.{IsStreamText}
@@ -11,7 +11,6 @@ use Rattle.online_nodes.specs.MarginStream.{IsMarginStream}
 use Rattle.online_nodes.specs.StreamedWide.{IsUnstreamed}
 use Rattle.trace_reader.specs.declared.refusal.Limits.{Limits}
 use Rattle.trace_reader.specs.InputFaults.{whole_limits, stream_limits, AreRowsBefore}
-use Rattle.report.specs.Report.{nodes_for}
 
 -- the commands that answer row by row
 pub data Stream : Type 0 where

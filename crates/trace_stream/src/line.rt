@@ -1,12 +1,12 @@
 //! The line of the first fault of a trace's bytes.
 ghost use Rattle.std.specs.Prelude.{◌≡◌, ℕ, List};
 ghost use Rattle.trace_reader.specs.InputFaults.{Fault as FirstFault};
-ghost use Rattle.report.specs.FaultTexts.{fault_text};
-ghost use Rattle.report.specs.Lines.{line_text};
+ghost use Rattle.answer_lines.specs.FaultTexts.{fault_text};
+ghost use Rattle.answer_lines.specs.Lines.{line_text};
 ghost use Rattle.trace_stream.specs.Cases.{IsFault, IsNamed};
 
 use crate::fault::TraceFault;
-use report::{Line, trace_fault_line, unit_fault_line, unknown_line};
+use answer_lines::{Line, trace_fault_line, unit_fault_line, unknown_line};
 use stl_syntax::{Formula, Name, Node};
 
 /// The name in a term of the formula.

@@ -10,8 +10,9 @@ use Rattle.stl_syntax.specs.Verdicts.{Describes}
 use Rattle.stl_syntax.specs.WellFormed.{IsWellFormed}
 use Rattle.stl_syntax.specs.declared.scale.Scale.{Scale}
 use Rattle.stl_syntax.specs.declared.items.Verdict.{Verdict}
-use Rattle.report.specs.Report.{Out, check, nodes_for}
-use Rattle.report.proofs.KeptTexts.{number_of_same}
+use Rattle.stl_syntax.specs.Scaling.{nodes_for}
+use Rattle.report.specs.Report.{Out, check}
+use Rattle.answer_lines.proofs.KeptTexts.{number_of_same}
 use Rattle.unit_laws.specs.Units.{finer, LawOfUnits, TruthTurnsAtFractions}
 use Rattle.unit_laws.proofs.NearTimes.{ahead}
 use Rattle.unit_laws.proofs.Clocks.{unclock}

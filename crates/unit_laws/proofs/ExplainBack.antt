@@ -20,9 +20,10 @@ use Rattle.stl_syntax.specs.declared.scale.Scale.{Scale}
 use Rattle.stl_syntax.specs.declared.items.Item.{Item}
 use Rattle.stl_syntax.specs.declared.items.Verdict.{Verdict}
 use Rattle.stl_syntax.proofs.TruthLemmas.{Truth-same}
-use Rattle.report.specs.Report.{Out, explain, json, Join, AreJoined, IsItemLines, AreItemLines, IsExplained, nodes_for}
+use Rattle.stl_syntax.specs.Scaling.{nodes_for}
+use Rattle.report.specs.Report.{Out, explain, json, Join, AreJoined, IsItemLines, AreItemLines, IsExplained}
 use Rattle.report.specs.Json.{AreItemData, AreVerdictData}
-use Rattle.report.proofs.KeptTexts.{number_of_same}
+use Rattle.answer_lines.proofs.KeptTexts.{number_of_same}
 use Rattle.unit_laws.specs.Units.{finer, ExplainIsOfUnits, JsonIsOfUnits}
 use Rattle.unit_laws.proofs.NearTimes.{Move, ahead}
 use Rattle.unit_laws.proofs.Clocks.{clock, unclock, clock_same, same_of_clock, unclock_same, unclock-clock, precedes_of_clock}

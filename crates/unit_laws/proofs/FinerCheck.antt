@@ -1,7 +1,8 @@
 -- What `check` writes in smaller ticks.
 use Rattle.std.proofs.Common.{◌^◌, refl}
 use Rattle.stl_syntax.specs.Formula.{root}
-use Rattle.report.specs.Report.{check, nodes_for}
+use Rattle.stl_syntax.specs.Scaling.{nodes_for}
+use Rattle.report.specs.Report.{check}
 use Rattle.unit_laws.specs.Units.{finer, KeepsItsText}
 use Rattle.unit_laws.proofs.NearTimes.{ahead}
 use Rattle.unit_laws.proofs.FinerTrees.{root_finer}

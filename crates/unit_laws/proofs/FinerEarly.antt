@@ -12,7 +12,7 @@ use Rattle.stl_syntax.specs.EarlyText.{IsEarlyText, at_row, at_end, not_yet}
 use Rattle.stl_syntax.specs.Texts.{IsNumberText}
 use Rattle.stl_syntax.specs.declared.scale.Scale.{Scale}
 use Rattle.stl_syntax.proofs.SettledTimes.{settled_is_of_times}
-use Rattle.report.proofs.KeptTexts.{number_of_same}
+use Rattle.answer_lines.proofs.KeptTexts.{number_of_same}
 use Rattle.unit_laws.proofs.NearTimes.{ahead}
 use Rattle.unit_laws.proofs.Clocks.{clock, unclock, unclock_same, unclock-clock}
 use Rattle.unit_laws.proofs.FinerTraces.{row_by, rows_counted}

@@ -11,7 +11,8 @@ use Rattle.stl_syntax.specs.Kept.{Kept}
 use Rattle.stl_syntax.specs.declared.scale.Scale.{Scale}
 use Rattle.stl_syntax.specs.declared.items.Item.{Item}
 use Rattle.stl_syntax.proofs.TruthLemmas.{Truth-same}
-use Rattle.report.specs.Report.{AreJoined, IsItemLines, AreItemLines, IsExplained, explain, nodes_for}
+use Rattle.stl_syntax.specs.Scaling.{nodes_for}
+use Rattle.report.specs.Report.{AreJoined, IsItemLines, AreItemLines, IsExplained, explain}
 use Rattle.unit_laws.specs.Units.{finer, KeepsItsText}
 use Rattle.unit_laws.proofs.NearTimes.{Move, ahead}
 use Rattle.unit_laws.proofs.Clocks.{clock_same, same_of_clock}

@@ -6,7 +6,8 @@ use Rattle.stl_syntax.specs.Formula.{Formula, root}
 use Rattle.stl_syntax.specs.declared.scale.Scale.{Scale}
 use Rattle.stl_syntax.specs.declared.items.Verdict.{Verdict}
 use Rattle.stl_syntax.specs.declared.items.Item.{Item}
-use Rattle.report.specs.Report.{json, nodes_for}
+use Rattle.stl_syntax.specs.Scaling.{nodes_for}
+use Rattle.report.specs.Report.{json}
 use Rattle.report.specs.Json.{AreVerdictData, AreItemData}
 use Rattle.unit_laws.specs.Units.{finer, KeepsItsText}
 use Rattle.unit_laws.proofs.NearTimes.{ahead}

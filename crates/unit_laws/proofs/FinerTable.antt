@@ -3,7 +3,7 @@ use Rattle.std.proofs.Common.{◌^◌, sym, subst}
 use Rattle.stl_syntax.specs.Formula.{Subformula, root}
 use Rattle.stl_syntax.specs.Knots.{Knots}
 use Rattle.stl_syntax.specs.Verdicts.{DescribesMargins}
-use Rattle.report.specs.Report.{nodes_for}
+use Rattle.stl_syntax.specs.Scaling.{nodes_for}
 use Rattle.report.specs.Table.{IsTableText}
 use Rattle.unit_laws.specs.Units.{finer, TableIsOfUnits}
 use Rattle.unit_laws.proofs.NearTimes.{ahead}

@@ -8,7 +8,7 @@ use Rattle.rational.proofs.Order.{same_of_le, le_of_same, ge_of_same}
 use Rattle.stl_syntax.specs.Truth.{compares}
 use Rattle.stl_syntax.specs.declared.rel.Rel.{Rel}
 use Rattle.stl_syntax.specs.declared.rel.Rel.TheVariants.{AtLeast, Above, AtMost, Below}
-pub use Rattle.report.proofs.Stretch.{stretch, stretch_le, le_back, same_back, neg_above, neg_below, above_of, below_of}
+pub use Rattle.answer_lines.proofs.Stretch.{stretch, stretch_le, le_back, same_back, neg_above, neg_below, above_of, below_of}
 
 -- the K-th part of the number
 abbrev pub shrink : (K : ℕ) → 0 < K → Rational → Rational

@@ -3,9 +3,10 @@ use Rattle.std.proofs.Common.{◌≡◌, ℕ, List, ◌++◌, sym, ap, ◌∙◌
 use Rattle.stl_syntax.specs.Trace.{Trace}
 use Rattle.stl_syntax.specs.Formula.{Formula, root}
 use Rattle.stl_syntax.specs.WellFormed.{IsWellFormed}
-use Rattle.report.specs.Report.{Out, check, robust, explain, json, table, nodes_for}
-use Rattle.report.proofs.OneText.{start_once}
-use Rattle.report.proofs.StreamTexts.{stretch_once}
+use Rattle.stl_syntax.specs.Scaling.{nodes_for}
+use Rattle.report.specs.Report.{Out, check, robust, explain, json, table}
+use Rattle.answer_lines.proofs.OneText.{start_once}
+use Rattle.answer_lines.proofs.StreamTexts.{stretch_once}
 use Rattle.unit_laws.specs.Units.{finer, CheckWritesOneText, ReadTextsAreOfUnits}
 use Rattle.unit_laws.proofs.FinerCheck.{check_keeps_its_text}
 use Rattle.unit_laws.proofs.FinerRobust.{robust_is_of_units}

@@ -6,12 +6,12 @@ use Rattle.stl_syntax.specs.Trace.{Trace, start}
 use Rattle.stl_syntax.specs.Formula.{root}
 use Rattle.stl_syntax.specs.Truth.{Truth}
 use Rattle.stl_syntax.specs.Kept.{Kept}
-use Rattle.stl_syntax.specs.Scaling.{scaled_node}
+use Rattle.stl_syntax.specs.Scaling.{scaled_node, nodes_for}
 use Rattle.stl_syntax.specs.declared.items.Item.{Item}
 use Rattle.stl_syntax.specs.declared.node.Node.{Node}
 use Rattle.stl_syntax.specs.declared.node.Node.TheVariants.{Atom as Leaf, Until, Eventually, Always, Since, Once, Historically}
 use Rattle.stl_syntax.proofs.TruthLemmas.{Truth-same}
-use Rattle.report.specs.Report.{IsItemLines, nodes_for}
+use Rattle.report.specs.Report.{IsItemLines}
 use Rattle.unit_laws.specs.Origins.{AreDelayedItems, ExplanationsMove}
 use Rattle.unit_laws.proofs.NearTimes.{Move, ahead, behind}
 use Rattle.unit_laws.proofs.Clocks.{clock}

@@ -15,8 +15,8 @@ use Rattle.stl_syntax.specs.Texts.{IsNumberText, ArePieceLines}
 use Rattle.stl_syntax.specs.Verdicts.{Describes}
 use Rattle.online_nodes.specs.MarginStream.{TellsLeftOpen, IsNewMargins, IsMarginStream}
 use Rattle.trace_stream.specs.Streams.{verdicts, early, margins}
-use Rattle.report.specs.Report.{nodes_for}
-use Rattle.report.proofs.KeptTexts.{number_of_same}
+use Rattle.stl_syntax.specs.Scaling.{nodes_for}
+use Rattle.answer_lines.proofs.KeptTexts.{number_of_same}
 use Rattle.unit_laws.specs.Origins.{delayed_row, IsDelayedKnot, AreDelayedPieces}
 use Rattle.unit_laws.specs.StreamOrigins.{IsStretchLater, IsNewTextLater, IsNewMarginsLater, IsEarlyTextLater, at_row_later, at_end_too, not_yet_too}
 use Rattle.unit_laws.specs.StreamOrigins.{StreamTextLater, StreamsMove}

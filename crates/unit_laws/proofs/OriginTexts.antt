@@ -8,7 +8,8 @@ use Rattle.stl_syntax.specs.Knots.{Piece, Knots}
 use Rattle.stl_syntax.specs.Truth.{Truth}
 use Rattle.stl_syntax.specs.Texts.{IsStartLine}
 use Rattle.stl_syntax.proofs.TruthLemmas.{Truth-same}
-use Rattle.report.specs.Report.{check, robust, explain, json, table, nodes_for}
+use Rattle.stl_syntax.specs.Scaling.{nodes_for}
+use Rattle.report.specs.Report.{check, robust, explain, json, table}
 use Rattle.unit_laws.specs.Origins.{delayed, earlier, piece_at, knots_at, AreDelayedPieces, AreDelayedKnots, TextsMove}
 use Rattle.unit_laws.proofs.OriginRows.{delayed_counts, clock_later, truth_moves}
 use Rattle.unit_laws.proofs.OriginVerdicts.{verdicts_move}

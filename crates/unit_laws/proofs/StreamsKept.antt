@@ -6,8 +6,8 @@ use Rattle.stl_syntax.specs.Stream.{IsStreamText}
 use Rattle.stl_syntax.specs.EarlyText.{IsEarlyText}
 use Rattle.online_nodes.specs.MarginStream.{IsMarginStream}
 use Rattle.stl_syntax.specs.WellFormed.{IsWellFormed}
-use Rattle.report.specs.Report.{nodes_for}
-use Rattle.report.proofs.StreamTexts.{stream_once, early_once}
+use Rattle.stl_syntax.specs.Scaling.{nodes_for}
+use Rattle.answer_lines.proofs.StreamTexts.{stream_once, early_once}
 use Rattle.trace_stream.specs.Streams.{verdicts, early, margins}
 use Rattle.trace_stream.proofs.MarginTexts.{margin_stream_once}
 use Rattle.unit_laws.specs.Units.{finer_row, finer}

@@ -14,8 +14,9 @@ use Rattle.stl_syntax.specs.declared.items.Item.{Item}
 use Rattle.stl_syntax.specs.Texts.{AreVerdictLines, IsStartLine, AreMarginLines, newline}
 use Rattle.serde_json.specs.Data.{Data}
 use Rattle.serde_json.specs.Written.{compact_text}
+use Rattle.stl_syntax.specs.Scaling.{nodes_for}
 use Rattle.report.specs.Json.{IsReportData}
-use Rattle.report.specs.Report.{Command, check, robust, explain, json, table, Out, nodes_for, IsExplained, AreItemLines}
+use Rattle.report.specs.Report.{Command, check, robust, explain, json, table, Out, IsExplained, AreItemLines}
 use Rattle.report.specs.Table.{IsTableText}
 
 -- the row d ticks later

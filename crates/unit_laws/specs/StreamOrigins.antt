@@ -10,10 +10,10 @@ use Rattle.stl_syntax.specs.Texts.{IsNumberText, AreVerdictLines, IsStartLine, s
 use Rattle.stl_syntax.specs.Verdicts.{Describes, TellsClosed}
 use Rattle.stl_syntax.specs.declared.items.Verdict.{Verdict}
 use Rattle.online_nodes.specs.MarginStream.{TellsLeftOpen}
-use Rattle.report.specs.Report.{nodes_for}
 use Rattle.trace_stream.specs.Streams.{Stream, verdicts, early, margins}
 use Rattle.unit_laws.specs.Origins.{delayed, AreDelayed, IsDelayedKnot, AreDelayedPieces, AreDelayedKnots}
 use Rattle.unit_laws.specs.Streams.{Owes}
+use Rattle.stl_syntax.specs.Scaling.{nodes_for}
 
 -- the verdict lines of a stretch, with each time d ticks later
 abbrev pub IsStretchLater : ℕ → Subformula → Trace → Interval → List ℕ → Type 0

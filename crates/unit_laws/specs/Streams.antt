@@ -5,9 +5,9 @@ use Rattle.stl_syntax.specs.Formula.{Formula, root}
 use Rattle.stl_syntax.specs.WellFormed.{IsWellFormed}
 use Rattle.trace_reader.specs.TraceRefusals.{HasTrace}
 use Rattle.trace_reader.specs.declared.refusal.Limits.{Limits}
-use Rattle.report.specs.Report.{nodes_for}
 use Rattle.trace_stream.specs.Streams.{Stream, verdicts, early, margins, StreamText}
 use Rattle.unit_laws.specs.Units.{finer}
+use Rattle.stl_syntax.specs.Scaling.{nodes_for}
 
 -- what the stream owes for the rows of a trace, and for its end where the input has ended with them
 abbrev pub Owes : Stream → Formula → Trace → Bool → List ℕ → Type 0

@@ -9,7 +9,8 @@ use Rattle.stl_syntax.specs.SupInf.{Robustness}
 use Rattle.stl_syntax.specs.WellFormed.{IsWellFormed}
 use Rattle.trace_reader.specs.TraceRefusals.{HasTrace}
 use Rattle.trace_reader.specs.declared.refusal.Limits.{Limits}
-use Rattle.report.specs.Report.{Command, check, robust, explain, json, table, Out, nodes_for}
+use Rattle.stl_syntax.specs.Scaling.{nodes_for}
+use Rattle.report.specs.Report.{Command, check, robust, explain, json, table, Out}
 
 -- the row in ticks that are 10^k and 10^m times smaller
 abbrev pub finer_row : ℕ → ℕ → Row → Row

@@ -10,7 +10,7 @@ use Rattle.time_sets.specs.Windows.{IsDomain, IsOf}
 use Rattle.stl_syntax.specs.Texts.{AreVerdictLines, start_line}
 use Rattle.stl_syntax.specs.declared.items.Verdict.{Verdict}
 use Rattle.stl_syntax.specs.declared.scale.Scale.{Scale}
-use Rattle.report.proofs.Lines.{lines_join}
+use Rattle.answer_lines.proofs.Lines.{lines_join}
 use Rattle.truth_sets.specs.declared.growing.Judged.{Judged}
 use Rattle.verdict_sets.specs.Telling.{IsVerdictAt, AreVerdictsFrom, AreLinesFrom, AreLeft, IsToldTo}
 use Rattle.verdict_sets.specs.declared.lines.Told.{Told}

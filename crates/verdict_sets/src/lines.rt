@@ -7,8 +7,8 @@ ghost use Rattle.time_sets.specs.Turns.{place};
 ghost use Rattle.time_sets.specs.Windows.{IsDomain, IsOf};
 ghost use Rattle.verdict_sets.specs.Telling.{IsVerdictOf, IsFirstTruth};
 
+use answer_lines::{LineRoom, LinesLeft};
 use frac128::{Frac, Span};
-use report::{LineRoom, LinesLeft};
 use stl_syntax::{Scale, Verdict};
 use time_sets::Span as Stretch;
 use truth_sets::Judged;

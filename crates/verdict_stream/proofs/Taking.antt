@@ -22,7 +22,7 @@ use Rattle.online_nodes.specs.Held.{held_at}
 use Rattle.online_nodes.proofs.EmittedLaw.{taken_within}
 use Rattle.online_nodes.proofs.FrameLaw.{no_more_by_take}
 use Rattle.online_net.specs.Nets.{Parts, Stands, IsNext, IsStepped}
-use Rattle.report.specs.Appended.{Grew}
+use Rattle.answer_lines.specs.Appended.{Grew}
 use Rattle.verdict_stream.specs.Watching.{first_truth, kept_truth, Pass, CanTake, HasTaken, HasGiven}
 use Rattle.verdict_stream.specs.declared.watcher.Network.{Network}
 use Rattle.verdict_stream.proofs.Cutting.{lines_more}

@@ -38,7 +38,7 @@ use Rattle.online_nodes.proofs.RowsLaw.{goes_on_itself}
 use Rattle.online_nodes.proofs.RunLaw.{none_is_none}
 use Rattle.online_nodes.proofs.StayLaw.{emitted_stays}
 use Rattle.online_net.specs.Nets.{Stands}
-use Rattle.report.specs.Appended.{Grew}
+use Rattle.answer_lines.specs.Appended.{Grew}
 use Rattle.verdict_stream.specs.Watching.{first_truth, Pass, HasTakenAll}
 use Rattle.verdict_stream.specs.declared.watcher.Network.{Network}
 use Rattle.verdict_stream.proofs.Passes.{state_after, parted, rows_stay, emitted_alike, Gives, pass_gives, text_of_given}

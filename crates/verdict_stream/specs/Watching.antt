@@ -11,7 +11,7 @@ use Rattle.online_nodes.specs.Network.{Event, row, node_is_atom, Emitted}
 use Rattle.online_nodes.specs.Needed.{IsTaken}
 use Rattle.online_nodes.specs.Driven.{rows_of, takes, most_rows, IsDriven}
 use Rattle.online_net.specs.Nets.{Stands}
-use Rattle.report.specs.Appended.{Grew}
+use Rattle.answer_lines.specs.Appended.{Grew}
 use Rattle.trace_stream.specs.Cases.{IsCase}
 use Rattle.trace_stream.specs.Streams.{verdicts, StreamText}
 use Rattle.trace_stream.specs.declared.case.Case.{Case}

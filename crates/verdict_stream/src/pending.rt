@@ -2,11 +2,11 @@
 ghost use Rattle.std.specs.Prelude.{◌≡◌, ◌↔◌, ◌++◌, ◌∷◌, [], ◌≤◌, IsTrue, IfOk};
 ghost use Rattle.frac128.specs.Spans.{interval};
 ghost use Rattle.rational.specs.Places.{Before, begins, ends};
-ghost use Rattle.report.specs.Appended.{Grew};
+ghost use Rattle.answer_lines.specs.Appended.{Grew};
 ghost use Rattle.verdict_stream.specs.Pendings.{just_after, GoesBeyond, IsNextUpTo, IsCut, IsPartBefore, IsPartAfter, IsTextUpTo};
 
+use answer_lines::VerdictLines;
 use frac128::{Cut, Frac, Memory, Span};
-use report::VerdictLines;
 use std::alloc::Global;
 use std::collections::VecDeque;
 use std::marker::Model;

@@ -7,7 +7,7 @@ ghost use Rattle.online_nodes.specs.Network.{Event, node_is_atom};
 ghost use Rattle.online_nodes.specs.Driven.{most_rows, steps_of};
 ghost use Rattle.online_net.specs.Nets.{Stands};
 ghost use Rattle.online_net.specs.Stretches.{rows_between};
-ghost use Rattle.report.specs.Appended.{Grew};
+ghost use Rattle.answer_lines.specs.Appended.{Grew};
 ghost use Rattle.verdict_stream.specs.Pendings.{IsTextOfRow, IsTextOfRows};
 ghost use Rattle.trace_stream.specs.Streams.{verdicts};
 ghost use Rattle.trace_stream.specs.Cases.{Takes, with_row};
@@ -17,10 +17,10 @@ ghost use Rattle.verdict_stream.specs.Watching.{IsWatched, Watches, IsOwing, IsL
 ghost use Rattle.trace_stream.specs.declared.case.Case.{Case as Of};
 
 use crate::pending::Pending;
+use answer_lines::{VerdictLines, put_start};
 use atom_lines::Bound;
 use frac128::Memory;
 use online_net::Net;
-use report::{VerdictLines, put_start};
 use std::alloc::Global;
 use stl_syntax::{Formula, Node, Text, Verdict};
 use trace_reader::{Row, Trace};

@@ -12,7 +12,8 @@ use Rattle.stl_syntax.specs.SupInf.{Setting, Robustness, margin_setting}
 use Rattle.stl_syntax.specs.WideCause.{IsCrossingCause, IsValueCause}
 use Rattle.stl_syntax.specs.declared.node.Node.{Node}
 use Rattle.stl_syntax.specs.declared.items.Item.{Item}
-use Rattle.report.specs.Report.{Command, check, robust, explain, json, table, Out, nodes_for}
+use Rattle.stl_syntax.specs.Scaling.{nodes_for}
+use Rattle.report.specs.Report.{Command, check, robust, explain, json, table, Out}
 use Rattle.trace_stream.specs.Streams.{HoldsAtStart, TellsTruth, status_of_truth}
 use Rattle.whole_answers.specs.declared.no_answer.NoAnswer.{NoAnswer}
 use Rattle.whole_answers.specs.declared.no_answer.NoAnswer.TheVariants.{NoMemory, Wide, TooMany}

@@ -3,7 +3,8 @@ use Rattle.std.specs.Prelude.{◌≡◌, ℕ, ◌≤◌, Bool, true, false, List
 use Rattle.stl_syntax.specs.Formula.{Formula, root}
 use Rattle.stl_syntax.specs.Trace.{Trace}
 use Rattle.trace_reader.specs.TraceText.{lines}
-use Rattle.report.specs.Report.{Command, Out, nodes_for}
+use Rattle.stl_syntax.specs.Scaling.{nodes_for}
+use Rattle.report.specs.Report.{Command, Out}
 pub use Rattle.trace_stream.specs.Streams.{TellsTruth, IsLastVerdict}
 use Rattle.workbench.specs.Requests.{Stream, Request, no_form, refused, whole, stream, sessions, generated, usage_line}
 use Rattle.workbench.specs.Owed.{limits_of, StreamText, Owes, OwesLines, HasTooMany}

@@ -21,4 +21,4 @@ pub use Rattle.trace_reader.specs.InputFaults.{
   faulted,
   faulted_header,
 }
-pub use Rattle.report.specs.FaultTexts.{fault_text}
+pub use Rattle.answer_lines.specs.FaultTexts.{fault_text}

@@ -8,7 +8,6 @@ use Rattle.online_nodes.specs.MarginEdges.{AreEmittedParts}
 use Rattle.online_robust.specs.Nets.{Parts, StandsFor}
 use Rattle.online_robust.specs.Pasts.{part_of}
 use Rattle.online_robust.specs.declared.line.MarginLine.{MarginLine}
-use Rattle.report.specs.Report.{nodes_for}
 use Rattle.session_mux.specs.Muxes.{Muxed, StandsForAll as StandForAll}
 use Rattle.trace_reader.specs.TraceText.{lines}
 use Rattle.trace_stream.specs.CaseReader.{IsWhole}
@@ -19,6 +18,7 @@ use Rattle.workbench.specs.Sessions.{Tagged, AreTagged}
 use Rattle.written_streams.specs.Watches.{Watched, StandsForAll}
 use Rattle.workbench.specs.declared.kept.Kept.{Kept}
 use Rattle.workbench.specs.declared.kept.Kept.TheVariants.{Watch, Early, Mux, Margins}
+use Rattle.stl_syntax.specs.Scaling.{nodes_for}
 
 -- the requests that leave something
 abbrev pub keeps : Request → Bool

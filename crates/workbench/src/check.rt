@@ -7,8 +7,8 @@ ghost use Rattle.workbench.specs.Wholes.{IsWholeEnd};
 
 use crate::fault::{Stop, stop_for};
 use crate::top::{LIMITS, write_lines};
+use answer_lines::LineRoom;
 use io_edge::{Sink, Source};
-use report::LineRoom;
 use std::alloc::Global;
 use stl_syntax::Formula;
 use verdict_sets::VerdictSets;

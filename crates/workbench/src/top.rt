@@ -5,7 +5,7 @@ ghost use Rattle.io_edge.specs.Calls.{drained, filled};
 ghost use Rattle.command_line.specs.Saying.{IsSaid};
 ghost use Rattle.stl_grammar.specs.FormulaRefusals.{IsFormulaOf};
 ghost use Rattle.trace_stream.specs.Cases.{IsCase};
-ghost use Rattle.report.specs.Lines.{line_text};
+ghost use Rattle.answer_lines.specs.Lines.{line_text};
 ghost use Rattle.workbench.specs.Requests.{Request, AreHeld, AskToGenerate, Asks, IsAsked, is_streamed};
 ghost use Rattle.command_line.specs.Commands.{on_formula, generate as of_workload};
 ghost use Rattle.command_line.specs.Commands as word;
@@ -22,16 +22,17 @@ use crate::fault::{Stop, stop_for};
 use crate::kept::Kept;
 use crate::many::Many;
 use crate::stream::{Push, stream};
-use command_line::{Command, Mode, asked, refuse, say, workload_of, write_all, write_left};
-use command_line::{no_form_line, no_memory_line, not_streamed_line, read_fault_line};
-use command_line::{too_many_cells_line, wide_line, write_fault_line};
+use answer_lines::{Line, LineRoom, LinesLeft};
+use command_line::{
+    Command, Mode, asked, no_form_line, no_memory_line, not_streamed_line, read_fault_line, refuse,
+    say, too_many_cells_line, wide_line, workload_of, write_all, write_fault_line, write_left,
+};
 use early_stream::Deciding;
 use explained_answers::{give_reasons, give_report};
 use frac128::Memory;
 use io_edge::{Sink, Source};
 use margin_stream::Margins;
 use online_robust::first_unstreamed;
-use report::{Line, LineRoom, LinesLeft};
 use session_mux::input_fault_line;
 use std::alloc::Global;
 use stl_grammar::parse;

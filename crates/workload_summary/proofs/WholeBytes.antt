@@ -3,7 +3,6 @@ use Rattle.std.proofs.Common.{◌≡◌, ℕ, ◌≤◌, Bool, true, false, List
 use Rattle.stl_syntax.specs.Formula.{Formula, root}
 use Rattle.stl_syntax.specs.Stream.{IsStreamText}
 use Rattle.stl_syntax.specs.Trace.{Trace, IsTrace}
-use Rattle.report.specs.Report.{nodes_for}
 use Rattle.trace_reader.specs.InputFaults.{whole_limits, IsInputFault}
 use Rattle.trace_reader.specs.declared.refusal.Limits.{Limits}
 use Rattle.trace_reader.proofs.TraceRefusalLaw.{Trace-unique}
@@ -25,6 +24,7 @@ use Rattle.verdict_stream.specs.Watching.{WatchesEnd}
 use Rattle.verdict_stream.specs.declared.verdicts.Verdicts.{Verdicts}
 use Rattle.workload_summary.specs.Counting.{line_count}
 use Rattle.workload_summary.proofs.LineCounts.{ends_in_line}
+use Rattle.stl_syntax.specs.Scaling.{nodes_for}
 
 -- ---- reading
 

@@ -3,9 +3,9 @@ use Rattle.std.specs.Prelude.{◌≡◌, ℕ, suc, Bool, true, List}
 use Rattle.stl_syntax.specs.Formula.{Formula, root}
 use Rattle.stl_syntax.specs.Stream.{IsStreamText}
 use Rattle.stl_syntax.specs.Trace.{Trace}
-use Rattle.report.specs.Report.{nodes_for}
 use Rattle.verdict_sets.specs.Telling.{IsCheckAnswer}
 use Rattle.workload_summary.specs.Counting.{line_count}
+use Rattle.stl_syntax.specs.Scaling.{nodes_for}
 
 -- so many in the answer of `check`
 pub record IsChecked (f : Formula) (tr : Trace) (lines : ℕ) (holds : Bool) : Type 0 where

@@ -3,7 +3,8 @@ use Rattle.std.specs.Prelude.{◌≡◌, ℕ, suc, true, List, ◌++◌, codes, 
 use Rattle.stl_syntax.specs.Formula.{Formula, root}
 use Rattle.stl_grammar.specs.Grammar.{FormulaText}
 use Rattle.stl_syntax.specs.Texts.{newline, IsStartLine}
-use Rattle.report.specs.Report.{check, Out, nodes_for}
+use Rattle.stl_syntax.specs.Scaling.{nodes_for}
+use Rattle.report.specs.Report.{check, Out}
 use Rattle.stl_syntax.specs.Stream.{IsStreamText}
 pub use Rattle.workload.specs.Generated.{next_state, state_value, rows_after, generated, row_line, generated_bytes}
 pub use Rattle.workload.specs.Judged.{judged}

@@ -8,8 +8,8 @@ ghost use Rattle.verdict_sets.specs.Keeping.{HasSets};
 ghost use Rattle.workload_summary.specs.Counts.{IsChecked, IsStreamed};
 
 use crate::lines::verdict_lines;
+use answer_lines::{LineRoom, LinesLeft};
 use frac128::Memory;
-use report::{LineRoom, LinesLeft};
 use std::alloc::Global;
 use stl_syntax::{Formula, Text};
 use trace_reader::Limits;

@@ -4,9 +4,9 @@ ghost use Rattle.stl_syntax.specs.Texts.{newline, start_line};
 ghost use Rattle.workload_summary.specs.Generator.{IsSummary};
 
 use crate::counts::{checked, watched};
+use answer_lines::put_start;
 use frac128::Memory;
 use itoa::Buffer;
-use report::put_start;
 use std::alloc::Global;
 use stl_syntax::Text;
 use workload::{gen_trace, judged_formula};

@@ -6,7 +6,6 @@ use Rattle.stl_syntax.specs.Trace.{Trace}
 use Rattle.stl_syntax.specs.Stream.{IsStreamText}
 use Rattle.stl_syntax.specs.declared.scale.UnitFault.TheVariants as unit_fault
 use Rattle.trace_reader.specs.declared.refusal.Limits.{Limits}
-use Rattle.report.specs.Report.{nodes_for}
 use Rattle.trace_stream.specs.Streams.{HoldsAtStart, verdicts}
 use Rattle.trace_stream.specs.Cases.{IsNamed}
 use Rattle.trace_reader.specs.InputFaults.{Fault, of_trace, unknown, unit, IsInputFault}
@@ -23,6 +22,7 @@ use Rattle.written_streams.specs.declared.watch.Phase.{Phase}
 use Rattle.written_streams.specs.declared.watch.Phase.TheVariants.{Reading, Stopped, Ended}
 use Rattle.written_streams.specs.declared.watch.WatchFault.{WatchFault}
 use Rattle.written_streams.specs.declared.watch.WatchFault.TheVariants as fault
+use Rattle.stl_syntax.specs.Scaling.{nodes_for}
 
 -- what a watch keeps: the reader with what follows its rows, and how far it has come
 pub record Watched : Type 0 where

@@ -1,4 +1,4 @@
-use Rattle.report.specs.Lines.{line_text}
+use Rattle.answer_lines.specs.Lines.{line_text}
 use Rattle.command_line.proofs.RefusedEnds.{said}
 use Rattle.command_line.proofs.line.say.Goals as goal
 

@@ -1,6 +1,6 @@
 use Rattle.std.proofs.Common.{◌++◌, List, ℕ}
-use Rattle.report.specs.Lines.{number_text, detail_text}
-use Rattle.report.specs.declared.line.Line.{Line}
+use Rattle.answer_lines.specs.Lines.{number_text, detail_text}
+use Rattle.answer_lines.specs.declared.line.Line.{Line}
 use Rattle.command_line.proofs.Devices.{part_err, part_more, part_on, written_on}
 use Rattle.command_line.proofs.line.write_parts.Goals as goal
 

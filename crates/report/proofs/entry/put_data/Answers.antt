@@ -3,8 +3,8 @@ use Rattle.std.proofs.lemmas.Result.{on_ok_weaker, on_err_weaker}
 use Rattle.rational.proofs.Lists.{on_err_anyway}
 use Rattle.serde_json.specs.View.{view}
 use Rattle.serde_json.specs.Written.{compact_text}
-use Rattle.report.specs.Appended.{Is}
-use Rattle.report.proofs.Growths.{part_none}
+use Rattle.answer_lines.specs.Appended.{Is}
+use Rattle.answer_lines.proofs.Growths.{part_none}
 use Rattle.report.proofs.entry.put_data.Goals as goal
 
 pub returns-in_err-written-clause-err : goal.returns-in_err-written-clause-err

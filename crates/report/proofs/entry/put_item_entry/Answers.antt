@@ -3,8 +3,8 @@ use Rattle.std.proofs.lemmas.Result.{on_ok_weaker, on_err_weaker}
 use Rattle.rational.proofs.Lists.{on_err_anyway}
 use Rattle.serde_json.specs.View.{view}
 use Rattle.serde_json.specs.Written.{compact_text, has_float}
-use Rattle.report.specs.Appended.{Is}
-use Rattle.report.proofs.Growths.{part_none, part_as}
+use Rattle.answer_lines.specs.Appended.{Is}
+use Rattle.answer_lines.proofs.Growths.{part_none, part_as}
 use Rattle.report.specs.JsonTexts.{IsItemEntry}
 use Rattle.report.proofs.JsonParts.{item_entry_exists}
 use Rattle.report.proofs.entry.put_item_entry.Goals as goal

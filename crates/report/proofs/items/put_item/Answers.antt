@@ -4,7 +4,7 @@ use Rattle.rational.proofs.Lists.{on_err_anyway}
 use Rattle.stl_syntax.specs.Texts.{newline}
 use Rattle.stl_syntax.proofs.PrintLemmas.{three_pieces}
 use Rattle.report.specs.ItemLines.{IsItemLine}
-use Rattle.report.proofs.Parts.{part_in, unwritten}
+use Rattle.answer_lines.proofs.Parts.{part_in, unwritten}
 use Rattle.report.proofs.ItemTexts.{truth_words, item_line, line_with, line_exists}
 use Rattle.report.proofs.WritingItems.{four_pieces}
 use Rattle.report.proofs.items.put_item.Goals as goal

@@ -4,7 +4,7 @@ use Rattle.rational.proofs.Lists.{on_err_anyway}
 use Rattle.serde_json.specs.View.{view}
 use Rattle.serde_json.specs.Written.{has_float, compact_text}
 use Rattle.report.specs.JsonTexts.{AreItemEntries, IsOpened, IsOpening, HeadParts}
-use Rattle.report.proofs.Growths.{grew_as, grew_then, part_as, part_none, part_then, part_first}
+use Rattle.answer_lines.proofs.Growths.{grew_as, grew_then, part_as, part_none, part_then, part_first}
 use Rattle.report.proofs.JsonData.{head_front, head_ends}
 use Rattle.report.proofs.JsonItems.{list_exists}
 use Rattle.report.proofs.ReportTexts.{head_exists}

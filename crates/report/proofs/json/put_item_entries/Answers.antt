@@ -1,11 +1,11 @@
 use Rattle.std.proofs.Common.{◌≡◌, ◌<◌, [], length, drop, arith, codes}
 use Rattle.std.proofs.lemmas.Result.{on_ok_weaker, on_err_weaker}
 use Rattle.rational.proofs.Lists.{on_err_anyway}
-use Rattle.report.specs.Appended.{Then, Is}
+use Rattle.answer_lines.specs.Appended.{Then, Is}
 use Rattle.report.specs.JsonTexts.{IsItemEntry, AreLaterEntries, AreItemEntries}
-use Rattle.report.proofs.Growths.{grew_is, grew_as, grew_then, part_none, part_as, part_then, part_first, some_then}
+use Rattle.answer_lines.proofs.Growths.{grew_is, grew_as, grew_then, part_none, part_as, part_then, part_first, some_then}
 use Rattle.report.proofs.JsonItems.{ListParts, list_entries, later_exist, no_entries, list_exists}
-use Rattle.report.proofs.JsonParts.{word_exists}
+use Rattle.answer_lines.proofs.Growths.{word_exists}
 use Rattle.report.proofs.WritingItems.{atom_of_line}
 use Rattle.report.proofs.json.put_item_entries.Goals as goal
 

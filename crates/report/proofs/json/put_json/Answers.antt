@@ -1,10 +1,10 @@
 use Rattle.std.proofs.Common.{ℕ, List, true}
 use Rattle.std.proofs.lemmas.Result.{on_ok_weaker, on_err_weaker}
 use Rattle.rational.proofs.Lists.{on_err_anyway}
-use Rattle.report.specs.Appended.{Then}
+use Rattle.answer_lines.specs.Appended.{Then}
 use Rattle.report.specs.JsonTexts.{HeadParts}
 use Rattle.report.specs.ReportText.{IsReportText, TailParts}
-use Rattle.report.proofs.Growths.{grew_as, grew_then, part_as, part_then, part_first}
+use Rattle.answer_lines.proofs.Growths.{grew_as, grew_then, part_as, part_then, part_first}
 use Rattle.report.proofs.ReportTexts.{report_is, tail_exists, signal_entries_exist}
 use Rattle.report.proofs.json.put_json.Goals as goal
 use Rattle.report.proofs.json.put_json.Goals.{After-start_of-holds}

@@ -3,12 +3,13 @@ use Rattle.std.proofs.lemmas.Result.{on_ok_weaker, on_err_weaker}
 use Rattle.rational.proofs.Lists.{on_err_anyway}
 use Rattle.value_laws.specs.Kinds.{margin_shape}
 use Rattle.pl_signal.specs.Plain.{knots_of}
-use Rattle.report.specs.Appended.{Grew, GrewInPart, AreEach, Is}
+use Rattle.answer_lines.specs.Appended.{Grew, GrewInPart, AreEach, Is}
 use Rattle.report.specs.JsonTexts.{AreMarginEntries, IsKnotEntry, IsStepEntry}
-use Rattle.report.specs.Steps.{steps_of}
-use Rattle.report.proofs.Growths.{grew_is, grew_then, part_none, part_then, part_first}
-use Rattle.report.proofs.MarginTexts.{knot_within}
-use Rattle.report.proofs.JsonParts.{word_exists, first_is, LaterMargins, later_margins_exist}
+use Rattle.answer_lines.specs.Steps.{steps_of}
+use Rattle.answer_lines.proofs.Growths.{grew_is, grew_then, part_none, part_then, part_first}
+use Rattle.answer_lines.proofs.MarginTexts.{knot_within}
+use Rattle.report.proofs.JsonParts.{first_is, LaterMargins, later_margins_exist}
+use Rattle.answer_lines.proofs.Growths.{word_exists}
 use Rattle.report.proofs.json.put_margin_entries.Goals as goal
 use Rattle.report.proofs.json.put_margin_entries.Goals.{In_ok-put_first}
 

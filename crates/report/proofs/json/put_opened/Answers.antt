@@ -3,7 +3,7 @@ use Rattle.std.proofs.lemmas.Result.{on_ok_weaker, on_err_weaker}
 use Rattle.rational.proofs.Lists.{on_err_anyway}
 use Rattle.serde_json.specs.View.{view}
 use Rattle.report.specs.JsonTexts.{EndsWithList, IsOpened}
-use Rattle.report.proofs.Growths.{part_none}
+use Rattle.answer_lines.proofs.Growths.{part_none}
 use Rattle.report.proofs.JsonParts.{text_of_opened}
 use Rattle.report.proofs.json.put_opened.Goals as goal
 use Rattle.report.proofs.json.put_opened.Goals.{After-inside}

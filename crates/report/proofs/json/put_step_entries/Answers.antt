@@ -4,12 +4,12 @@ use Rattle.std.proofs.lemmas.Result.{on_ok_weaker, on_err_weaker}
 use Rattle.rational.proofs.Lists.{on_err_anyway}
 use Rattle.value_laws.specs.Kinds.{margin_shape}
 use Rattle.pl_signal.specs.Plain.{knots_of, plain_knot, plain_piece}
-use Rattle.report.specs.Appended.{Grew, GrewInPart, AreEach}
+use Rattle.answer_lines.specs.Appended.{Grew, GrewInPart, AreEach}
 use Rattle.report.specs.JsonTexts.{IsStepEntry}
-use Rattle.report.specs.Steps.{steps_of, step}
-use Rattle.report.proofs.Growths.{part_shorter, front_then}
-use Rattle.report.proofs.MarginTexts.{knot_within}
-use Rattle.report.proofs.Sequences.{each_none, each_more, each_before, each_all}
+use Rattle.answer_lines.specs.Steps.{steps_of, step}
+use Rattle.answer_lines.proofs.Growths.{part_shorter, front_then}
+use Rattle.answer_lines.proofs.MarginTexts.{knot_within}
+use Rattle.answer_lines.proofs.Sequences.{each_none, each_more, each_before, each_all}
 use Rattle.report.proofs.StepLemmas.{step_at, steps_fewer}
 use Rattle.report.proofs.JsonParts.{step_entry_exists}
 use Rattle.report.proofs.json.put_step_entries.Goals as goal

@@ -4,13 +4,13 @@ use Rattle.rational.proofs.Lists.{on_err_anyway}
 use Rattle.serde_json.specs.Written.{compact_text, has_float}
 use Rattle.value_laws.specs.Kinds.{truth_shape, margin_shape}
 use Rattle.pl_signal.specs.Plain.{knots_of}
-use Rattle.report.specs.Appended.{Grew, GrewInPart, Is}
+use Rattle.answer_lines.specs.Appended.{Grew, GrewInPart, Is}
 use Rattle.report.specs.JsonTexts.{AreMarginEntries, IsOpened, margins_data, start_data}
 use Rattle.report.specs.ReportText.{TailParts}
 use Rattle.report.specs.VerdictForms.{AreEntries}
-use Rattle.report.proofs.Growths.{grew_is, grew_then, part_none, part_then, part_first}
+use Rattle.answer_lines.proofs.Growths.{grew_is, grew_then, part_none, part_then, part_first}
 use Rattle.report.proofs.JsonData.{margins_end, start_front, start_ends}
-use Rattle.report.proofs.JsonParts.{word_exists}
+use Rattle.answer_lines.proofs.Growths.{word_exists}
 use Rattle.report.proofs.ReportTexts.{Verdicts, FromStart, Margins, verdicts_exist, start_exists, margins_exist, tail_exists, signal_entries_exist}
 use Rattle.report.proofs.json.put_tail.Goals as goal
 use Rattle.report.proofs.json.put_tail.Goals.{In_ok-put_opened, In_ok-put_opened-2}

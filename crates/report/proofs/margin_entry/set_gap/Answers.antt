@@ -3,7 +3,7 @@ use Rattle.std.proofs.lemmas.Result.{on_ok_weaker}
 use Rattle.serde_json.specs.Data.{string}
 use Rattle.serde_json.specs.View.{view}
 use Rattle.report.specs.Forms.{with_member}
-use Rattle.report.proofs.Adding.{add_then}
+use Rattle.answer_lines.proofs.Adding.{add_then}
 use Rattle.report.proofs.margin_entry.set_gap.Goals as goal
 
 pub returns-clause-ok : goal.returns-clause-ok

@@ -2,9 +2,9 @@ use Rattle.std.proofs.Common.{false, ◌++◌, [], Some, None, append-nil, refl,
 use Rattle.std.proofs.lemmas.Result.{on_ok_weaker, on_err_weaker}
 use Rattle.rational.proofs.Tests.{same_of_beq}
 use Rattle.report.specs.VerdictForms.{IsEntry}
-use Rattle.report.proofs.Growths.{joined_same}
-use Rattle.report.proofs.Lines.{line_exists}
-use Rattle.report.proofs.Sequences.{each_one}
+use Rattle.answer_lines.proofs.Growths.{joined_same}
+use Rattle.answer_lines.proofs.Lines.{line_exists}
+use Rattle.answer_lines.proofs.Sequences.{each_one}
 use Rattle.report.proofs.signal.put_line_turn.Goals as goal
 
 pub returns-then-holds-truth-clause-ok : goal.returns-then-holds-truth-clause-ok

@@ -4,8 +4,8 @@ use Rattle.rational.proofs.Lists.{on_err_anyway}
 use Rattle.report.specs.Spelling.{listed}
 use Rattle.report.specs.VerdictForms.{IsEntry, TurnedTo, TurnCut, CutPast}
 use Rattle.report.proofs.Advances.{going, room_after_gap}
-use Rattle.report.proofs.Lines.{entry_exists}
-use Rattle.report.proofs.Sequences.{each_exist, each_grow, each_cut_first, each_cut_second}
+use Rattle.report.proofs.Entries.{entry_exists}
+use Rattle.answer_lines.proofs.Sequences.{each_exist, each_grow, each_cut_first, each_cut_second}
 use Rattle.report.proofs.signal.put_past.Goals as goal
 use Rattle.report.proofs.signal.put_past.Goals.{In_ok-put_turn, After-put_turn-2}
 

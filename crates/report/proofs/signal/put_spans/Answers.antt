@@ -14,10 +14,10 @@ use Rattle.report.specs.VerdictForms.{AreEntries, IsEntry, WrittenPast, CutPast}
 use Rattle.report.specs.declared.spelling.OpenSpan.{OpenSpan}
 use Rattle.pl_signal.specs.declared.knot.Knot.{Knot}
 use Rattle.value_laws.specs.declared.truth.Truth.{Truth}
-use Rattle.report.proofs.Lines.{entries_all, entries_part, entries_part_last}
-use Rattle.report.proofs.Growths.{part_none}
+use Rattle.report.proofs.Entries.{entries_all, entries_part, entries_part_last}
+use Rattle.answer_lines.proofs.Growths.{part_none}
 use Rattle.report.proofs.ReportTexts.{signal_entries_exist}
-use Rattle.report.proofs.Sequences.{each_grow}
+use Rattle.answer_lines.proofs.Sequences.{each_grow}
 use Rattle.report.proofs.Advances.{IsSpelledTo, spelled_start, room_to, spelled_advance, spelled_stop, stop_room, told_to_end}
 use Rattle.report.proofs.signal.put_spans.Goals as goal
 use Rattle.report.proofs.signal.put_spans.Goals.{After-put_past, After-close-end}

@@ -1,6 +1,6 @@
 use Rattle.std.proofs.Common.{◌≡◌, ◌-◌, true, false, List}
 use Rattle.stl_syntax.specs.declared.items.Verdict.{Verdict}
-use Rattle.report.specs.Appended.{Grew, AreEach}
+use Rattle.answer_lines.specs.Appended.{Grew, AreEach}
 use Rattle.report.specs.VerdictForms.{IsEntry}
 use Rattle.report.proofs.Advances.{IsSpelledTo}
 use Rattle.report.proofs.signal.put_spans.Given as goal

@@ -2,7 +2,7 @@ use Rattle.std.proofs.Common.{true, false, ◌++◌, [], Some, None, append-nil,
 use Rattle.std.proofs.lemmas.Result.{on_ok_weaker, on_err_weaker}
 use Rattle.rational.proofs.Tests.{same_of_beq}
 use Rattle.report.specs.VerdictForms.{IsEntry}
-use Rattle.report.proofs.Sequences.{each_one}
+use Rattle.answer_lines.proofs.Sequences.{each_one}
 use Rattle.report.proofs.signal.put_turn.Goals as goal
 
 pub returns-then-holds-truth-clause-ok : goal.returns-then-holds-truth-clause-ok

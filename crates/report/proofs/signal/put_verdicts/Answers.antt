@@ -14,12 +14,13 @@ use Rattle.stl_syntax.specs.declared.scale.Scale.{Scale}
 use Rattle.report.specs.declared.spelling.OpenSpan.{OpenSpan}
 use Rattle.pl_signal.specs.declared.knot.Knot.{Knot}
 use Rattle.value_laws.specs.declared.truth.Truth.{Truth}
-use Rattle.report.specs.Appended.{Grew, GrewInPart}
+use Rattle.answer_lines.specs.Appended.{Grew, GrewInPart}
 use Rattle.report.specs.SignalVerdicts.{AreSignalLines}
 use Rattle.report.specs.VerdictForms.{AreEntries}
-use Rattle.report.proofs.Growths.{grew_as, part_as, part_none, part_shorter, front_then}
-use Rattle.report.proofs.Lines.{entries_all, entries_part, entries_part_last, entries_are_lines, line_exists}
-use Rattle.report.proofs.Sequences.{each_grow}
+use Rattle.answer_lines.proofs.Growths.{grew_as, part_as, part_none, part_shorter, front_then}
+use Rattle.answer_lines.proofs.Lines.{line_exists}
+use Rattle.report.proofs.Entries.{entries_all, entries_part, entries_part_last, entries_are_lines}
+use Rattle.answer_lines.proofs.Sequences.{each_grow}
 use Rattle.report.proofs.Advances.{IsSpelledTo, spelled_start, room_to, spelled_advance, spelled_stop, stop_room, told_to_end}
 use Rattle.report.proofs.signal.put_verdicts.Goals as goal
 use Rattle.report.proofs.signal.put_verdicts.Goals.{After-put_line_past, After-close-end}

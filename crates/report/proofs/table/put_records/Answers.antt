@@ -2,11 +2,11 @@ use Rattle.std.proofs.Common.{◌≡◌, ◌+◌, ◌++◌, [], ◌∷◌, suc, 
 use Rattle.std.specs.Prelude.{slice_get}
 use Rattle.value_laws.specs.Kinds.{margin_shape}
 use Rattle.pl_signal.specs.Plain.{knots_of, plain_knot, plain_piece}
-use Rattle.report.specs.Appended.{AreEach}
-use Rattle.report.specs.Steps.{steps_of, step, between}
+use Rattle.answer_lines.specs.Appended.{AreEach}
+use Rattle.answer_lines.specs.Steps.{steps_of, step, between}
 use Rattle.report.specs.TableRows.{IsStepRow, rows_text}
-use Rattle.report.proofs.MarginTexts.{knot_within}
-use Rattle.report.proofs.Sequences.{between_none, between_more, each_join, each_one}
+use Rattle.answer_lines.proofs.MarginTexts.{knot_within}
+use Rattle.answer_lines.proofs.Sequences.{between_none, between_more, each_join, each_one}
 use Rattle.report.proofs.StepLemmas.{step_at}
 use Rattle.report.proofs.table.put_records.Goals as goal
 

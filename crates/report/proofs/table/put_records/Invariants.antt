@@ -1,7 +1,7 @@
 use Rattle.value_laws.specs.Kinds.{margin_shape}
 use Rattle.pl_signal.specs.Plain.{knots_of}
-use Rattle.report.specs.Appended.{AreEach}
-use Rattle.report.specs.Steps.{between, steps_of}
+use Rattle.answer_lines.specs.Appended.{AreEach}
+use Rattle.answer_lines.specs.Steps.{between, steps_of}
 use Rattle.report.specs.TableRows.{IsReady, IsStepRow, rows_text}
 use Rattle.report.proofs.table.put_records.Given as goal
 

@@ -2,10 +2,10 @@ use Rattle.std.proofs.Common.{◌≤◌, length, take, [], append-nil, refl, sym
 use Rattle.rational.proofs.Lists.{on_err_anyway}
 use Rattle.value_laws.specs.Kinds.{margin_shape}
 use Rattle.pl_signal.specs.Plain.{knots_of}
-use Rattle.report.specs.Appended.{Grew, AreEach}
-use Rattle.report.specs.Steps.{steps_of}
+use Rattle.answer_lines.specs.Appended.{Grew, AreEach}
+use Rattle.answer_lines.specs.Steps.{steps_of}
 use Rattle.report.specs.TableRows.{IsStepRow}
-use Rattle.report.proofs.Sequences.{each_before, each_between, each_all}
+use Rattle.answer_lines.proofs.Sequences.{each_before, each_between, each_all}
 use Rattle.report.proofs.StepLemmas.{steps_fewer}
 use Rattle.report.proofs.TableTexts.{step_row_exists}
 use Rattle.report.proofs.table.put_steps.Goals as goal

@@ -1,8 +1,8 @@
 use Rattle.std.proofs.Common.{◌≤◌, ◌-◌, take}
 use Rattle.value_laws.specs.Kinds.{margin_shape}
 use Rattle.pl_signal.specs.Plain.{knots_of}
-use Rattle.report.specs.Appended.{Grew, AreEach}
-use Rattle.report.specs.Steps.{steps_of}
+use Rattle.answer_lines.specs.Appended.{Grew, AreEach}
+use Rattle.answer_lines.specs.Steps.{steps_of}
 use Rattle.report.specs.TableRows.{IsStepRow}
 use Rattle.report.proofs.table.put_steps.Given as goal
 

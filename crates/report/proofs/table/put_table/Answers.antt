@@ -5,12 +5,12 @@ use Rattle.value_laws.specs.Kinds.{margin_shape}
 use Rattle.pl_signal.specs.Plain.{knots_of, plain_knot}
 use Rattle.rational.specs.Knots.{last_knot}
 use Rattle.rational.proofs.Lists.{on_err_anyway}
-use Rattle.report.specs.Appended.{Grew, AreEach, Then, Is}
-use Rattle.report.specs.Steps.{steps_of}
+use Rattle.answer_lines.specs.Appended.{Grew, AreEach, Then, Is}
+use Rattle.answer_lines.specs.Steps.{steps_of}
 use Rattle.report.specs.Table.{IsTableText, heading}
 use Rattle.report.specs.TableRows.{IsStepRow, IsLastRow}
-use Rattle.report.proofs.Growths.{grew_is, grew_then, grew_as, part_none, part_then, part_first, part_as}
-use Rattle.report.proofs.MarginTexts.{knot_within}
+use Rattle.answer_lines.proofs.Growths.{grew_is, grew_then, grew_as, part_none, part_then, part_first, part_as}
+use Rattle.answer_lines.proofs.MarginTexts.{knot_within}
 use Rattle.report.proofs.StepLemmas.{last_is}
 use Rattle.report.proofs.TableTexts.{TableParts, table_text, table_exists, last_row_exists}
 use Rattle.report.proofs.table.put_table.Goals as goal

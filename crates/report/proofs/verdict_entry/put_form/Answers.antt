@@ -4,11 +4,11 @@ use Rattle.rational.proofs.Lists.{on_err_anyway}
 use Rattle.serde_json.specs.Find.{get}
 use Rattle.serde_json.specs.View.{view}
 use Rattle.serde_json.specs.Written.{compact_text, has_float}
-use Rattle.report.specs.Appended.{Is}
+use Rattle.answer_lines.specs.Appended.{Is}
 use Rattle.report.specs.Forms.{IsVerdictForm}
 use Rattle.report.specs.JsonTexts.{IsDataText, IsVerdictData}
 use Rattle.report.proofs.Forms.{verdict_has_on, verdict_on}
-use Rattle.report.proofs.Growths.{part_none, part_as}
+use Rattle.answer_lines.proofs.Growths.{part_none, part_as}
 use Rattle.report.proofs.ItemTexts.{span_exists}
 use Rattle.report.proofs.verdict_entry.put_form.Goals as goal
 use Rattle.report.proofs.verdict_entry.put_form.Goals.{After-set_span, In_ok-set_span}

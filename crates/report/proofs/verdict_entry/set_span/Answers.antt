@@ -3,8 +3,8 @@ use Rattle.std.proofs.lemmas.Result.{on_ok_weaker}
 use Rattle.serde_json.specs.Data.{string}
 use Rattle.serde_json.specs.View.{view}
 use Rattle.report.specs.Forms.{with_member}
-use Rattle.report.proofs.Adding.{add_then, add_as}
-use Rattle.report.proofs.Spans.{before, after, span_text}
+use Rattle.answer_lines.proofs.Adding.{add_then, add_as}
+use Rattle.answer_lines.proofs.Spans.{before, after, span_text}
 use Rattle.report.proofs.verdict_entry.set_span.Goals as goal
 
 pub returns-clause-ok : goal.returns-clause-ok

@@ -1,6 +1,6 @@
 use Rattle.std.proofs.Common.{◌≡◌, ℕ, List, ◌++◌, append_assoc, ap, sym, ◌∙◌, refl}
 use Rattle.rational.proofs.Lists.{on_err_anyway}
-use Rattle.report.specs.Appended.{GrewInPart, Is}
+use Rattle.answer_lines.specs.Appended.{GrewInPart, Is}
 use Rattle.stl_syntax.specs.Texts.{newline}
 use Rattle.session_mux.proofs.saying.put_line.Goals as goal
 

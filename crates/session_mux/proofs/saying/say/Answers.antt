@@ -5,7 +5,7 @@ use Rattle.rational.proofs.Lists.{empty_of_test}
 use Rattle.trace_reader.specs.TraceText.{Line}
 use Rattle.trace_reader.proofs.LineLemmas.{lines-nil}
 use Rattle.circular_buffer.specs.Buffer.{Buffer, buffer, keep_last}
-use Rattle.report.specs.Appended.{GrewInPart, Is}
+use Rattle.answer_lines.specs.Appended.{GrewInPart, Is}
 use Rattle.session_mux.specs.Sessions.{prefixed}
 use Rattle.session_mux.specs.Saying.{texts, said_lines, HasSaid, HasLastLines}
 use Rattle.session_mux.proofs.saying.say.Goals as goal

@@ -3,7 +3,7 @@ use Rattle.std.specs.Prelude.{codes, slice_get}
 use Rattle.std.proofs.lemmas.List.{append-nil, take-append-drop}
 use Rattle.std.proofs.lemmas.Grind.{flat_map-append}
 use Rattle.rational.proofs.Lists.{take_on, drop_on, on_err_anyway}
-use Rattle.report.specs.Appended.{GrewInPart, Is}
+use Rattle.answer_lines.specs.Appended.{GrewInPart, Is}
 use Rattle.stl_syntax.specs.Texts.{newline}
 use Rattle.session_mux.specs.Saying.{prefixed_texts}
 use Rattle.session_mux.proofs.saying.show.Goals as goal

@@ -1,6 +1,6 @@
 use Rattle.std.proofs.Common.{sym, subst, ◌∙◌, ◌++◌, true}
 use Rattle.std.specs.Prelude.{MatchResult}
-use Rattle.report.specs.Appended.{GrewInPart, Is}
+use Rattle.answer_lines.specs.Appended.{GrewInPart, Is}
 use Rattle.stl_syntax.specs.Formula.{Formula}
 use Rattle.session_mux.specs.Owning.{stopped_now}
 use Rattle.session_mux.specs.Saying.{said_lines, HasSaid}

@@ -1,6 +1,6 @@
 use Rattle.std.proofs.Common.{sym, subst, ◌∙◌, ◌++◌, false, true}
 use Rattle.std.proofs.lemmas.Result.{err_from_is_err_and}
-use Rattle.report.specs.Appended.{GrewInPart, Is}
+use Rattle.answer_lines.specs.Appended.{GrewInPart, Is}
 use Rattle.stl_syntax.specs.Formula.{Formula}
 use Rattle.stl_syntax.specs.Texts.{newline}
 use Rattle.session_mux.specs.Owning.{next_line}

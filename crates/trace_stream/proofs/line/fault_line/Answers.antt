@@ -1,4 +1,4 @@
-use Rattle.report.specs.Lines.{line_text}
+use Rattle.answer_lines.specs.Lines.{line_text}
 use Rattle.trace_stream.proofs.FaultLines.{name_of, trace_line, unit_line, column_line}
 use Rattle.trace_stream.proofs.line.fault_line.Goals as goal
 

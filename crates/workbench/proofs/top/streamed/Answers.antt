@@ -1,5 +1,5 @@
 use Rattle.std.proofs.Common.{◌≡◌, [], refl, sym, subst, ◌∙◌, arith}
-use Rattle.report.specs.Lines.{line_text}
+use Rattle.answer_lines.specs.Lines.{line_text}
 use Rattle.workbench.specs.Requests.{Request, Asks}
 use Rattle.workbench.specs.Keeping.{Holds}
 use Rattle.workbench.specs.Pushing.{IsPushed, IsStreamedFor}

@@ -1,10 +1,10 @@
 use Rattle.std.proofs.Common.{◌≡◌, ℕ, suc, ◌≤◌, true, false, List, [], sym, subst, ◌∙◌}
 use Rattle.stl_syntax.specs.Formula.{root}
 use Rattle.stl_syntax.specs.Stream.{IsStreamText}
-use Rattle.report.specs.Report.{nodes_for}
 use Rattle.workload_summary.specs.Counting.{line_count}
 use Rattle.workload_summary.proofs.WholeBytes.{sound_as, starved, streamed, stream_lines}
 use Rattle.workload_summary.proofs.counts.watched.Goals as goal
+use Rattle.stl_syntax.specs.Scaling.{nodes_for}
 
 pub feed-requires : goal.feed-requires
 feed-requires c = record { bytes = []; written = []; is = c.in_ok-live.ensures.live }

@@ -5,14 +5,18 @@ use Rattle.workload_summary.proofs.Summaries.{generated_whole, summed}
 use Rattle.workload_summary.proofs.summary.summary.Goals as goal
 
 pub checked-requires : goal.checked-requires
-checked-requires c =
-    (generated c.args.number c.args.rows, generated_whole c.args.number c.args.rows c.requires.some c.requires.few c.in_ok-formula.formula
-    c.bytes-bytes.result.now c.in_ok-formula.ensures (c.bytes-bytes.ensures ∙ c.in_ok-trace.ensures))
+checked-requires c = (
+  generated c.args.number c.args.rows,
+  generated_whole c.args.number c.args.rows c.requires.some c.requires.few c.in_ok-formula.formula
+      c.bytes-bytes.result.now c.in_ok-formula.ensures (c.bytes-bytes.ensures ∙ c.in_ok-trace.ensures),
+)
 
 pub watched-requires : goal.watched-requires
-watched-requires c =
-    (generated c.args.number c.args.rows, generated_whole c.args.number c.args.rows c.requires.some c.requires.few c.in_ok-formula.formula
-    c.bytes-bytes.result.now c.in_ok-formula.ensures (c.bytes-bytes.ensures ∙ c.in_ok-trace.ensures))
+watched-requires c = (
+  generated c.args.number c.args.rows,
+  generated_whole c.args.number c.args.rows c.requires.some c.requires.few c.in_ok-formula.formula
+      c.bytes-bytes.result.now c.in_ok-formula.ensures (c.bytes-bytes.ensures ∙ c.in_ok-trace.ensures),
+)
 
 pub returns : goal.returns
 returns c =

@@ -1,6 +1,6 @@
 use Rattle.std.proofs.Common.{◌++◌, refl, subst}
 use Rattle.online_robust.specs.Nets.{IsTaken}
-use Rattle.report.specs.PartLines.{IsPartLine}
+use Rattle.answer_lines.specs.PartLines.{IsPartLine}
 use Rattle.margin_stream.proofs.Margined.{none_taken, one_taken, all_taken}
 use Rattle.margin_stream.proofs.margins.Margins.take_all.Goals as goal
 

@@ -6,7 +6,7 @@ use Rattle.serde_json.specs.declared.value.Value.{Value}
 use Rattle.value_laws.specs.Kinds.{margin_shape}
 use Rattle.pl_signal.specs.Plain.{plain_knot, plain_piece}
 use Rattle.report.specs.Blocks.{after_commas, AreStepForms, IsStepForm}
-use Rattle.report.specs.Steps.{step}
+use Rattle.answer_lines.specs.Steps.{step}
 use Rattle.report.proofs.Blocks.{step_there, filled_waits, filled_forms, unfilled_waits, unfilled_forms, as_long, step_entry, after_join}
 use Rattle.report.proofs.margin_entry.MarginEntries.put_step.Goals as goal
 use Rattle.report.proofs.margin_entry.MarginEntries.put_step.Goals.{After-deref_mut}

@@ -2,7 +2,7 @@ use Rattle.std.proofs.Common.{true, ◌++◌, append_assoc, refl, sym, ap, ◌�
 use Rattle.std.proofs.lemmas.Result.{on_ok_weaker, on_err_weaker}
 use Rattle.rational.proofs.Lists.{on_err_anyway}
 use Rattle.serde_json.specs.Written.{compact_text}
-use Rattle.report.specs.Appended.{GrewInPart}
+use Rattle.answer_lines.specs.Appended.{GrewInPart}
 use Rattle.report.specs.VerdictForms.{IsEntry, separator}
 use Rattle.report.proofs.verdict_entry.VerdictEntries.put.Goals as goal
 

@@ -3,7 +3,7 @@ use Rattle.std.specs.Prelude.{slice_get}
 use Rattle.std.proofs.lemmas.Option.{slice_get_read}
 use Rattle.std.proofs.lemmas.Result.{err_from_is_err_and}
 use Rattle.std.proofs.lemmas.List.{length-set}
-use Rattle.report.proofs.Sequences.{place_inside}
+use Rattle.answer_lines.proofs.Sequences.{place_inside}
 use Rattle.session_mux.specs.Sessions.{Tagged}
 use Rattle.session_mux.specs.Owning.{own_of, with_content}
 use Rattle.session_mux.specs.Standing.{HasSaidSoFar, HasReplied, HasSaidSome, IsReply, IsCutShort}

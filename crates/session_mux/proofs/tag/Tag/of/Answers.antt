@@ -1,6 +1,6 @@
 use Rattle.std.proofs.Common.{◌≡◌, ℕ, ◌+◌, ◌≤◌, List, ◌++◌, length, take, codes, arith, sym, ap, ◌∙◌}
 use Rattle.std.proofs.lemmas.List.{take-take, take_all, take-append-le}
-use Rattle.report.specs.After.{IsAdded}
+use Rattle.answer_lines.specs.After.{IsAdded}
 use Rattle.session_mux.proofs.tag.Tag.of.Goals as goal
 
 -- the tag, and with the space

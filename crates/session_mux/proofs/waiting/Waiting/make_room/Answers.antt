@@ -1,4 +1,4 @@
-use Rattle.report.proofs.Growths.{on_ok_both, joined_none}
+use Rattle.answer_lines.proofs.Growths.{on_ok_both, joined_none}
 use Rattle.session_mux.proofs.waiting.Waiting.make_room.Goals as goal
 
 pub returns-clause-joined : goal.returns-clause-joined

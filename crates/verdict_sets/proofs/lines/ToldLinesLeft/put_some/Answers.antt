@@ -9,8 +9,8 @@ use Rattle.time_sets.specs.Turns.{place}
 use Rattle.time_sets.specs.declared.turn.Turn.{Turn}
 use Rattle.stl_syntax.specs.declared.items.Verdict.{Verdict}
 use Rattle.std.specs.Prelude.{IfSome}
-use Rattle.report.specs.Rooms.{IsTextAt}
-use Rattle.report.proofs.Lines.{lines_join}
+use Rattle.answer_lines.specs.Rooms.{IsTextAt}
+use Rattle.answer_lines.proofs.Lines.{lines_join}
 use Rattle.stl_syntax.specs.Texts.{start_line}
 use Rattle.verdict_sets.specs.Telling.{IsVerdictAt, AreVerdictsFrom, AreLinesFrom}
 use Rattle.verdict_sets.proofs.LinesFrom.{lines_on, lines_end}

@@ -6,8 +6,8 @@ use Rattle.time_sets.specs.Spans.{border}
 use Rattle.stl_syntax.specs.Texts.{AreVerdictLines}
 use Rattle.stl_syntax.specs.declared.items.Verdict.{Verdict}
 use Rattle.std.specs.Prelude.{IfSome}
-use Rattle.report.specs.Appended.{Grew}
-use Rattle.report.specs.Rooms.{IsTextAt}
+use Rattle.answer_lines.specs.Appended.{Grew}
+use Rattle.answer_lines.specs.Rooms.{IsTextAt}
 use Rattle.verdict_sets.specs.Telling.{AreVerdictsFrom}
 use Rattle.verdict_sets.proofs.lines.ToldLinesLeft.put_some.Given as goal
 

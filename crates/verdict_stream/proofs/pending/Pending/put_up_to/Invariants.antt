@@ -1,7 +1,7 @@
 use Rattle.std.proofs.Common.{length, List, ◌++◌}
 use Rattle.stl_syntax.specs.declared.items.Verdict.{Verdict}
 use Rattle.stl_syntax.specs.Texts.{AreVerdictLines}
-use Rattle.report.specs.Appended.{Grew}
+use Rattle.answer_lines.specs.Appended.{Grew}
 use Rattle.verdict_stream.specs.Pendings.{AreUpTo}
 use Rattle.verdict_stream.proofs.pending.Pending.put_up_to.Given as goal
 

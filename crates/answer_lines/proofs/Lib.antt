@@ -1,0 +1,16 @@
+pub mod Parts
+pub mod Putting
+pub mod Adding
+pub mod Spans
+pub mod Tops
+pub mod Fractions
+pub mod Lines
+pub mod KeptTexts
+pub mod Growths
+pub mod MarginTexts
+pub mod Stretch
+pub mod Sequences
+pub mod OneText
+pub mod StreamTexts
+pub mod FaultLines
+pub mod RoomTexts

@@ -1,0 +1,13 @@
+pub mod Appended
+pub mod Before
+pub mod Numbers
+pub mod LineEnds
+pub mod MarginLines
+pub mod Steps
+pub mod Lines
+pub mod FaultTexts
+pub mod PartLines
+pub mod EarlyLines
+pub mod After
+pub mod Shown
+pub mod Rooms

@@ -1,5 +1,0 @@
-use Rattle.report.proofs.FaultLines.{column_text}
-use Rattle.report.proofs.fault.unknown_line.Goals as goal
-
-pub returns : goal.returns
-returns c = column_text c.args.line c.args.name.now

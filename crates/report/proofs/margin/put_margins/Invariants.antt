@@ -1,9 +1,0 @@
-use Rattle.std.proofs.Common.{◌≡◌, ◌-◌, ◌++◌, ℕ, List}
-use Rattle.value_laws.specs.Kinds.{margin_shape}
-use Rattle.report.specs.Appended.{Grew}
-use Rattle.report.proofs.MarginTexts.{AreMarginsTo}
-use Rattle.report.proofs.margin.put_margins.Given as goal
-
-abbrev pub invariant-loop-i : goal.invariant-loop-i
-invariant-loop-i l =
-    Grew (AreMarginsTo margin_shape l.scale l.s (l.i - 1)) l.initial.text (l.text ++ l.lines) × ((front : List ℕ) × (l.text ≡ l.initial.text ++ front))
