@@ -1,8 +1,8 @@
 -- How many lines texts have: two joined, the line of the truth at the start, and a text up to a place.
-use Rattle.std.proofs.Common.{◌≡◌, ◌⊎◌, inl, inr, ℕ, suc, ◌+◌, ◌<◌, ◌≤◌, Bool, true, false, if◌then◌else◌, List, [], ◌∷◌, ◌++◌}
-use Rattle.std.proofs.Common.{length, drop, get_or, refl, sym, ap, ◌∙◌, subst, arith}
+use Rattle.std.proofs.Common.{◌≡◌, ◌⊎◌, inl, inr, ℕ, ◌+◌, ◌<◌, ◌≤◌, Bool, true, false, List, [], ◌∷◌, ◌++◌}
+use Rattle.std.proofs.Common.{length, drop, get_or, refl, ap, ◌∙◌, arith}
 use Rattle.std.specs.Prelude.{◌==◌}
-use Rattle.std.proofs.lemmas.Bool.{cases_Bool, ne_eqb}
+use Rattle.std.proofs.lemmas.Bool.{cases_Bool}
 use Rattle.std.proofs.lemmas.List.{drop_more, drop_all}
 use Rattle.stl_syntax.specs.Texts.{start_line}
 use Rattle.workload_summary.specs.Counting.{line_count}
@@ -27,14 +27,6 @@ ends_in_line front line text holds parts is =
     let whole : line_count text ≡ line_count front + line_count line = ap line_count parts ∙ count_join front line in
     let one : line_count line ≡ 1 = ap line_count is ∙ one_line holds in
     omega (arith, whole, one)
-
--- an LF ends one line
-pub line_ended : (c : ℕ) → c ≡ 10 → 1 ≡ line_count (c ∷ [])
-line_ended c e = subst (λ k. 1 ≡ line_count (k ∷ [])) (sym e) refl
-
--- and another byte none
-pub none_ended : (c : ℕ) → (c ≡ 10 → ⊥) → 0 ≡ line_count (c ∷ [])
-none_ended c h = rw (ne_eqb c 10 h) refl
 
 module _ (text : List ℕ) where
   -- so many lines end before place i
