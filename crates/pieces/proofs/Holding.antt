@@ -4,7 +4,7 @@ use Rattle.rational.specs.Rational.{IsWithin}
 use Rattle.rational.specs.Time.{Rational, ◌≤ʳ◌, ◌<ʳ◌, add, whole}
 use Rattle.rational.specs.Extended.{value_at, ◌≈ᵉ◌}
 use Rattle.rational.specs.Affine.{IsBounded}
-use Rattle.rational.specs.Places.{Place, After, Upto, Before, Same, AtMost}
+use Rattle.rational.specs.Places.{Place, Upto, Before, Same, AtMost}
 use Rattle.rational.proofs.Mixed.{within_between}
 use Rattle.rational.proofs.Order.{le_or_lt, le_trans, lt_of_le_of_lt, not_lt_of_le}
 use Rattle.rational.proofs.Shift.{le_shift}

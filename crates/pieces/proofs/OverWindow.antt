@@ -1,9 +1,8 @@
 -- A window that goes over a whole chain: where it begins, the pieces that it meets, and what it has told once it is behind the last.
-use Rattle.std.proofs.Common.{◌≡◌, ◌⊎◌, ◌^◌, inl, inr, ℕ, [], Some, not, false, refl, sym, ap, ◌∙◌, subst}
+use Rattle.std.proofs.Common.{◌≡◌, ◌⊎◌, inl, inr, ℕ, [], Some, not, false, refl, sym, ap, ◌∙◌, subst}
 use Rattle.std.proofs.lemmas.Bool.{false≢true}
 use Rattle.std.specs.Int.Signed.{<ℤ_irrefl}
 use Rattle.std.specs.Prelude.{slice_get, MatchBool, ◌<ℤ◌}
-use Rattle.rational.specs.Rational.{IsWithin}
 use Rattle.rational.specs.Time.{Rational, ◌≤ʳ◌, ◌<ʳ◌, ◌≈◌, add, whole}
 use Rattle.rational.specs.Extended.{Extended, value_at, ◌≈ᵉ◌}
 use Rattle.rational.specs.Places.{Place, AtMost, Same}
@@ -22,7 +21,7 @@ use Rattle.pieces.specs.Chains.{Chain, begin_at, end, stop, IsNormal, IsWorth, T
 use Rattle.pieces.specs.Meeting.{CanBegin, GoesPast, HasMet, IsNext, Meets, StandsFor}
 use Rattle.pieces.specs.Steps.{AreSteps, StepsGive}
 use Rattle.pieces.specs.Sliding.{HasTold}
-use Rattle.pieces.specs.Windows.{Best, BestTo, CanSlide, IsNonEmpty, IsPieceFrom, Sees, Stands, high_place, low_place}
+use Rattle.pieces.specs.Windows.{Best, BestTo, IsNonEmpty, IsPieceFrom, Sees, Stands, high_place, low_place}
 use Rattle.pieces.proofs.Bests.{best_alike, best_once, best_over, best_value, over_best}
 use Rattle.pieces.proofs.BuildingLemmas.{chain_of}
 use Rattle.pieces.proofs.ChainLemmas.{to_stop, worth_after, worth_upto}

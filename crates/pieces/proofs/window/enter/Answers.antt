@@ -1,22 +1,18 @@
-use Rattle.std.proofs.Common.{◌≡◌, ◌⊎◌, ◌^◌, inr, refl, sym, subst, ◌∙◌}
-use Rattle.rational.specs.Rational.{IsWithin}
-use Rattle.rational.specs.Time.{Rational}
-use Rattle.rational.specs.Places.{After, Upto, AtMost, Before}
-use Rattle.rational.proofs.Mixed.{within_between}
+use Rattle.std.proofs.Common.{inr, refl, sym, subst, ◌∙◌}
+use Rattle.rational.specs.Places.{After, AtMost}
 use Rattle.rational.proofs.Order.{le_trans}
 use Rattle.rational.proofs.PlaceLemmas.{after_same, le_of_at_most}
 use Rattle.frac128.specs.Value.{value}
 use Rattle.frac128.specs.Cuts.{place}
 use Rattle.value_laws.specs.Members.{ShapeLaws}
 use Rattle.pieces.specs.Chains.{stop}
-use Rattle.pieces.specs.Windows.{high_place}
 use Rattle.pieces.proofs.Ends.{at_most_itself, at_most_of_same, at_most_trans}
 use Rattle.pieces.proofs.Holding.{reach_within, told_within}
 use Rattle.pieces.proofs.Meeting.{none_last, none_level, none_rises, on_ok_two}
 use Rattle.pieces.proofs.Moving.{best_with_none, keeps_told, tells_more}
 use Rattle.std.proofs.lemmas.Bool.{false≢true}
 use Rattle.std.proofs.lemmas.Option.{IfSome_then}
-use Rattle.std.proofs.lemmas.Result.{on_err_weaker, on_ok_weaker}
+use Rattle.std.proofs.lemmas.Result.{on_err_weaker}
 use Rattle.pieces.proofs.Played.{plays_told, told_cause_none}
 use Rattle.pieces.proofs.window.enter.Goals as goal
 

@@ -1,9 +1,8 @@
-use Rattle.std.proofs.Common.{◌^◌, inl, refl, sym, subst, inr}
+use Rattle.std.proofs.Common.{◌^◌, refl, sym, subst, inr}
 use Rattle.std.proofs.lemmas.Result.{on_ok_weaker}
 use Rattle.rational.specs.Time.{add, whole}
 use Rattle.rational.specs.Extended.{value_at}
-use Rattle.rational.specs.Places.{After, Upto, AtMost}
-use Rattle.rational.proofs.Order.{le_trans}
+use Rattle.rational.specs.Places.{After, AtMost}
 use Rattle.rational.proofs.PlaceLemmas.{between, le_of_at_most}
 use Rattle.rational.proofs.Shift.{le_shift}
 use Rattle.frac128.specs.Cuts.{place}

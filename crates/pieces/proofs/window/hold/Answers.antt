@@ -5,19 +5,18 @@ use Rattle.rational.specs.Rational.{IsWithin}
 use Rattle.rational.specs.Time.{Rational, ◌≤ʳ◌, whole, ◌<ʳ◌}
 use Rattle.rational.specs.Extended.{value_at}
 use Rattle.rational.specs.Places.{After, Upto, AtMost, Before}
-use Rattle.rational.proofs.Mixed.{within_between}
 use Rattle.rational.proofs.Order.{le_trans, lt_trans}
-use Rattle.rational.proofs.PlaceLemmas.{sides, after_at_most, after_same, at_most_of_not_before, before_at_most, before_of_at_most, le_of_at_most}
+use Rattle.rational.proofs.PlaceLemmas.{sides, after_at_most, after_same, at_most_of_not_before, before_at_most, le_of_at_most}
 use Rattle.rational.proofs.PlaceLemmas.{le_of_before, upto_of_before}
 use Rattle.rational.proofs.Sames.{symᵉ, transᵉ}
 use Rattle.frac128.specs.Cuts.{place}
 use Rattle.value_laws.specs.Members.{ShapeLaws}
-use Rattle.pieces.specs.Chains.{end, stop}
+use Rattle.pieces.specs.Chains.{stop}
 use Rattle.pieces.specs.Steps.{AreSteps, FallOff, HasCounted, StepsGive, steps_end}
 use Rattle.pieces.specs.Sliding.{last_end}
 use Rattle.pieces.specs.Windows.{high_place, low_place}
 use Rattle.pieces.proofs.Bests.{best_value}
-use Rattle.pieces.proofs.Ends.{after_le, upto_le, at_most_trans}
+use Rattle.pieces.proofs.Ends.{after_le, upto_le}
 use Rattle.pieces.proofs.StepLemmas.{give_some, hide_upto, to_end}
 use Rattle.pieces.proofs.Holding.{held_after, held_before, held_begins, held_bounded, held_ends, held_early, held_falls, held_plays, held_within}
 use Rattle.pieces.proofs.Holding.{told_first, told_last, told_within}

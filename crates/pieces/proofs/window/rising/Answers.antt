@@ -1,10 +1,9 @@
 use Rattle.std.proofs.Common.{◌^◌, inl, refl, sym, subst}
 use Rattle.std.proofs.lemmas.Option.{IfSome_then}
 use Rattle.std.proofs.lemmas.Result.{on_ok_weaker}
-use Rattle.rational.specs.Rational.{IsWithin}
 use Rattle.rational.specs.Time.{add, whole}
 use Rattle.rational.specs.Extended.{value_at}
-use Rattle.rational.specs.Places.{After, Upto, AtMost}
+use Rattle.rational.specs.Places.{After, AtMost}
 use Rattle.rational.proofs.Lists.{on_err_anyway}
 use Rattle.rational.proofs.PlaceLemmas.{between, le_of_at_most}
 use Rattle.rational.proofs.Shift.{le_shift}

@@ -2,7 +2,6 @@ use Rattle.std.proofs.Common.{inl, arith, ◌≡◌, ◌+◌, suc, length, sym, 
 use Rattle.std.specs.Prelude.{IfSome, OnErr, OnOk}
 use Rattle.rational.specs.Places.{AtMost}
 use Rattle.frac128.specs.Cuts.{place}
-use Rattle.value_laws.specs.Members.{ShapeLaws}
 use Rattle.pieces.specs.Chains.{Tells, begin_at, end, stop}
 use Rattle.pieces.specs.Meeting.{IsNext}
 use Rattle.pieces.specs.Over.{BasesOver, IsCauseOver}

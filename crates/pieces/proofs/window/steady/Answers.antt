@@ -4,11 +4,9 @@ use Rattle.std.proofs.lemmas.Result.{on_ok_weaker}
 use Rattle.rational.specs.Rational.{IsWithin}
 use Rattle.rational.specs.Time.{Rational, add, whole}
 use Rattle.rational.specs.Extended.{value_at}
-use Rattle.rational.specs.Places.{Upto, AtMost, Before}
+use Rattle.rational.specs.Places.{Before}
 use Rattle.rational.proofs.AffineLemmas.{bounded_same}
-use Rattle.rational.proofs.Mixed.{within_between}
-use Rattle.rational.proofs.Order.{le_trans}
-use Rattle.rational.proofs.PlaceLemmas.{sides, between, upto_of_before, before_trans, after_at_most, at_most_of_not_before, le_of_at_most}
+use Rattle.rational.proofs.PlaceLemmas.{sides, between, upto_of_before, before_trans, after_at_most, at_most_of_not_before}
 use Rattle.rational.proofs.Sames.{symᵉ, transᵉ}
 use Rattle.frac128.specs.Cuts.{place}
 use Rattle.value_laws.specs.Members.{ShapeLaws}

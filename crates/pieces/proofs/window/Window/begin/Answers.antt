@@ -1,5 +1,4 @@
 use Rattle.std.proofs.Common.{◌^◌, pos, sym, subst}
-use Rattle.rational.specs.Rational.{IsWithin}
 use Rattle.rational.specs.Time.{◌≤ʳ◌, whole}
 use Rattle.rational.proofs.Order.{le_trans}
 use Rattle.rational.proofs.PlaceLemmas.{le_of_at_most}

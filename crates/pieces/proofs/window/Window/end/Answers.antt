@@ -1,10 +1,8 @@
-use Rattle.std.proofs.Common.{◌^◌, ◌∙◌, sym, subst}
+use Rattle.std.proofs.Common.{◌∙◌, sym, subst}
 use Rattle.std.proofs.lemmas.Bool.{false≢true}
 use Rattle.std.proofs.lemmas.Option.{IfSome_then}
 use Rattle.std.proofs.lemmas.Result.{on_err_weaker, on_ok_weaker}
-use Rattle.rational.specs.Rational.{IsWithin}
 use Rattle.rational.specs.Time.{◌≤ʳ◌}
-use Rattle.rational.specs.Places.{AtMost}
 use Rattle.rational.proofs.Order.{le_refl}
 use Rattle.rational.proofs.PlaceLemmas.{le_of_at_most}
 use Rattle.frac128.specs.Value.{value}

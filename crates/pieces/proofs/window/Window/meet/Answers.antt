@@ -1,7 +1,4 @@
-use Rattle.std.proofs.Common.{◌^◌, sym, subst}
-use Rattle.rational.specs.Rational.{IsWithin}
 use Rattle.rational.proofs.Lists.{on_err_anyway}
-use Rattle.frac128.specs.Cuts.{place}
 use Rattle.value_laws.specs.Members.{ShapeLaws}
 use Rattle.pieces.proofs.Holding.{piece_first, piece_last}
 use Rattle.pieces.proofs.OverWindow.{empty_or_some, meets_next, met_blind, sees_nothing}
