@@ -8,7 +8,8 @@ use Rattle.rational.specs.Affine.{IsSteady}
 use Rattle.rational.specs.InPlay.{IsConstant}
 use Rattle.rational.specs.Line.{constant}
 use Rattle.rational.specs.Places.{Place, After, Upto, Before}
-use Rattle.rational.proofs.Order.{le_of_lt, le_trans, ge_of_same, lt_of_le_of_lt, lt_of_lt_of_le, lt_trans, left_of_middle, right_of_middle, same_sym}
+use Rattle.rational.proofs.Order.{le_of_lt, le_or_lt, le_refl, le_trans, ge_of_same, lt_of_le_of_lt, lt_of_lt_of_le, lt_trans}
+use Rattle.rational.proofs.Order.{left_of_middle, right_of_middle, same_sym}
 use Rattle.rational.proofs.Lines.{at_constant}
 use Rattle.rational.proofs.Shift.{le_shift}
 use Rattle.rational.proofs.TimeLemmas.{shifted-add}
@@ -26,7 +27,7 @@ use Rattle.pl_signal.specs.declared.faults.OpFault.TheVariants as F
 use Rattle.pieces.specs.declared.piece.Piece.{Piece}
 use Rattle.pieces.specs.declared.reach.Reach.{Reach}
 use Rattle.pieces.specs.Chains.{Chain, HasShape, end, stop, IsNormal}
-use Rattle.pieces.specs.Over.{HasBreaks, InPlay, IsCauseOver, IsMovedOver, PlaysBetween}
+use Rattle.pieces.specs.Over.{HasBreaks, InPlay, IsCauseOver, IsMovedTo, PlaysBetween}
 use Rattle.pieces.specs.Windows.{IsAtEnd, IsBestEnd, IsNonEmpty, IsPieceFrom, IsSmall, high_place, low_place}
 use Rattle.pieces.proofs.Ends.{after_of_lt, upto_le, upto_of_lt}
 use Rattle.pieces.proofs.Playing.{first_in_play, high_in_play, last_in_play, low_in_play, past_high, past_low, short_high, short_low, steady_in_play}
@@ -87,29 +88,29 @@ module _ {P : Type 0} (shape : ShapeOf P) (chain : Chain P) (over : Reach) (norm
 
 module _ {P : Type 0} (shape : ShapeOf P) (chain : Chain P) (over : Reach) where
   -- a shape that is moved by the low offset where the window's low end comes to a place of the domain has a base of the chain's
-  pub moved_over : (p r : P) (time here : Rational) → HasShape chain p → IsAtEnd shape over p time here r → chain.from.at ≤ʳ time
-      → here ≤ʳ (stop chain).at → IsMovedOver shape chain over r
-  moved_over p r time here has moved begins ends m = let (moves, which) = moved m in (p, has, moves, by_end which)
+  pub moved_over : (last : Place) (p r : P) (time here : Rational) → HasShape chain p → IsAtEnd shape over p time here r → chain.from.at ≤ʳ time
+      → here ≤ʳ last.at → IsMovedTo shape chain over last r
+  moved_over last p r time here has moved begins ends m = let (moves, which) = moved m in (p, has, moves, by_end which)
     where
       by_end : ((shape.base r ≡ shape.base p -ℤ over.low) × (add here (whole over.low) ≈ time)) ⊎ (shape.base r ≡ shape.base p -ℤ over.high)
           → (shape.base r ≡ shape.base p -ℤ over.high)
-          ⊎ ((shape.base r ≡ shape.base p -ℤ over.low) × (chain.from.at ≤ʳ shifted (stop chain).at over.low))
+          ⊎ ((shape.base r ≡ shape.base p -ℤ over.low) × (chain.from.at ≤ʳ shifted last.at over.low))
       by_end (inr e) = inl e
       by_end (inl (e, s)) = inr (
         e,
-        le_trans begins (le_trans (ge_of_same s) (le_trans (le_shift over.low ends) (ge_of_same (shifted-add (stop chain).at over.low)))),
+        le_trans begins (le_trans (ge_of_same s) (le_trans (le_shift over.low ends) (ge_of_same (shifted-add last.at over.low)))),
       )
 
   -- the low end comes into the domain where it comes to a place there
-  pub low_comes : (c b e : Place) → chain.from.at ≤ʳ c.at → Before b e → ((t : Rational) → Upto e t → Upto (stop chain) t)
-      → ((t : Rational) → After b t → Upto (stop chain) t → ¬ Before (low_place over.low over.low_in t) c)
-      → chain.from.at ≤ʳ shifted (stop chain).at over.low
-  low_comes c b e begins order inside past =
+  pub low_comes : (last c b e : Place) → chain.from.at ≤ʳ c.at → Before b e → ((t : Rational) → Upto e t → Upto last t)
+      → ((t : Rational) → After b t → Upto last t → ¬ Before (low_place over.low over.low_in t) c)
+      → chain.from.at ≤ʳ shifted last.at over.low
+  low_comes last c b e begins order inside past =
       let (t, a, u) = between b e order in
       let k = inside t u in
       le_trans begins (le_trans (le_of_at_most c (low_place over.low over.low_in t)
       (at_most_of_not_before c (low_place over.low over.low_in t) (past t a k)))
-      (le_trans (le_shift over.low (upto_le (stop chain) t k)) (ge_of_same (shifted-add (stop chain).at over.low))))
+      (le_trans (le_shift over.low (upto_le last t k)) (ge_of_same (shifted-add last.at over.low))))
 
   -- a value that is refused while its constant is in play is a cause
   pub value_cause : (p : P) (time : Frac) (a b : Rational) → a <ʳ b → chain.from.at ≤ʳ a → b ≤ʳ (stop chain).at
@@ -131,6 +132,16 @@ module _ {P : Type 0} (shape : ShapeOf P) (chain : Chain P) (over : Reach) where
         denominator = denominator;
         wide = wide;
       }))
+
+  -- so it is where its constant is in play from a time before the chain's end on
+  pub value_cause_before : (p : P) (time : Frac) (a b : Rational) → a <ʳ b → chain.from.at ≤ʳ a → (b ≤ʳ (stop chain).at) ⊎ (a <ʳ (stop chain).at)
+      → PlaysBetween shape chain over a b (value_at (shape.function p) (value time))
+      → (pair : WidePair P) → IsValueFault shape p time (F.Wide pair) → IsCauseOver shape chain over pair
+  value_cause_before p time a b order begins (inl most) plays = value_cause p time a b order begins most plays
+  value_cause_before p time a b order begins (inr early) plays = elim (le_or_lt b (stop chain).at) [
+    | inl most ↦ value_cause p time a b order begins most plays
+    | inr more ↦ value_cause p time a (stop chain).at early begins (le_refl (stop chain).at) (λ tau line l r. plays tau line l (lt_trans r more))
+  ]
 
 -- nothing is said of what was not refused
 pub none_refused : {A : Type 0} (o : Option A) (Q : A → Type 0) → o ≡ None → IfSome o Q

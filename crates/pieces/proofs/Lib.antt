@@ -33,6 +33,7 @@ pub mod Played
 pub mod Counted
 pub mod Trends
 pub mod Meeting
+pub mod Holding
 pub mod OverWindow
 pub mod Stretches
 pub mod PlayAlong

@@ -16,6 +16,7 @@ use Rattle.rational.proofs.Bounds.{level_bounded}
 use Rattle.rational.proofs.Mixed.{within_between}
 use Rattle.rational.proofs.Sames.{symᵉ, transᵉ}
 use Rattle.rational.proofs.PlaceLemmas.{le_of_at_most, le_of_before}
+use Rattle.frac128.specs.Cuts.{place}
 use Rattle.value_laws.specs.Members.{ShapeOf, ShapeLaws}
 use Rattle.pl_signal.specs.declared.joining.Side.{Side}
 use Rattle.pl_signal.specs.declared.joining.Side.TheVariants.{Least, Greatest}
@@ -54,7 +55,7 @@ limit_after x a b k order all = elim (le_or_lt x (add a (whole k))) [
 ]
 
 -- and what is at least all times up to one, each moved, is at least that one moved
-limit_before : (x a : Rational) (k : ℤ) → ((t : Rational) → t <ʳ a → add t (whole k) ≤ʳ x) → add a (whole k) ≤ʳ x
+pub limit_before : (x a : Rational) (k : ℤ) → ((t : Rational) → t <ʳ a → add t (whole k) ≤ʳ x) → add a (whole k) ≤ʳ x
 limit_before x a k all = elim (le_or_lt (add a (whole k)) x) [
   | inl h ↦ h
   | inr h ↦ (let y = add x (whole (neg_ℤ k)) in
@@ -213,7 +214,7 @@ module _ {P : Type 0} (shape : ShapeOf P) (laws : ShapeLaws shape) (chain : Chai
   pub best_with_rise : (some : IsNonEmpty way.over) (gap : P) (old : Sliding P) → Stands shape chain way c c old
       → HasEntered shape chain way c old → GetsNoWorse way.side (shape.function p.shape)
       → ((t : Rational) → value_at (shape.function gap) t ≈ᵉ value_at (shape.function p.shape) (high shape laws chain way normal t).at)
-      → (t : Rational) (v : Extended) → After (stop old.out) t → Upto (stop chain) t → ¬ Before (end p) (high shape laws chain way normal t)
+      → (t : Rational) (v : Extended) → After (stop old.out) t → Upto (place way.to) t → ¬ Before (end p) (high shape laws chain way normal t)
       → IsBestWith shape way.side old gap t v → BestTo shape chain way (end p) t v
   best_with_rise some gap old st entered rises moved t v a u n with_gap = of_best shape laws chain way normal (end p) t v (elim with_gap [
     | inl (x, g, b) ↦ met_more shape laws chain way normal some c p is t (to_best shape laws chain way normal c t x (st.gives t x g)) part b

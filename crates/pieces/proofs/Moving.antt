@@ -10,6 +10,7 @@ use Rattle.rational.proofs.AffineLemmas.{same_reflᵉ}
 use Rattle.rational.proofs.Sames.{symᵉ, transᵉ}
 use Rattle.rational.proofs.PlaceLemmas.{after_at_most, before_through, before_trans, before_at_most, before_of_at_most, upto_same}
 use Rattle.rational.proofs.PlaceLemmas.{after_same, upto_of_before}
+use Rattle.frac128.specs.Cuts.{place}
 use Rattle.value_laws.specs.Members.{ShapeOf, ShapeLaws}
 use Rattle.pieces.specs.declared.piece.Piece.{Piece}
 use Rattle.pieces.specs.declared.reach.Way.{Way}
@@ -107,7 +108,7 @@ module _ {P : Type 0} (shape : ShapeOf P) (laws : ShapeLaws shape) (chain : Chai
   -- what is told where the shape is never better than no value
   pub best_with_none : (met left : Place) (gap : P) (old : Sliding P) → Stands shape chain way met left old → AtMost met left
       → ((t : Rational) → value_at (shape.function gap) t ≈ᵉ none shape laws chain way normal)
-      → (t : Rational) (v : Extended) → Upto (stop chain) t → IsBestWith shape way.side old gap t v → BestTo shape chain way met t v
+      → (t : Rational) (v : Extended) → Upto (place way.to) t → IsBestWith shape way.side old gap t v → BestTo shape chain way met t v
   best_with_none met left gap old st most is t v u (inl (x, g, b)) =
       of_best met t v (best_value (same_of_nw better b.left) (to_best met t x (st.gives t x g)))
     where
@@ -126,8 +127,8 @@ module _ {P : Type 0} (shape : ShapeOf P) (laws : ShapeLaws shape) (chain : Chai
     pub stands_counted : (k : P) (e : Place) → HasCounted shape way.side (stop old.out) old.steps.items k e new.steps.items
         → ((t : Rational) → After (stop old.out) t → Upto e t
         → BestOf shape laws chain way normal (OfPiece shape laws chain way normal some c p is t) (value_at (shape.function k) t))
-        → ((t : Rational) → Upto e t → Before (low shape laws chain way normal t) left × Upto (stop chain) t)
-        → ((t : Rational) → After e t → Upto (stop chain) t → ¬ Before (low shape laws chain way normal t) left)
+        → ((t : Rational) → Upto e t → Before (low shape laws chain way normal t) left × Upto (place way.to) t)
+        → ((t : Rational) → After e t → Upto (place way.to) t → ¬ Before (low shape laws chain way normal t) left)
         → Stands shape chain way (end p) left new
     stands_counted k e counted part sees past = record {
       normal = subst (λ o. IsNormal shape o) (sym out) st.normal;
@@ -170,7 +171,7 @@ module _ {P : Type 0} (shape : ShapeOf P) (laws : ShapeLaws shape) (chain : Chai
 
     -- or not at all, where the window has left it before
     pub stands_left : new.steps.items ≡ old.steps.items → (e : Place) → ((t : Rational) → After (stop old.out) t → After e t)
-        → ((t : Rational) → After e t → Upto (stop chain) t → ¬ Before (low shape laws chain way normal t) left) → AtMost c left
+        → ((t : Rational) → After e t → Upto (place way.to) t → ¬ Before (low shape laws chain way normal t) left) → AtMost c left
         → Stands shape chain way (end p) left new
     stands_left same e behind past most = record {
       normal = subst (λ o. IsNormal shape o) (sym out) st.normal;
@@ -202,9 +203,9 @@ module _ {P : Type 0} (shape : ShapeOf P) (laws : ShapeLaws shape) (chain : Chai
     -- the piece does not count where the steps that go on as far are no worse than its best value
     pub stands_hidden : new.steps.items ≡ old.steps.items → (v : Extended) (e : Place) → FallOff shape way.side (stop old.out) old.steps.items
         → HideTo shape way.side old.steps.items v e
-        → ((t : Rational) → After (stop old.out) t → Upto (stop chain) t → Before (low shape laws chain way normal t) left
+        → ((t : Rational) → After (stop old.out) t → Upto (place way.to) t → Before (low shape laws chain way normal t) left
         → BestOf shape laws chain way normal (OfPiece shape laws chain way normal some c p is t) v)
-        → ((t : Rational) → After e t → Upto (stop chain) t → ¬ Before (low shape laws chain way normal t) left) → AtMost c left
+        → ((t : Rational) → After e t → Upto (place way.to) t → ¬ Before (low shape laws chain way normal t) left) → AtMost c left
         → Stands shape chain way (end p) left new
     stands_hidden same v e falls hides part past most = record {
       normal = subst (λ o. IsNormal shape o) (sym out) st.normal;
@@ -239,13 +240,13 @@ module _ {P : Type 0} (shape : ShapeOf P) (laws : ShapeLaws shape) (chain : Chai
 
   module _ (some : IsNonEmpty way.over) (c : Place) (p : Piece P) (is : IsPieceFrom shape chain c p) (old new : Sliding P)
       (st : Stands shape chain way (end p) c old) (out : new.out ≡ old.out) (entered : HasEntered shape chain way c old)
-      (left_c : (t : Rational) → After (last_end old) t → Upto (stop chain) t → ¬ Before (low shape laws chain way normal t) c) where
+      (left_c : (t : Rational) → After (last_end old) t → Upto (place way.to) t → ¬ Before (low shape laws chain way normal t) c) where
     -- a piece that gets worse counts as itself, once the window has left the place where it begins
     pub stands_slid : (slope : P) (e : Place) → GetsNoBetter way.side (shape.function p.shape)
         → ((t : Rational) → value_at (shape.function slope) t ≈ᵉ value_at (shape.function p.shape) (low shape laws chain way normal t).at)
         → HasSlid shape way.side (stop old.out) old.steps.items slope e new.steps.items
-        → ((t : Rational) → Upto e t → Before (low shape laws chain way normal t) (end p) × Upto (stop chain) t)
-        → ((t : Rational) → After e t → Upto (stop chain) t → ¬ Before (low shape laws chain way normal t) (end p))
+        → ((t : Rational) → Upto e t → Before (low shape laws chain way normal t) (end p) × Upto (place way.to) t)
+        → ((t : Rational) → After e t → Upto (place way.to) t → ¬ Before (low shape laws chain way normal t) (end p))
         → Stands shape chain way (end p) (end p) new
     stands_slid slope e falls moved slid sees past = record {
       normal = subst (λ o. IsNormal shape o) (sym out) st.normal;
@@ -268,7 +269,7 @@ module _ {P : Type 0} (shape : ShapeOf P) (laws : ShapeLaws shape) (chain : Chai
 
         sees_part : (t : Rational) (v : Extended)
             → StepsGive shape way.side (stop old.out) old.steps.items t v ⊎ (After (last_end old) t × Upto e t × Passes (shape.function slope) t v)
-            → Before (low shape laws chain way normal t) (end p) × Upto (stop chain) t
+            → Before (low shape laws chain way normal t) (end p) × Upto (place way.to) t
         sees_part t v (inl g) = let s = st.sees t v g in (before_trans (low shape laws chain way normal t) c (end p) s.0 is.order, s.1)
         sees_part t v (inr (a, u, w)) = sees t u
 

@@ -1,6 +1,8 @@
 -- A window that goes over a whole chain: where it begins, the pieces that it meets, and what it has told once it is behind the last.
 use Rattle.std.proofs.Common.{◌≡◌, ◌⊎◌, inl, inr, ℕ, [], Some, not, false, refl, sym, ap, ◌∙◌, subst}
-use Rattle.std.specs.Prelude.{slice_get, MatchBool}
+use Rattle.std.proofs.lemmas.Bool.{false≢true}
+use Rattle.std.specs.Int.Signed.{<ℤ_irrefl}
+use Rattle.std.specs.Prelude.{slice_get, MatchBool, ◌<ℤ◌}
 use Rattle.rational.specs.Time.{Rational, ◌≤ʳ◌, ◌<ʳ◌, ◌≈◌, add, whole}
 use Rattle.rational.specs.Extended.{Extended, value_at, ◌≈ᵉ◌}
 use Rattle.rational.specs.Places.{Place, AtMost, Same}
@@ -8,19 +10,24 @@ use Rattle.rational.proofs.Order.{not_lt_of_le, same_sym}
 use Rattle.rational.proofs.Shift.{same_shift}
 use Rattle.rational.proofs.TimeFunctions.{IsFunction}
 use Rattle.rational.proofs.PlaceLemmas.{after_same, before_at_most, before_of_at_most, not_both, upto_same}
+use Rattle.frac128.specs.Cuts.{place}
 use Rattle.value_laws.specs.Members.{ShapeOf, ShapeLaws}
 use Rattle.pieces.specs.declared.piece.Piece.{Piece}
 use Rattle.pieces.specs.declared.reach.Reach.{Reach}
 use Rattle.pieces.specs.declared.reach.Way.{Way}
 use Rattle.pieces.specs.declared.sliding.Sliding.{Sliding}
-use Rattle.pieces.specs.Chains.{Chain, begin_at, stop, IsNormal, IsWorth, Tells}
+use Rattle.pieces.specs.declared.window.Window.{Window}
+use Rattle.pieces.specs.Chains.{Chain, begin_at, end, stop, IsNormal, IsWorth, Tells}
+use Rattle.pieces.specs.Meeting.{CanBegin, GoesPast, HasMet, IsNext, Meets, StandsFor}
 use Rattle.pieces.specs.Steps.{AreSteps, StepsGive}
 use Rattle.pieces.specs.Sliding.{HasTold}
-use Rattle.pieces.specs.Windows.{Best, BestTo, IsPieceFrom, Sees, Stands, high_place, low_place}
+use Rattle.pieces.specs.Windows.{Best, BestTo, IsNonEmpty, IsPieceFrom, Sees, Stands, high_place, low_place}
 use Rattle.pieces.proofs.Bests.{best_alike, best_once, best_over, best_value, over_best}
 use Rattle.pieces.proofs.BuildingLemmas.{chain_of}
 use Rattle.pieces.proofs.ChainLemmas.{to_stop, worth_after, worth_upto}
-use Rattle.pieces.proofs.Ends.{after_le, at_most_itself, same_place, upto_le}
+use Rattle.pieces.proofs.Ends.{after_le, at_most_itself, at_most_of_before, same_place, upto_le}
+use Rattle.pieces.proofs.Holding.{piece_begun}
+use Rattle.pieces.proofs.Played.{plays_none}
 use Rattle.pieces.proofs.Moving.{best_with_none, of_best, to_best}
 use Rattle.pieces.proofs.Seeing.{high, low, none}
 use Rattle.pieces.proofs.Standing.{begin_most, end_most, rises_at, shape_at, worth_place}
@@ -59,10 +66,10 @@ module _ {P : Type 0} (shape : ShapeOf P) (laws : ShapeLaws shape) (chain : Chai
 
   -- a window that has met all tells the rest by its steps, and so the best of what is seen from end to end
   pub tells_all : (gap : P) (old new : Sliding P) (to : Place) → Stands shape chain way (stop chain) (stop chain) old
-      → HasTold shape way.side gap old new → Same (stop new.out) to → to ≡ stop chain
+      → HasTold shape way.side gap old new → Same (stop new.out) to → to ≡ stop chain → AtMost (stop chain) (place way.to)
       → ((t : Rational) → value_at (shape.function gap) t ≈ᵉ none shape laws chain way normal)
       → Tells shape (Best shape chain way) chain.from (stop chain) new.out
-  tells_all gap old new to st told ends at is = tells shape (Best shape chain way) chain.from (stop chain) new.out best_is_function
+  tells_all gap old new to st told ends at further is = tells shape (Best shape chain way) chain.from (stop chain) new.out best_is_function
       (record { normal = told.normal; worth = worth })
       (subst (λ s. Same s chain.from) (sym (told.begins ∙ st.begins)) (same_place chain.from)) here
     where
@@ -73,7 +80,7 @@ module _ {P : Type 0} (shape : ShapeOf P) (laws : ShapeLaws shape) (chain : Chai
       worth t v w = elim (told.worth t v w) [
         | inl k ↦ st.told t v k
         | inr (a, u, b) ↦ all_met t v (best_with_none shape laws chain way normal (stop chain) (stop chain) gap old st (at_most_itself (stop chain)) is t v
-            (upto_same (stop new.out) (stop chain) t here u) b)
+            (further t (upto_same (stop new.out) (stop chain) t here u)) b)
       ]
 
   -- a window that has told nothing stands where the chain begins
@@ -91,29 +98,25 @@ module _ {P : Type 0} (shape : ShapeOf P) (laws : ShapeLaws shape) (chain : Chai
     reached = inl (subst (λ o. AtMost (stop o) chain.from) (sym e) (at_most_itself chain.from));
   }
 
-  -- a window that sees nothing has met all
-  pub stands_blind : (s : Sliding P) → ((t u : Rational) → ¬ Sees way.over t u) → Stands shape chain way chain.from chain.from s
-      → Stands shape chain way (stop chain) (stop chain) s
-  stands_blind s blind st = record {
+  -- a window that sees nothing has met all up to any later place
+  pub stands_blind : (c d : Place) (s : Sliding P) → AtMost c d → ((t u : Rational) → ¬ Sees way.over t u) → Stands shape chain way c c s
+      → Stands shape chain way d d s
+  stands_blind c d s later blind st = record {
     normal = st.normal;
     begins = st.begins;
     on = st.on;
     upto = st.upto;
     told = st.told;
     steps = st.steps;
-    gives = λ t v g. of_best shape laws chain way normal (stop chain) t v
-        (best_alike (λ x m. absurd (blind t m.0 m.1.0)) (λ x m. absurd (blind t m.0 m.1.0))
-        (to_best shape laws chain way normal chain.from t v (st.gives t v g)));
-    sees = λ t v g. let s = st.sees t v g in (before_at_most (low shape laws chain way normal t) chain.from (stop chain) s.0 whole_chain, s.1);
+    gives = λ t v g. of_best shape laws chain way normal d t v (best_alike (λ x m. absurd (blind t m.0 m.1.0)) (λ x m. absurd (blind t m.0 m.1.0))
+        (to_best shape laws chain way normal c t v (st.gives t v g)));
+    sees = λ t v g. let s = st.sees t v g in (before_at_most (low shape laws chain way normal t) c d s.0 later, s.1);
     none = λ t a u x y s k. absurd (blind t x s);
     reached = elim st.reached [
       | inl h ↦ inl h
-      | inr h ↦ inr (λ t u b. h t u (before_of_at_most chain.from (stop chain) (high shape laws chain way normal t) whole_chain b))
+      | inr h ↦ inr (λ t u b. h t u (before_of_at_most c d (high shape laws chain way normal t) later b))
     ];
   }
-    where
-      whole_chain : AtMost chain.from (stop chain)
-      whole_chain = to_stop chain.from chain.pieces normal.rising
 
   -- each piece of the chain, from where it begins
   pub piece_from : (i : ℕ) (p : Piece P) → slice_get chain.pieces i ≡ Some p → IsPieceFrom shape chain (begin_at chain.from chain.pieces i) p
@@ -124,3 +127,54 @@ module _ {P : Type 0} (shape : ShapeOf P) (laws : ShapeLaws shape) (chain : Chai
     worth = λ t a u. worth_place shape chain.from chain.pieces i p t e a u;
     has = shape_at chain.pieces i p e;
   }
+
+-- a window of one offset with an end out is not one in which some time may lie
+pub empty_or_some : (over : Reach) → (over.low ≡ over.high) × ((over.low_in ≡ false) ⊎ (over.high_in ≡ false)) → ¬ IsNonEmpty over
+empty_or_some over (e, out) (inl l) = <ℤ_irrefl (subst (λ k. k <ℤ over.high) e l)
+empty_or_some over (e, inl out) (inr (s, low_in, high_in)) = false≢true (sym out ∙ low_in)
+empty_or_some over (e, inr out) (inr (s, low_in, high_in)) = false≢true (sym out ∙ high_in)
+
+module _ {P : Type 0} {shape : ShapeOf P} {chain : Chain P} {way : Way} where
+  -- a window that has told nothing has met what lies before the chain
+  pub met_none : ShapeLaws shape → (at : Place) (s : Sliding P) → CanBegin shape chain way at → s.out ≡ chain_of at [] → s.steps.items ≡ []
+      → HasMet shape chain way at s
+  met_none laws at s can none nothing = subst (λ c. HasMet shape chain way c s) (sym can.begins) (record {
+    can = can.can;
+    to = can.to;
+    within = can.within;
+    ahead = subst (λ c. GoesPast shape chain way c) can.begins can.ahead;
+    begins = at_most_itself chain.from;
+    ends = to_stop chain.from chain.pieces can.can.normal.rising;
+    stands = stands_none shape laws chain way can.can.normal s (subst (λ c. s.out ≡ chain_of c []) can.begins none) nothing;
+    plays = plays_none shape chain way.over (place way.to) s at none nothing;
+  })
+
+  -- one that sees nothing has met the next piece as well
+  pub met_blind : ShapeLaws shape → {c : Place} {p : Piece P} {s : Sliding P} → ((t u : Rational) → ¬ Sees way.over t u) → IsNext shape chain way c p
+      → HasMet shape chain way c s → HasMet shape chain way (end p) s
+  met_blind laws {c} {p} {s} blind next known = record {
+    can = known.can;
+    to = known.to;
+    within = known.within;
+    ahead = next.ahead;
+    begins = piece_begun next.piece;
+    ends = next.piece.ends;
+    stands = stands_blind shape laws chain way known.can.normal c (end p) s (at_most_of_before c (end p) next.piece.order) blind known.stands;
+    plays = known.plays;
+  }
+
+-- what comes next may be met
+pub meets_next : {P : Type 0} {shape : ShapeOf P} {chain : Chain P} {w : Window P} {p : Piece P} → IsNonEmpty w.way.over → StandsFor shape chain w
+    → IsNext shape chain w.way (place w.met) p → Meets shape chain w.way (place w.met) p w.sliding
+meets_next some st next = record {
+  can = st.met.can;
+  to = st.met.to;
+  within = st.met.within;
+  some = some;
+  piece = next.piece;
+  breaks = next.breaks;
+  ahead = next.ahead;
+  stands = st.met.stands;
+  entered = (st.ready some).entered;
+  plays = st.met.plays;
+}

@@ -19,7 +19,7 @@ use Rattle.pieces.specs.declared.reach.Reach.{Reach}
 use Rattle.pieces.specs.declared.sliding.Sliding.{Sliding}
 use Rattle.pieces.specs.Best.{none_of}
 use Rattle.pieces.specs.Chains.{Chain, HasShape, stop}
-use Rattle.pieces.specs.Over.{InPlay, IsCauseOver, IsMovedOver, Plays}
+use Rattle.pieces.specs.Over.{InPlay, IsCauseOver, IsMovedTo, Plays}
 use Rattle.pieces.specs.Sliding.{HasTold, IsCrossFault, IsToldFault}
 use Rattle.pieces.specs.Steps.{CountsInside, HasCounted, HasSlid, IsOfSteps, steps_end}
 use Rattle.pieces.proofs.BuildingLemmas.{chain_of}
@@ -80,7 +80,7 @@ module _ {P : Type 0} (shape : ShapeOf P) (laws : ShapeLaws shape) where
       right (inl k) = k
       right (inr e) = absurd (never p q e h.meet)
 
-module _ {P : Type 0} (shape : ShapeOf P) (chain : Chain P) (over : Reach) where
+module _ {P : Type 0} (shape : ShapeOf P) (chain : Chain P) (over : Reach) (last : Place) where
   -- a crossing of two shapes that are in play is a cause
   pub cause_of_cross : (Has : Rational → P → Type 0) (from to : Rational) → chain.from.at ≤ʳ from → to ≤ʳ (stop chain).at
       → ((tau : Rational) (p : P) → from <ʳ tau → tau <ʳ to → Has tau p → InPlay shape chain over tau (shape.function p))
@@ -104,7 +104,7 @@ module _ {P : Type 0} (shape : ShapeOf P) (chain : Chain P) (over : Reach) where
       }
 
   -- what is refused where a window tells more is a cause, where the shape under which it does is in play
-  pub told_cause : (side : Side) (gap : P) (until : Place) (old : Sliding P) → Plays shape chain over old
+  pub told_cause : (side : Side) (gap : P) (until : Place) (old : Sliding P) → Plays shape chain over last old
       → chain.from.at ≤ʳ (stop old.out).at → until.at ≤ʳ (stop chain).at
       → ((tau : Rational) → (stop old.out).at <ʳ tau → tau <ʳ until.at → InPlay shape chain over tau (shape.function gap))
       → (pair : WidePair P) → IsToldFault shape side gap until old pair → IsCauseOver shape chain over pair
@@ -118,7 +118,7 @@ module _ {P : Type 0} (shape : ShapeOf P) (chain : Chain P) (over : Reach) where
 
   -- what is refused where it tells more under the value of no values is a cause
   pub told_cause_none : ShapeLaws shape → (side : Side) (none : P) (until : Place) (old : Sliding P)
-      → ((t : Rational) → value_at (shape.function none) t ≈ᵉ none_of side shape.lowest shape.highest) → Plays shape chain over old
+      → ((t : Rational) → value_at (shape.function none) t ≈ᵉ none_of side shape.lowest shape.highest) → Plays shape chain over last old
       → chain.from.at ≤ʳ (stop old.out).at → until.at ≤ʳ (stop chain).at
       → (pair : WidePair P) → IsToldFault shape side none until old pair → IsCauseOver shape chain over pair
   told_cause_none laws side none until old is plays begins ends pair h = cause_of_cross
@@ -126,37 +126,37 @@ module _ {P : Type 0} (shape : ShapeOf P) (chain : Chain P) (over : Reach) where
       (cross_of_others shape laws side none is (λ tau p. CountsInside (stop old.out) old.steps.items tau p) (stop old.out).at until.at pair h)
 
   -- a window that has told nothing has no shapes
-  pub plays_none : (s : Sliding P) (from : Place) → s.out ≡ chain_of from [] → s.steps.items ≡ [] → Plays shape chain over s
+  pub plays_none : (s : Sliding P) (from : Place) → s.out ≡ chain_of from [] → s.steps.items ≡ [] → Plays shape chain over last s
   plays_none s from out nothing = record {
     told = λ p h. absurd (subst (λ o. HasShape o p) out h);
     moved = λ p h. absurd (subst (λ xs. IsOfSteps xs p) nothing h);
     in_play = λ tau p h. absurd (subst (λ xs. CountsInside (stop s.out) xs tau p) nothing h);
   }
 
-  module _ (side : Side) (old new : Sliding P) (plays : Plays shape chain over old) where
+  module _ (side : Side) (old new : Sliding P) (plays : Plays shape chain over last old) where
     -- a window that has told more, under a shape with such a base, has shapes that are in play
-    pub plays_told : (gap : P) → IsMovedOver shape chain over gap → HasTold shape side gap old new → Plays shape chain over new
+    pub plays_told : (gap : P) → IsMovedTo shape chain over last gap → HasTold shape side gap old new → Plays shape chain over last new
     plays_told gap moved told = record {
       told = λ p h. by_part p (told.shapes p h);
       moved = λ p h. plays.moved p (told.fewer p h);
       in_play = λ tau p h. plays.in_play tau p (told.counts tau p h);
     }
       where
-        by_part : (p : P) → HasShape old.out p ⊎ IsOfSteps old.steps.items p ⊎ (p ≡ gap) → IsMovedOver shape chain over p
+        by_part : (p : P) → HasShape old.out p ⊎ IsOfSteps old.steps.items p ⊎ (p ≡ gap) → IsMovedTo shape chain over last p
         by_part p (inl h) = plays.told p h
         by_part p (inr (inl h)) = plays.moved p h
-        by_part p (inr (inr e)) = subst (λ p. IsMovedOver shape chain over p) (sym e) moved
+        by_part p (inr (inr e)) = subst (λ p. IsMovedTo shape chain over last p) (sym e) moved
 
     module _ (out : new.out ≡ old.out) where
       -- so has one with which a constant counts that is in play while it counts
-      pub plays_counted : (k : P) (e : Place) → IsMovedOver shape chain over k
+      pub plays_counted : (k : P) (e : Place) → IsMovedTo shape chain over last k
           → ((tau : Rational) → (stop old.out).at <ʳ tau → tau <ʳ e.at → InPlay shape chain over tau (shape.function k))
-          → HasCounted shape side (stop old.out) old.steps.items k e new.steps.items → Plays shape chain over new
+          → HasCounted shape side (stop old.out) old.steps.items k e new.steps.items → Plays shape chain over last new
       plays_counted k e moved of_k counted = record {
         told = λ p h. plays.told p (subst (λ o. HasShape o p) out h);
         moved = λ p h. elim (counted.of p h) [
           | inl m ↦ plays.moved p m
-          | inr same ↦ subst (λ p. IsMovedOver shape chain over p) (sym same) moved
+          | inr same ↦ subst (λ p. IsMovedTo shape chain over last p) (sym same) moved
         ];
         in_play = λ tau p h. by_part tau p (counted.shapes tau p (subst (λ o. CountsInside (stop o) new.steps.items tau p) out h));
       }
@@ -167,14 +167,14 @@ module _ {P : Type 0} (shape : ShapeOf P) (chain : Chain P) (over : Reach) where
           by_part tau p (inr (same, a, b)) = subst (λ p. InPlay shape chain over tau (shape.function p)) (sym same) (of_k tau a b)
 
       -- and one whose steps a shape follows that is in play from their end on
-      pub plays_slid : (k : P) (e : Place) → (Before (steps_end (stop old.out) old.steps.items) e → IsMovedOver shape chain over k)
+      pub plays_slid : (k : P) (e : Place) → (Before (steps_end (stop old.out) old.steps.items) e → IsMovedTo shape chain over last k)
           → ((tau : Rational) → (steps_end (stop old.out) old.steps.items).at <ʳ tau → tau <ʳ e.at → InPlay shape chain over tau (shape.function k))
-          → HasSlid shape side (stop old.out) old.steps.items k e new.steps.items → Plays shape chain over new
+          → HasSlid shape side (stop old.out) old.steps.items k e new.steps.items → Plays shape chain over last new
       plays_slid k e moved of_k slid = record {
         told = λ p h. plays.told p (subst (λ o. HasShape o p) out h);
         moved = λ p h. elim (slid.of p h) [
           | inl m ↦ plays.moved p m
-          | inr m ↦ subst (λ p. IsMovedOver shape chain over p) (sym m.0) (moved m.1)
+          | inr m ↦ subst (λ p. IsMovedTo shape chain over last p) (sym m.0) (moved m.1)
         ];
         in_play = λ tau p h. by_part tau p (slid.shapes tau p (subst (λ o. CountsInside (stop o) new.steps.items tau p) out h));
       }

@@ -3,7 +3,7 @@ use Rattle.std.proofs.Common.{arith, ◌≡◌, ◌⊎◌, inl, inr, ◌^◌, �
 use Rattle.std.specs.Prelude.{◌≤ℤ◌}
 use Rattle.rational.specs.Rational.{IsWithin}
 use Rattle.rational.specs.Time.{Rational, ◌≤ʳ◌, ◌≈◌, add, whole}
-use Rattle.rational.specs.Places.{Place, After, Upto, Before, AtMost, Same, moved_begin, moved_end}
+use Rattle.rational.specs.Places.{Place, After, Before, AtMost, Same, moved_begin, moved_end}
 use Rattle.rational.proofs.Order.{same_sym}
 use Rattle.rational.proofs.Mixed.{within_more, within_same}
 use Rattle.rational.proofs.PlaceLemmas.{not_both, after_same, upto_same, same_places}

@@ -10,3 +10,4 @@ pub mod Steps
 pub mod Sliding
 pub mod Windows
 pub mod Over
+pub mod Meeting

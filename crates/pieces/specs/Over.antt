@@ -75,11 +75,15 @@ module _ {P : Type 0} (shape : ShapeOf P) where
     HasCauseOver (F.Wide pair) = IsCauseOver pair
 
     -- where p moves it has the base of a moving shape of the chain less one of the offsets; less the low one only where the window's low
-    -- end comes into the domain
-    abbrev pub IsMovedOver : P → Type 0
-    IsMovedOver p = IsTrue (shape.moves p) → (q : P) × HasShape chain q × IsTrue (shape.moves q)
+    -- end comes into the domain by the last of the places
+    abbrev pub IsMovedTo : Place → P → Type 0
+    IsMovedTo last p = IsTrue (shape.moves p) → (q : P) × HasShape chain q × IsTrue (shape.moves q)
         × ((shape.base p ≡ shape.base q -ℤ over.high)
-        ⊎ ((shape.base p ≡ shape.base q -ℤ over.low) × (chain.from.at ≤ʳ shifted (stop chain).at over.low)))
+        ⊎ ((shape.base p ≡ shape.base q -ℤ over.low) × (chain.from.at ≤ʳ shifted last.at over.low)))
+
+    -- by where the chain ends
+    abbrev pub IsMovedOver : P → Type 0
+    IsMovedOver p = IsMovedTo (stop chain) p
 
     -- so it is with each shape of the new chain
     abbrev pub BasesOver : Chain P → Type 0
@@ -89,8 +93,9 @@ module _ {P : Type 0} (shape : ShapeOf P) where
     abbrev pub PlaysBetween : Rational → Rational → Extended → Type 0
     PlaysBetween a b v = (tau : Rational) (line : Affine) → a <ʳ tau → tau <ʳ b → IsConstant line v → InPlay tau line
 
-    -- the shapes that the window has told, and those of its steps, have such bases, and each shape that counts inside a step is in play there
-    pub record Plays (s : Sliding P) : Type 0 where
-      pub told : BasesOver s.out
-      pub moved : (p : P) → IsOfSteps s.steps.items p → IsMovedOver p
+    -- the shapes that the window has told, and those of its steps up to the last place, have such bases, and each shape that counts inside a
+    -- step is in play there
+    pub record Plays (last : Place) (s : Sliding P) : Type 0 where
+      pub told : (p : P) → HasShape s.out p → IsMovedTo last p
+      pub moved : (p : P) → IsOfSteps s.steps.items p → IsMovedTo last p
       pub in_play : (tau : Rational) (p : P) → CountsInside (stop s.out) s.steps.items tau p → InPlay tau (shape.function p)

@@ -125,8 +125,8 @@ module _ {P : Type 0} (shape : ShapeOf P) where
       pub steps : AreSteps shape way.side (stop s.out) s.steps.items
       pub gives : (t : Rational) (v : Extended) → StepsGive shape way.side (stop s.out) s.steps.items t v → BestTo met t v
       pub sees : (t : Rational) (v : Extended) → StepsGive shape way.side (stop s.out) s.steps.items t v
-          → Before (low_place way.over.low way.over.low_in t) left × Upto (stop chain) t
-      pub none : (t : Rational) → After (last_end s) t → Upto (stop chain) t → (u : Rational) (v : Extended) → Sees way.over t u → Upto left u
+          → Before (low_place way.over.low way.over.low_in t) left × Upto (place way.to) t
+      pub none : (t : Rational) → After (last_end s) t → Upto (place way.to) t → (u : Rational) (v : Extended) → Sees way.over t u → Upto left u
           → ¬ IsWorth shape chain u v
       pub reached : AtMost (stop s.out) chain.from
           ⊎ ((t : Rational) → Upto (stop s.out) t → ¬ Before reach (high_place way.over.high way.over.high_in t))
@@ -137,4 +137,4 @@ module _ {P : Type 0} (shape : ShapeOf P) where
 
     -- from where the window has told on, its high end lies behind the place
     abbrev pub HasEntered : Place → Sliding P → Type 0
-    HasEntered met s = (t : Rational) → After (stop s.out) t → Upto (stop chain) t → Before met (high_place way.over.high way.over.high_in t)
+    HasEntered met s = (t : Rational) → After (stop s.out) t → Upto (place way.to) t → Before met (high_place way.over.high way.over.high_in t)

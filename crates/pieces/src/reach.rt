@@ -15,11 +15,11 @@ use value_laws::Shape;
 
 /// A window from `low` to `high` ticks after a time, each end in or out.
 #[derive(Clone, Copy)]
-pub(crate) struct Reach {
-    pub(crate) low: i64,
-    pub(crate) high: i64,
-    pub(crate) low_in: bool,
-    pub(crate) high_in: bool,
+pub struct Reach {
+    pub low: i64,
+    pub high: i64,
+    pub low_in: bool,
+    pub high_in: bool,
 }
 
 /// A window on its way to the end of a domain, and whether its Sup or its Inf is wanted.

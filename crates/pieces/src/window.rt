@@ -10,8 +10,9 @@ ghost use Rattle.frac128.specs.Cuts.{place};
 ghost use Rattle.pl_signal.specs.declared.faults.OpFault.TheVariants as F;
 ghost use Rattle.courses.specs.Courses.{IsFixed, IsValueFault};
 ghost use Rattle.pieces.specs.Best.{GetsNoBetter, GetsNoWorse, IsNoWorse, IsTrendFor, none_of};
-ghost use Rattle.pieces.specs.Chains.{IsLimited, Tells, end, stop};
-ghost use Rattle.pieces.specs.Over.{BasesOver, HasBreaks, HasCauseOver, IsCauseOver, Plays};
+ghost use Rattle.pieces.specs.Chains.{Chain, IsLimited, Tells, end, stop};
+ghost use Rattle.pieces.specs.Meeting.{CanBegin, HasMet, Holds, IsNext, Meets, StandsFor};
+ghost use Rattle.pieces.specs.Over.{BasesOver, HasCauseOver, IsCauseOver, Plays};
 ghost use Rattle.pieces.specs.Sliding.{last_end};
 ghost use Rattle.pieces.specs.Steps.{AreSteps, HideTo};
 ghost use Rattle.pieces.specs.Windows.{AreNear, Best, BestOver, CanSlide, HasEntered, IsAtEnd, IsBestEnd, IsLeft, IsNonEmpty, IsPieceFrom, IsReached, IsSmall};
@@ -23,9 +24,144 @@ use crate::steps::{Step, count, slide};
 use crate::{Piece, Pieces};
 use frac128::{Cut, Frac, Memory};
 use pl_signal::{OpFault, Side, WidePair, fault_of, favour};
+use std::alloc::Global;
 use std::cmp::Ordering;
 use std::collections::VecDeque;
 use value_laws::Shape;
+
+/// A window on its way over a chain whose pieces come one after another.
+///
+/// What it says of a chain holds of each that begins with the pieces that it has met: `StandsFor`. Where the chain will end need not be
+/// known: its way may lead further, as long as each chain goes on past what is met (`GoesPast`).
+#[derive(Drop)]
+pub struct Window<P: Shape> {
+    pub(crate) way: Way,
+    /// Up to where the pieces were met.
+    pub(crate) met: Cut,
+    /// Up to where it begins before that place.
+    pub(crate) gone: Cut,
+    pub(crate) sliding: Sliding<P>,
+}
+
+impl<P: Shape> Window<P> {
+    /// It has met no piece yet of a chain that begins at `from`, and goes on to `to`, or not so far. It asks at once for the memory of as many
+    /// pieces as `room` says.
+    ///
+    /// # Errors
+    ///
+    /// `Memory` where memory is wanting.
+    pub fn begin(
+        alloc: Global,
+        side: Side,
+        over: Reach,
+        from: &Cut,
+        to: &Cut,
+        room: usize,
+    ) -> Result<Window<P>, Memory>
+        requires can { (s : Chain P) × CanBegin P.Shape s (record { side = side; over = over; to = to.now }) (place from.now) }
+        ensures stands { (s : Chain P) → CanBegin P.Shape s (record { side = side; over = over; to = to.now }) (place from.now)
+            → IfOk result (λ w. StandsFor P.Shape s w) }
+        ensures met { IfOk result (λ w. place w.met ≡ place from.now) }
+        ensures way { IfOk result (λ w. w.way ≡ record { side = side; over = over; to = to.now }) }
+    {
+        let way = Way {
+            side,
+            over,
+            to: *to,
+        };
+        let out = Pieces::with_room(alloc, from, room)?;
+        let mut sliding = Sliding {
+            out,
+            steps: VecDeque::new(alloc),
+        };
+        if is_empty(&over) {
+            return Ok(Window {
+                way,
+                met: *from,
+                gone: *from,
+                sliding,
+            });
+        }
+        let mut fault = None;
+        enter(&way, from, &mut sliding, &mut fault)?;
+        Ok(Window {
+            way,
+            met: *from,
+            gone: left(&way, from),
+            sliding,
+        })
+    }
+
+    /// Lets the window meet the next piece, which begins where it has met all before.
+    ///
+    /// # Errors
+    ///
+    /// `Memory` where a crossing of two shapes that count, or a value that counts, needs a denominator of 2^60 or more: the pair is then in
+    /// `fault`; and where memory is wanting. The window is of no use then.
+    pub fn meet(&mut self, piece: &Piece<P>, fault: &mut Option<WidePair<P>>) -> Result<(), Memory>
+        requires next { (s : Chain P) × StandsFor P.Shape s self.old × IsNext P.Shape s self.old.way (place self.old.met) piece.now }
+        requires none { fault.old ≡ None }
+        ensures stands { (s : Chain P) → StandsFor P.Shape s self.old → IsNext P.Shape s self.old.way (place self.old.met) piece.now
+            → OnOk result (StandsFor P.Shape s self.new) }
+        ensures met { OnOk result (place self.new.met ≡ end piece.now) }
+        ensures way { self.new.way ≡ self.old.way }
+        ensures still { OnOk result (fault.new ≡ None) }
+        ensures wide { (s : Chain P) → StandsFor P.Shape s self.old → IsNext P.Shape s self.old.way (place self.old.met) piece.now
+            → OnErr result (IfSome fault.new (IsCauseOver P.Shape s self.old.way.over)) }
+    {
+        if is_empty(&self.way.over) {
+            self.met = piece.until;
+            return Ok(());
+        }
+        let until = left(&self.way, &piece.until);
+        pass(
+            &self.way,
+            &self.met,
+            &self.gone,
+            piece,
+            &until,
+            &mut self.sliding,
+            fault,
+        )?;
+        self.met = piece.until;
+        self.gone = until;
+        Ok(())
+    }
+
+    /// All pieces were met: tells the rest, up to where the chain ends.
+    ///
+    /// # Errors
+    ///
+    /// As `meet`.
+    pub fn end(&mut self, fault: &mut Option<WidePair<P>>) -> Result<(), Memory>
+        requires last { (s : Chain P) × StandsFor P.Shape s self.old × (place self.old.met ≡ stop s) × (place self.old.way.to ≡ stop s) }
+        requires none { fault.old ≡ None }
+        ensures told { (s : Chain P) → StandsFor P.Shape s self.old → place self.old.met ≡ stop s → place self.old.way.to ≡ stop s
+            → OnOk result (Tells P.Shape (Best P.Shape s self.old.way) s.from (stop s) self.new.sliding.out) }
+        ensures bases { (s : Chain P) → StandsFor P.Shape s self.old → place self.old.met ≡ stop s → place self.old.way.to ≡ stop s
+            → OnOk result (BasesOver P.Shape s self.old.way.over self.new.sliding.out) }
+        ensures wide { (s : Chain P) → StandsFor P.Shape s self.old → place self.old.met ≡ stop s → place self.old.way.to ≡ stop s
+            → OnErr result (IfSome fault.new (IsCauseOver P.Shape s self.old.way.over)) }
+    {
+        let side = self.way.side;
+        self.sliding
+            .tell(side, &of_none(side), true, &self.way.to, fault)
+    }
+
+    /// What it has told.
+    pub fn told(self) -> Pieces<P>
+        ensures { result ≡ self.sliding.out }
+    {
+        let Window {
+            way: _,
+            met: _,
+            gone: _,
+            sliding,
+        } = self;
+        let Sliding { out, steps: _ } = sliding;
+        out
+    }
+}
 
 /// At each time the Sup or the Inf of what the window sees; the value of no values where it sees nothing.
 ///
@@ -47,22 +183,10 @@ pub(crate) fn over_window<P: Shape>(
     ensures bases { IfOk result (BasesOver P.Shape s.now over) }
     ensures wide { IfErr result (HasCauseOver P.Shape s.now over) }
 {
-    let way = Way {
-        side,
-        over,
-        to: s.until(),
-    };
-    let out = Pieces::with_room(s.alloc(), &s.from(), s.len())?;
-    let mut window = Sliding {
-        out,
-        steps: VecDeque::new(s.alloc()),
-    };
+    let mut window = Window::begin(s.alloc(), side, over, &s.from(), &s.until(), s.len())?;
     let mut fault = None;
-    match slide_over(s, &way, &mut window, &mut fault) {
-        Ok(()) => {
-            let Sliding { out, steps: _ } = window;
-            Ok(out)
-        }
+    match slide_over(s, &mut window, &mut fault) {
+        Ok(()) => Ok(window.told()),
         Err(Memory) => Err(fault_of(fault)),
     }
 }
@@ -70,101 +194,76 @@ pub(crate) fn over_window<P: Shape>(
 /// Moves the window over the chain, from where that begins to where it ends.
 fn slide_over<P: Shape>(
     s: &Pieces<P>,
-    way: &Way,
-    window: &mut Sliding<P>,
+    window: &mut Window<P>,
     fault: &mut Option<WidePair<P>>,
 ) -> Result<(), Memory>
-    requires can { CanSlide P.Shape s.now way.now.over }
-    requires to { place way.now.to ≡ stop s.now }
-    requires begins { Stands P.Shape s.now way.now s.now.from s.now.from window.old }
-    requires plays { Plays P.Shape s.now way.now.over window.old }
+    requires stands { StandsFor P.Shape s.now window.old }
+    requires begins { place window.old.met ≡ s.now.from }
+    requires ends { place window.old.way.to ≡ stop s.now }
     requires none { fault.old ≡ None }
-    ensures told { OnOk result (Tells P.Shape (Best P.Shape s.now way.now) s.now.from (stop s.now) window.new.out) }
-    ensures plays { OnOk result (Plays P.Shape s.now way.now.over window.new) }
-    ensures wide { OnErr result (IfSome fault.new (IsCauseOver P.Shape s.now way.now.over)) }
+    ensures told { OnOk result (Tells P.Shape (Best P.Shape s.now window.old.way) s.now.from (stop s.now) window.new.sliding.out) }
+    ensures bases { OnOk result (BasesOver P.Shape s.now window.old.way.over window.new.sliding.out) }
+    ensures wide { OnErr result (IfSome fault.new (IsCauseOver P.Shape s.now window.old.way.over)) }
 {
-    let none = of_none(way.side);
-    if is_empty(&way.over) {
-        return window.tell(way.side, &none, true, &way.to, fault);
-    }
-    let mut from = s.from();
-    enter(s, way, &from, window, fault)?;
-    let mut gone = left(way, &from);
     for i in 0..s.len() {
-        let piece = s.piece(i);
-        meet(s, way, &from, &mut gone, piece, window, fault)?;
-        from = piece.until;
+        window.meet(s.piece(i), fault)?;
     }
-    window.tell(way.side, &none, true, &way.to, fault)
+    window.end(fault)
 }
 
-/// Lets the window meet the next piece, which begins at `from`, the place that it has left at `gone`.
-fn meet<P: Shape>(
-    s: &Pieces<P>,
+/// Lets the piece count, which begins at `from`, the place that the window has left at `gone`; it has left the piece at `until`.
+fn pass<P: Shape>(
     way: &Way,
     from: &Cut,
-    gone: &mut Cut,
+    gone: &Cut,
     piece: &Piece<P>,
+    until: &Cut,
     window: &mut Sliding<P>,
     fault: &mut Option<WidePair<P>>,
 ) -> Result<(), Memory>
-    requires can { CanSlide P.Shape s.now way.now.over }
-    requires to { place way.now.to ≡ stop s.now }
-    requires some { IsNonEmpty way.now.over }
-    requires piece { IsPieceFrom P.Shape s.now (place from.now) piece.now }
-    requires gone { IsLeft way.now (place from.now) (place gone.old) }
-    requires stands { Stands P.Shape s.now way.now (place from.now) (place from.now) window.old }
-    requires entered { HasEntered P.Shape s.now way.now (place from.now) window.old }
-    requires breaks { HasBreaks P.Shape s.now (place from.now) piece.now }
-    requires plays { Plays P.Shape s.now way.now.over window.old }
+    requires met { (s : Chain P) × Meets P.Shape s way.now (place from.now) piece.now window.old }
+    requires gone { IsLeft way.now (place from.now) (place gone.now) }
+    requires left { IsLeft way.now (end piece.now) (place until.now) }
     requires none { fault.old ≡ None }
-    ensures stands { OnOk result (Stands P.Shape s.now way.now (end piece.now) (end piece.now) window.new) }
-    ensures entered { OnOk result (HasEntered P.Shape s.now way.now (end piece.now) window.new) }
-    ensures gone { OnOk result (IsLeft way.now (end piece.now) (place gone.new)) }
+    ensures met { (s : Chain P) → Meets P.Shape s way.now (place from.now) piece.now window.old
+        → OnOk result (HasMet P.Shape s way.now (end piece.now) window.new) }
+    ensures entered { (s : Chain P) → Meets P.Shape s way.now (place from.now) piece.now window.old
+        → OnOk result (HasEntered P.Shape s way.now (end piece.now) window.new) }
     ensures still { OnOk result (fault.new ≡ None) }
-    ensures plays { OnOk result (Plays P.Shape s.now way.now.over window.new) }
-    ensures wide { OnErr result (IfSome fault.new (IsCauseOver P.Shape s.now way.now.over)) }
+    ensures wide { (s : Chain P) → Meets P.Shape s way.now (place from.now) piece.now window.old
+        → OnErr result (IfSome fault.new (IsCauseOver P.Shape s way.now.over)) }
 {
-    let until = left(way, &piece.until);
     match trend(way.side, &piece.shape) {
         Ordering::Equal => {
-            steady(s, way, from, piece, &until, window)?;
-            enter(s, way, &piece.until, window, fault)?;
+            steady(way, from, piece, until, window)?;
+            enter(way, &piece.until, window, fault)
         }
-        Ordering::Greater => rising(s, way, from, piece, &until, window, fault)?,
+        Ordering::Greater => rising(way, from, piece, until, window, fault),
         Ordering::Less => {
-            falling(s, way, from, gone, piece, &until, window, fault)?;
-            enter(s, way, &piece.until, window, fault)?;
+            falling(way, from, gone, piece, until, window, fault)?;
+            enter(way, &piece.until, window, fault)
         }
     }
-    *gone = until;
-    Ok(())
 }
 
 /// Tells up to where the window reaches past the place: up to there no more comes into it.
 #[inline(always)]
 fn enter<P: Shape>(
-    s: &Pieces<P>,
     way: &Way,
     met: &Cut,
     window: &mut Sliding<P>,
     fault: &mut Option<WidePair<P>>,
 ) -> Result<(), Memory>
-    requires can { CanSlide P.Shape s.now way.now.over }
-    requires to { place way.now.to ≡ stop s.now }
-    requires begins { AtMost s.now.from (place met.now) }
-    requires ends { AtMost (place met.now) (stop s.now) }
-    requires stands { Stands P.Shape s.now way.now (place met.now) (place met.now) window.old }
-    requires plays { Plays P.Shape s.now way.now.over window.old }
+    requires met { (s : Chain P) × HasMet P.Shape s way.now (place met.now) window.old }
     requires none { fault.old ≡ None }
-    ensures stands { OnOk result (Stands P.Shape s.now way.now (place met.now) (place met.now) window.new) }
-    ensures entered { OnOk result (HasEntered P.Shape s.now way.now (place met.now) window.new) }
+    ensures met { (s : Chain P) → HasMet P.Shape s way.now (place met.now) window.old
+        → OnOk result (HasMet P.Shape s way.now (place met.now) window.new) }
+    ensures entered { (s : Chain P) → HasMet P.Shape s way.now (place met.now) window.old
+        → OnOk result (HasEntered P.Shape s way.now (place met.now) window.new) }
     ensures still { OnOk result (fault.new ≡ None) }
-    ensures plays { OnOk result (Plays P.Shape s.now way.now.over window.new) }
-    ensures wide { OnErr result (IfSome fault.new (IsCauseOver P.Shape s.now way.now.over)) }
+    ensures wide { (s : Chain P) → HasMet P.Shape s way.now (place met.now) window.old
+        → OnErr result (IfSome fault.new (IsCauseOver P.Shape s way.now.over)) }
 {
-    // For the proof alone: over which chain the window moves.
-    let _ = s;
     let Some(next) = reached(way, met, &window.out.until()) else {
         return Ok(());
     };
@@ -173,28 +272,19 @@ fn enter<P: Shape>(
 
 /// A piece that stays as it is counts until the window has left it.
 fn steady<P: Shape>(
-    s: &Pieces<P>,
     way: &Way,
     from: &Cut,
     piece: &Piece<P>,
     until: &Cut,
     window: &mut Sliding<P>,
 ) -> Result<(), Memory>
-    requires can { CanSlide P.Shape s.now way.now.over }
-    requires to { place way.now.to ≡ stop s.now }
-    requires some { IsNonEmpty way.now.over }
-    requires piece { IsPieceFrom P.Shape s.now (place from.now) piece.now }
+    requires met { (s : Chain P) × Meets P.Shape s way.now (place from.now) piece.now window.old }
     requires trend { IsSteady (P.function piece.now.shape) }
-    requires stands { Stands P.Shape s.now way.now (place from.now) (place from.now) window.old }
-    requires entered { HasEntered P.Shape s.now way.now (place from.now) window.old }
-    requires breaks { HasBreaks P.Shape s.now (place from.now) piece.now }
     requires left { IsLeft way.now (end piece.now) (place until.now) }
-    requires plays { Plays P.Shape s.now way.now.over window.old }
-    ensures stands { OnOk result (Stands P.Shape s.now way.now (place piece.now.until) (place piece.now.until) window.new) }
-    ensures plays { OnOk result (Plays P.Shape s.now way.now.over window.new) }
+    ensures { (s : Chain P) → Meets P.Shape s way.now (place from.now) piece.now window.old
+        → OnOk result (HasMet P.Shape s way.now (end piece.now) window.new) }
 {
-    // For the proof alone: where the piece stands in the chain.
-    let _ = s;
+    // For the proof alone: where the piece begins.
     let _ = from;
     let at = window.out.until();
     if at.precedes(until) {
@@ -206,7 +296,6 @@ fn steady<P: Shape>(
 
 /// A piece that gets better counts as itself while the window's high end moves over it, and then by its last value.
 fn rising<P: Shape>(
-    s: &Pieces<P>,
     way: &Way,
     from: &Cut,
     piece: &Piece<P>,
@@ -214,34 +303,28 @@ fn rising<P: Shape>(
     window: &mut Sliding<P>,
     fault: &mut Option<WidePair<P>>,
 ) -> Result<(), Memory>
-    requires can { CanSlide P.Shape s.now way.now.over }
-    requires to { place way.now.to ≡ stop s.now }
-    requires some { IsNonEmpty way.now.over }
-    requires piece { IsPieceFrom P.Shape s.now (place from.now) piece.now }
+    requires met { (s : Chain P) × Meets P.Shape s way.now (place from.now) piece.now window.old }
     requires trend { GetsNoWorse way.now.side (P.function piece.now.shape) }
-    requires stands { Stands P.Shape s.now way.now (place from.now) (place from.now) window.old }
-    requires entered { HasEntered P.Shape s.now way.now (place from.now) window.old }
-    requires breaks { HasBreaks P.Shape s.now (place from.now) piece.now }
     requires left { IsLeft way.now (end piece.now) (place until.now) }
-    requires plays { Plays P.Shape s.now way.now.over window.old }
     requires none { fault.old ≡ None }
-    ensures stands { OnOk result (Stands P.Shape s.now way.now (end piece.now) (end piece.now) window.new) }
-    ensures entered { OnOk result (HasEntered P.Shape s.now way.now (end piece.now) window.new) }
+    ensures met { (s : Chain P) → Meets P.Shape s way.now (place from.now) piece.now window.old
+        → OnOk result (HasMet P.Shape s way.now (end piece.now) window.new) }
+    ensures entered { (s : Chain P) → Meets P.Shape s way.now (place from.now) piece.now window.old
+        → OnOk result (HasEntered P.Shape s way.now (end piece.now) window.new) }
     ensures still { OnOk result (fault.new ≡ None) }
-    ensures plays { OnOk result (Plays P.Shape s.now way.now.over window.new) }
-    ensures wide { OnErr result (IfSome fault.new (IsCauseOver P.Shape s.now way.now.over)) }
+    ensures wide { (s : Chain P) → Meets P.Shape s way.now (place from.now) piece.now window.old
+        → OnErr result (IfSome fault.new (IsCauseOver P.Shape s way.now.over)) }
 {
     let Some(next) = reached(way, &piece.until, &window.out.until()) else {
-        return hold(s, way, from, piece, &piece.until, until, window, fault);
+        return hold(way, from, piece, &piece.until, until, window, fault);
     };
     let gap = at_high(&way.over, &piece.shape);
     window.tell(way.side, &gap, false, &next, fault)?;
-    hold(s, way, from, piece, &piece.until, until, window, fault)
+    hold(way, from, piece, &piece.until, until, window, fault)
 }
 
 /// A piece that gets worse counts by its first value, and then as itself while the window's low end moves over it.
 fn falling<P: Shape>(
-    s: &Pieces<P>,
     way: &Way,
     from: &Cut,
     gone: &Cut,
@@ -250,24 +333,18 @@ fn falling<P: Shape>(
     window: &mut Sliding<P>,
     fault: &mut Option<WidePair<P>>,
 ) -> Result<(), Memory>
-    requires can { CanSlide P.Shape s.now way.now.over }
-    requires to { place way.now.to ≡ stop s.now }
-    requires some { IsNonEmpty way.now.over }
-    requires piece { IsPieceFrom P.Shape s.now (place from.now) piece.now }
+    requires met { (s : Chain P) × Meets P.Shape s way.now (place from.now) piece.now window.old }
     requires trend { GetsNoBetter way.now.side (P.function piece.now.shape) }
-    requires stands { Stands P.Shape s.now way.now (place from.now) (place from.now) window.old }
-    requires entered { HasEntered P.Shape s.now way.now (place from.now) window.old }
-    requires breaks { HasBreaks P.Shape s.now (place from.now) piece.now }
     requires gone { IsLeft way.now (place from.now) (place gone.now) }
     requires left { IsLeft way.now (end piece.now) (place until.now) }
-    requires plays { Plays P.Shape s.now way.now.over window.old }
     requires none { fault.old ≡ None }
-    ensures stands { OnOk result (Stands P.Shape s.now way.now (end piece.now) (end piece.now) window.new) }
+    ensures met { (s : Chain P) → Meets P.Shape s way.now (place from.now) piece.now window.old
+        → OnOk result (HasMet P.Shape s way.now (end piece.now) window.new) }
     ensures still { OnOk result (fault.new ≡ None) }
-    ensures plays { OnOk result (Plays P.Shape s.now way.now.over window.new) }
-    ensures wide { OnErr result (IfSome fault.new (IsCauseOver P.Shape s.now way.now.over)) }
+    ensures wide { (s : Chain P) → Meets P.Shape s way.now (place from.now) piece.now window.old
+        → OnErr result (IfSome fault.new (IsCauseOver P.Shape s way.now.over)) }
 {
-    hold(s, way, from, piece, from, gone, window, fault)?;
+    hold(way, from, piece, from, gone, window, fault)?;
     let slope = at_low(&way.over, &piece.shape);
     let at = window.out.until();
     slide(way.side, &at, &mut window.steps, &slope, until)
@@ -276,7 +353,6 @@ fn falling<P: Shape>(
 /// The best value of a piece, which it has at that one of its ends, counts until the window has left that end.
 #[inline(always)]
 fn hold<P: Shape>(
-    s: &Pieces<P>,
     way: &Way,
     from: &Cut,
     piece: &Piece<P>,
@@ -285,27 +361,22 @@ fn hold<P: Shape>(
     window: &mut Sliding<P>,
     fault: &mut Option<WidePair<P>>,
 ) -> Result<(), Memory>
-    requires can { CanSlide P.Shape s.now way.now.over }
-    requires to { place way.now.to ≡ stop s.now }
-    requires some { IsNonEmpty way.now.over }
-    requires piece { IsPieceFrom P.Shape s.now (place from.now) piece.now }
-    requires best { IsBestEnd P.Shape way.now.side (place from.now) piece.now (place best.now) }
-    requires keeps { Keeps P.Shape s.now way.now (place from.now) (place best.now) (place from.now) window.old }
-    requires entered { HasEntered P.Shape s.now way.now (place best.now) window.old }
-    requires breaks { HasBreaks P.Shape s.now (place from.now) piece.now }
+    requires met { (s : Chain P) × Holds P.Shape s way.now (place from.now) piece.now (place best.now) window.old }
     requires left { IsLeft way.now (place best.now) (place until.now) }
-    requires plays { Plays P.Shape s.now way.now.over window.old }
     requires none { fault.old ≡ None }
-    ensures stands { OnOk result (Stands P.Shape s.now way.now (end piece.now) (place best.now) window.new) }
-    ensures past { OnOk result ((t : Rational) → After (last_end window.new) t → Upto (stop s.now) t
+    ensures stands { (s : Chain P) → Holds P.Shape s way.now (place from.now) piece.now (place best.now) window.old
+        → OnOk result (Stands P.Shape s way.now (end piece.now) (place best.now) window.new) }
+    ensures past { (s : Chain P) → Holds P.Shape s way.now (place from.now) piece.now (place best.now) window.old
+        → OnOk result ((t : Rational) → After (last_end window.new) t → Upto (place way.now.to) t
         → ¬ Before (low_place way.now.over.low way.now.over.low_in t) (place best.now)) }
     ensures out { window.new.out ≡ window.old.out }
     ensures still { OnOk result (fault.new ≡ None) }
-    ensures plays { OnOk result (Plays P.Shape s.now way.now.over window.new) }
-    ensures wide { OnErr result (IfSome fault.new (IsCauseOver P.Shape s.now way.now.over)) }
+    ensures plays { (s : Chain P) → Holds P.Shape s way.now (place from.now) piece.now (place best.now) window.old
+        → OnOk result (Plays P.Shape s way.now.over (place way.now.to) window.new) }
+    ensures wide { (s : Chain P) → Holds P.Shape s way.now (place from.now) piece.now (place best.now) window.old
+        → OnErr result (IfSome fault.new (IsCauseOver P.Shape s way.now.over)) }
 {
-    // For the proof alone: where the piece stands in the chain.
-    let _ = s;
+    // For the proof alone: where the piece begins.
     let _ = from;
     let at = window.out.until();
     if !at.precedes(until) {

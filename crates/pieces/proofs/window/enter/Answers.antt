@@ -1,37 +1,30 @@
-use Rattle.std.proofs.Common.{◌≡◌, ◌⊎◌, ◌^◌, inr, refl, sym, subst, ◌∙◌}
-use Rattle.rational.specs.Rational.{IsWithin}
-use Rattle.rational.specs.Time.{Rational}
-use Rattle.rational.specs.Places.{After, Upto, AtMost, Before}
-use Rattle.rational.proofs.Mixed.{within_between}
+use Rattle.std.proofs.Common.{inr, refl, sym, subst, ◌∙◌}
+use Rattle.rational.specs.Places.{After, AtMost}
 use Rattle.rational.proofs.Order.{le_trans}
 use Rattle.rational.proofs.PlaceLemmas.{after_same, le_of_at_most}
 use Rattle.frac128.specs.Value.{value}
 use Rattle.frac128.specs.Cuts.{place}
 use Rattle.value_laws.specs.Members.{ShapeLaws}
 use Rattle.pieces.specs.Chains.{stop}
-use Rattle.pieces.specs.Windows.{high_place}
 use Rattle.pieces.proofs.Ends.{at_most_itself, at_most_of_same, at_most_trans}
+use Rattle.pieces.proofs.Holding.{reach_within, told_within}
 use Rattle.pieces.proofs.Meeting.{none_last, none_level, none_rises, on_ok_two}
 use Rattle.pieces.proofs.Moving.{best_with_none, keeps_told, tells_more}
 use Rattle.std.proofs.lemmas.Bool.{false≢true}
 use Rattle.std.proofs.lemmas.Option.{IfSome_then}
-use Rattle.std.proofs.lemmas.Result.{on_err_weaker, on_ok_weaker}
+use Rattle.std.proofs.lemmas.Result.{on_err_weaker}
 use Rattle.pieces.proofs.Played.{plays_told, told_cause_none}
-use Rattle.pieces.proofs.window.enter.Given.{Over}
-use Rattle.pieces.proofs.window.enter.Goals.{Start}
 use Rattle.pieces.proofs.window.enter.Goals as goal
 
--- where the window has told up to lies within limits
-within : (g : Over) (c : Start g) → IsWithin (2 ^ 34) (stop c.args.window.now.out).at
-within g c = within_between (2 ^ 34) c.requires.can.limited.begins c.requires.can.limited.ends
-    (le_of_at_most c.args.s.now.from (stop c.args.window.now.out) c.requires.stands.on)
-    (le_of_at_most (stop c.args.window.now.out) (stop c.args.s.now) c.requires.stands.upto)
-
 pub reached-requires-clause-from : goal.reached-requires-clause-from
-reached-requires-clause-from g c = le_trans c.requires.can.first (le_of_at_most c.args.s.now.from (place c.args.met.now) c.requires.begins)
+reached-requires-clause-from g c =
+    let (chain, known) = c.requires.met in
+    le_trans known.can.first (le_of_at_most chain.from (place c.args.met.now) known.begins)
 
 pub reached-requires-clause-to : goal.reached-requires-clause-to
-reached-requires-clause-to g c = le_trans (le_of_at_most (place c.args.met.now) (stop c.args.s.now) c.requires.ends) c.requires.can.last
+reached-requires-clause-to g c =
+    let (chain, known) = c.requires.met in
+    le_trans (le_of_at_most (place c.args.met.now) (stop chain) known.ends) known.can.last
 
 pub tell-requires-clause-alone : goal.tell-requires-clause-alone
 tell-requires-clause-alone g c = λ h. none_last g.P.Shape (assumption g.met.P.Shape) c.args.way.now.side c.of_none.result c.of_none.ensures.value
@@ -45,53 +38,80 @@ tell-requires-clause-level g c =
     none_level g.P.Shape (assumption g.met.P.Shape) c.args.way.now.side c.of_none.result c.of_none.ensures.value
 
 pub tell-requires-clause-order : goal.tell-requires-clause-order
-tell-requires-clause-order g c = subst (λ s. AtMost s (place c.in-Some.next)) c.until.ensures.value
+tell-requires-clause-order g c =
+    let (chain, known) = c.requires.met in
+    subst (λ s. AtMost s (place c.in-Some.next)) c.until.ensures.value
     (c.in-Some.ensures.on (subst (λ s. AtMost s (place c.args.way.now.to)) (sym c.until.ensures.value)
-    (subst (λ s. AtMost (stop c.args.window.now.out) s) (sym c.requires.to) c.requires.stands.upto)))
+    (λ t u. known.to t (known.stands.upto t u))))
 
 pub tell-requires-clause-from_within : goal.tell-requires-clause-from_within
-tell-requires-clause-from_within g c = within g (goal.at.tell-requires-clause-from_within g c).Start
+tell-requires-clause-from_within g c =
+    let (chain, known) = c.requires.met in
+    told_within known.can known.stands
 
-pub returns-clause-stands : goal.returns-clause-stands
-returns-clause-stands g c =
+pub tell-requires-clause-steps : goal.tell-requires-clause-steps
+tell-requires-clause-steps g c =
+    let (chain, known) = c.requires.met in
+    known.stands.steps
+
+pub reached-requires-clause-small : goal.reached-requires-clause-small
+reached-requires-clause-small g c =
+    let (chain, known) = c.requires.met in
+    known.can.small
+
+pub reached-requires-clause-to_within : goal.reached-requires-clause-to_within
+reached-requires-clause-to_within g c =
+    let (chain, known) = c.requires.met in
+    known.within
+
+pub returns-clause-met : goal.returns-clause-met
+returns-clause-met g c chain known =
     let laws : ShapeLaws g.P.Shape = assumption g.met.P.Shape in
-    let s = c.args.s.now in
     let way = c.args.way.now in
     let met = place c.args.met.now in
     let next = place c.in-Some.next in
     let old = c.args.window.now in
     let new = c.tell.new.self in
-    let st = c.requires.stands in
+    let st = known.stands in
     on_ok_two c.tell.result (λ told ends.
     let upto_next : AtMost (stop new.out) next = at_most_of_same (stop new.out) next ends in
-    let upto_end : AtMost (stop new.out) (stop s) = subst (λ x. AtMost (stop new.out) x) c.requires.to (at_most_trans (stop new.out) next (place way.to)
-    upto_next c.in-Some.ensures.some.upto) in
-    keeps_told g.P.Shape laws s way c.requires.can.normal met met met c.of_none.result old new st told met upto_end
-    (tells_more g.P.Shape laws s way c.requires.can.normal met met met c.of_none.result old new st told met
-    (λ t a u. c.in-Some.ensures.some.before t (upto_next t u))
-    (λ t v a u b. best_with_none g.P.Shape laws s way c.requires.can.normal met met c.of_none.result old st (at_most_itself met)
-    c.of_none.ensures.value t v (upto_end t u) b))
-    (inr (λ t u. c.in-Some.ensures.some.before t (upto_next t u)))) c.tell.ensures.told c.tell.ensures.ends
+    let upto_end : AtMost (stop new.out) (stop chain) = at_most_trans (stop new.out) next (stop chain) upto_next
+    (reach_within g.P.Shape chain way met next known.ahead c.in-Some.ensures.some) in
+    record {
+      can = known.can;
+      to = known.to;
+      within = known.within;
+      ahead = known.ahead;
+      begins = known.begins;
+      ends = known.ends;
+      stands = keeps_told g.P.Shape laws chain way known.can.normal met met met c.of_none.result old new st told met upto_end
+          (tells_more g.P.Shape laws chain way known.can.normal met met met c.of_none.result old new st told met
+          (λ t a u. c.in-Some.ensures.some.before t (upto_next t u))
+          (λ t v a u b. best_with_none g.P.Shape laws chain way known.can.normal met met c.of_none.result old st (at_most_itself met)
+          c.of_none.ensures.value t v (c.in-Some.ensures.some.upto t (upto_next t u)) b))
+          (inr (λ t u. c.in-Some.ensures.some.before t (upto_next t u)));
+      plays = plays_told g.P.Shape chain way.over (place way.to) way.side old new known.plays c.of_none.result
+          (λ m. absurd (false≢true (sym c.of_none.ensures.still ∙ m))) told;
+    }) c.tell.ensures.told c.tell.ensures.ends
 
 pub returns-clause-entered : goal.returns-clause-entered
-returns-clause-entered g c = on_ok_two c.tell.result (λ ends again t a u. c.in-Some.ensures.some.after t
-    (after_same (stop c.tell.new.self.out) (place c.in-Some.next) t ends a) (subst (λ x. Upto x t) (sym c.requires.to) u))
+returns-clause-entered g c chain known = on_ok_two c.tell.result (λ ends again t a u. c.in-Some.ensures.some.after t
+    (after_same (stop c.tell.new.self.out) (place c.in-Some.next) t ends a) u)
     c.tell.ensures.ends c.tell.ensures.ends
 
-pub returns-clause-plays : goal.returns-clause-plays
-returns-clause-plays g c = on_ok_weaker c.tell.result (plays_told g.P.Shape c.args.s.now c.args.way.now.over c.args.way.now.side c.args.window.now
-    c.tell.new.self c.requires.plays c.of_none.result (λ m. absurd (false≢true (sym c.of_none.ensures.still ∙ m)))) c.tell.ensures.told
-
 pub returns-clause-wide : goal.returns-clause-wide
-returns-clause-wide g c =
-    let s = c.args.s.now in
+returns-clause-wide g c chain known =
     let way = c.args.way.now in
     let next = place c.in-Some.next in
     let out = stop c.args.window.now.out in
-    let lasts : AtMost next (stop s) = subst (λ x. AtMost next x) c.requires.to c.in-Some.ensures.some.upto in
-    on_err_weaker c.tell.result (λ some. IfSome_then c.tell.new.fault some (told_cause_none g.P.Shape s way.over (assumption g.met.P.Shape) way.side
-    c.of_none.result next c.args.window.now c.of_none.ensures.value c.requires.plays (le_of_at_most s.from out c.requires.stands.on)
-    (le_of_at_most next (stop s) lasts))) c.tell.ensures.wide
+    let lasts : AtMost next (stop chain) = reach_within g.P.Shape chain way (place c.args.met.now) next known.ahead c.in-Some.ensures.some in
+    on_err_weaker c.tell.result (λ some. IfSome_then c.tell.new.fault some (told_cause_none g.P.Shape chain way.over (place way.to)
+    (assumption g.met.P.Shape) way.side
+    c.of_none.result next c.args.window.now c.of_none.ensures.value known.plays (le_of_at_most chain.from out known.stands.on)
+    (le_of_at_most next (stop chain) lasts))) c.tell.ensures.wide
 
 pub returns-in_default-clause-entered : goal.returns-in_default-clause-entered
-returns-in_default-clause-entered g c t a u = c.in_default.ensures.none refl t (subst (λ s. After s t) (sym c.until.ensures.value) a)
+returns-in_default-clause-entered g c chain known t a u = c.in_default.ensures.none refl t (subst (λ s. After s t) (sym c.until.ensures.value) a)
+
+pub returns-in_default-clause-met : goal.returns-in_default-clause-met
+returns-in_default-clause-met g c chain known = known

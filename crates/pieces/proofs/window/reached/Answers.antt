@@ -1,6 +1,6 @@
 use Rattle.std.proofs.Common.{◌≡◌, ◌⊎◌, inl, inr, ap, sym, ◌∙◌, subst}
 use Rattle.std.proofs.lemmas.Bool.{false≢true}
-use Rattle.rational.specs.Places.{AtMost, Before}
+use Rattle.rational.specs.Places.{AtMost}
 use Rattle.rational.proofs.PlaceLemmas.{after_at_most, at_most_of_not_before}
 use Rattle.frac128.specs.Cuts.{place}
 use Rattle.frac128.specs.declared.cut.Cut.{Cut}

@@ -1,16 +1,13 @@
 use Rattle.std.proofs.Common.{◌≡◌, None}
 use Rattle.frac128.specs.Cuts.{place}
 use Rattle.pieces.specs.Chains.{begin_at}
-use Rattle.pieces.specs.Over.{Plays}
-use Rattle.pieces.specs.Windows.{HasEntered, IsLeft, Stands}
+use Rattle.pieces.specs.Meeting.{StandsFor}
 use Rattle.pieces.proofs.window.slide_over.Given as goal
 
 abbrev pub invariant-loop-i : goal.invariant-loop-i
 invariant-loop-i g l = record {
-  begins : place l.from ≡ begin_at l.s.from l.s.pieces l.i;
-  stands : Stands g.P.Shape l.s l.way (place l.from) (place l.from) l.window;
-  gone : IsLeft l.way (place l.from) (place l.gone);
-  entered : HasEntered g.P.Shape l.s l.way (place l.from) l.window;
+  stands : StandsFor g.P.Shape l.s l.window;
+  at : place l.window.met ≡ begin_at l.s.from l.s.pieces l.i;
+  way : l.window.way ≡ l.fn.window.way;
   still : l.fault ≡ None;
-  plays : Plays g.P.Shape l.s l.way.over l.window;
 }
