@@ -11,7 +11,7 @@ pub(crate) const TEXT_END: usize = 96;
 /// Puts the first `len` bytes of a word behind what stands before `at`, and answers where they end. What stands behind them does not matter:
 /// a word with a few bytes more is copied as one.
 #[inline(always)]
-pub(crate) fn add_part(buf: &mut [u8], at: usize, word: &[u8], len: usize) -> usize
+pub fn add_part(buf: &mut [u8], at: usize, word: &[u8], len: usize) -> usize
     requires part { len ≤ length word.now }
     requires room { at + length word.now ≤ length buf.old }
     ensures { IsAdded (take len word.now) buf.old at buf.new result }

@@ -20,7 +20,7 @@ mod verdict;
 mod verdict_lines;
 mod waiting;
 
-pub use after::add_byte;
+pub use after::{add_byte, add_part};
 pub use early::put_decided;
 pub use fault::{
     put_trace_fault, put_unit_fault, put_unknown, trace_fault_line, unit_fault_line, unknown_line,

@@ -1,7 +1,6 @@
 //! Several traces in one input, each line with the tag of its session: each session is told what it would be told alone.
 #![tactic(auto)]
 
-mod after;
 mod fault;
 mod input;
 mod known;

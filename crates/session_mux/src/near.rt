@@ -6,7 +6,7 @@ ghost use Rattle.memchr.specs.Lanes.{HasLanes};
 ghost use Rattle.answer_lines.specs.After.{IsAdded};
 ghost use Rattle.session_mux.specs.Near.{IsNoFeed, IsNextFeed};
 
-use crate::after::add_part;
+use answer_lines::add_part;
 use memchr::memchr;
 use std::simd::prelude::*;
 

@@ -7,10 +7,10 @@ ghost use Rattle.answer_lines.specs.After.{IsAdded};
 ghost use Rattle.session_mux.specs.Taking.{ended_line};
 ghost use Rattle.session_mux.specs.Running.{IsOwnLine, HasGathered};
 
-use crate::after::add_byte;
 use crate::near::{NEAR, first_feed, put_front};
 use crate::session::{asks, stops};
 use crate::tag::{LONGEST, tag_len};
+use answer_lines::add_byte;
 use frac128::Memory;
 
 /// The most bytes of a line.

@@ -5,7 +5,7 @@ ghost use Rattle.session_mux.specs.Sessions.{is_tag_byte as is_of_tag, Tagged, I
 ghost use Rattle.answer_lines.specs.After.{IsAdded};
 ghost use Rattle.session_mux.specs.Tags.{number_of as number};
 
-use crate::after::{add_byte, add_part};
+use answer_lines::{add_byte, add_part};
 use std::marker::Model;
 
 /// The most bytes of a tag.

@@ -2,9 +2,9 @@
 ghost use Rattle.std.specs.Prelude.{◌≡◌, ◌≤◌, ◌++◌, ◌∷◌, ℕ, List, [], codes, length, take, OnOk, OnErr};
 ghost use Rattle.stl_syntax.specs.Texts.{newline};
 
-use crate::after::add_byte;
 use crate::near::put_front;
 use crate::tag::Tag;
+use answer_lines::add_byte;
 use frac128::Memory;
 use std::marker::Model;
 use stl_syntax::Text;
