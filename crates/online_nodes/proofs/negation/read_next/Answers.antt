@@ -1,12 +1,13 @@
-use Rattle.std.proofs.Common.{refl, sym, subst, ◌∙◌, arith}
+use Rattle.std.proofs.Common.{◌<◌, slice_get, refl, sym, ap, subst, ◌∙◌, arith}
+use Rattle.std.proofs.lemmas.Option.{slice_get_within}
 use Rattle.frac128.specs.Spans.{interval}
 use Rattle.stl_syntax.specs.declared.items.Verdict.{Verdict}
 use Rattle.online_nodes.specs.Working.{HasPassed}
 use Rattle.frac128.specs.declared.cut.Cut.{Cut}
 use Rattle.rational.specs.Places.{Place, ends, AtMost, Before, Upto}
 use Rattle.frac128.specs.Cuts.{place}
-use Rattle.online_nodes.specs.Held.{fresh_at}
-use Rattle.online_nodes.proofs.GotLemmas.{got-length}
+use Rattle.online_nodes.specs.Held.{fresh_at, Edge}
+use Rattle.online_nodes.proofs.GotLemmas.{got-length, got-other}
 use Rattle.rational.proofs.PlaceLemmas.{upto_of_before, at_most_of_not_before}
 use Rattle.online_nodes.proofs.JoinLemmas.{same_first}
 use Rattle.online_nodes.proofs.NegationLemmas.{IsSaidOf, next_was_read}
@@ -51,3 +52,16 @@ returns-clause-read c =
     } in
     next_was_read said passed
     (λ t h. let there = subst (λ (q : Place). Upto q t) (sym c.end-v_end.ensures) h in reaches.reached t there (to_end t there))
+
+pub upto-requires : goal.upto-requires
+upto-requires c = record { edge = c.requires.own; inside = c.requires.inside; sound = c.requires.sound }
+
+pub pass-requires : goal.pass-requires
+pass-requires c =
+    let of = c.args.of in
+    let got = c.in_ok-next.ensures.said.got in
+    record {
+      edge = subst (λ n. of < n) (sym (got-length got)) c.requires.input;
+      some = slice_get_within (fresh_at c.upto.new.edges of) 0 c.in-Some.v
+          (ap (λ (e : Edge). slice_get e.fresh 0) (got-other got of c.requires.apart) ∙ (sym c.next.ensures ∙ c.in-Some.is));
+    }

@@ -199,3 +199,30 @@ returns-clause-read c =
                 told),
           );
     }
+
+pub pass-requires : goal.pass-requires
+pass-requires c = record {
+  edge = c.requires.input;
+  some = slice_get_within (fresh_at c.args.edges.now c.args.window.of) 0 c.in-Some.v (sym c.next.ensures ∙ c.in-Some.is);
+}
+
+pub read_along-requires-clause-input : goal.read_along-requires-clause-input
+read_along-requires-clause-input c = c.requires.input
+
+pub read_along-requires-clause-apart : goal.read_along-requires-clause-apart
+read_along-requires-clause-apart c = c.requires.apart
+
+pub read_along-requires-clause-sound : goal.read_along-requires-clause-sound
+read_along-requires-clause-sound c = c.requires.sound
+
+pub read_along-requires-clause-inside : goal.read_along-requires-clause-inside
+read_along-requires-clause-inside c = c.requires.inside
+
+pub read_along-requires-clause-first : goal.read_along-requires-clause-first
+read_along-requires-clause-first c = sym c.next.ensures ∙ c.in-Some.is
+
+pub read_along-requires-clause-sought : goal.read_along-requires-clause-sought
+read_along-requires-clause-sought c = sought_is c.in-Some.v.holds c.args.window.seeks c.if-v-window.false
+
+pub upto-requires : goal.upto-requires
+upto-requires c = record { edge = c.requires.own; inside = c.requires.inside; sound = c.requires.sound }
