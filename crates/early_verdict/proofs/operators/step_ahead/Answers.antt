@@ -1,5 +1,6 @@
-use Rattle.std.proofs.Common.{subst, sym}
+use Rattle.std.proofs.Common.{subst, sym, length}
 use Rattle.std.specs.Prelude.{OnOk}
+use Rattle.stl_syntax.specs.Formula.{HasChildrenBelow}
 use Rattle.early_verdict.specs.Fitting.{EventuallyFits, AlwaysFits}
 use Rattle.early_verdict.specs.Standing.{GoesBy}
 use Rattle.growing_sets.proofs.WindowLemmas.{on_good}
@@ -25,3 +26,21 @@ returns-in-Always-clause-fits c =
     one_list (λ l. AlwaysFits c.args.entry.now.ended tr n.low n.high n.low_in n.high_in l c.step_always.new.own) c.args.below.now
     n.of s c.at-in-Always.ensures.at
     (f old tr (was n.of) n.low n.high n.low_in n.high_in c.ahead-w-in-Always.ensures h (had n.of s c.at-in-Always.ensures.at) w)))
+
+pub at-requires : goal.at-requires
+at-requires c = record {
+  within = subst (HasChildrenBelow (length c.args.below.now)) c.in-Eventually.is c.requires.children;
+  tidy = c.requires.below;
+}
+
+pub step_eventually-requires : goal.step_eventually-requires
+step_eventually-requires c = record { own = c.requires.own; operand = c.at.ensures.tidy; entry = c.requires.entry; none = c.requires.none }
+
+pub at-requires-in-Always : goal.at-requires-in-Always
+at-requires-in-Always c = record {
+  within = subst (HasChildrenBelow (length c.args.below.now)) c.in-Always.is c.requires.children;
+  tidy = c.requires.below;
+}
+
+pub step_always-requires : goal.step_always-requires
+step_always-requires c = record { own = c.requires.own; operand = c.at-in-Always.ensures.tidy; entry = c.requires.entry; none = c.requires.none }

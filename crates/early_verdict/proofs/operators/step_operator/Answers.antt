@@ -1,5 +1,6 @@
-use Rattle.std.proofs.Common.{subst, sym}
+use Rattle.std.proofs.Common.{subst, sym, length}
 use Rattle.std.specs.Prelude.{OnOk}
+use Rattle.stl_syntax.specs.Formula.{HasChildrenBelow}
 use Rattle.early_verdict.specs.Fitting.{NegationFits, ConjunctionFits, DisjunctionFits, ImplicationFits, UntilFits, SinceFits}
 use Rattle.early_verdict.specs.Standing.{GoesBy}
 use Rattle.growing_sets.proofs.WindowLemmas.{on_good}
@@ -72,3 +73,88 @@ returns-in-Since-clause-fits c =
     n.left n.right l.result.now r.result.now l.ensures.at r.ensures.at
     (f old tr (was n.left) (was n.right) n.low n.high c.behind-w.ensures c.behind-down_to.ensures h
     (had n.left l.result.now l.ensures.at) (had n.right r.result.now r.ensures.at) (parts.1 l.result.now l.ensures.at) parts.0 w)))
+
+pub at-requires : goal.at-requires
+at-requires c =
+    let k = subst (HasChildrenBelow (length c.args.below.now)) c.in-Not.is c.requires.children in
+    record { within = k; tidy = c.requires.below }
+
+pub at-requires-in-And : goal.at-requires-in-And
+at-requires-in-And c =
+    let k = subst (HasChildrenBelow (length c.args.below.now)) c.in-And.is c.requires.children in
+    record { within = k.0; tidy = c.requires.below }
+
+pub at-requires-in-And-2 : goal.at-requires-in-And-2
+at-requires-in-And-2 c =
+    let k = subst (HasChildrenBelow (length c.args.below.now)) c.in-And.is c.requires.children in
+    record { within = k.1; tidy = c.requires.below }
+
+pub at-requires-in-Or : goal.at-requires-in-Or
+at-requires-in-Or c =
+    let k = subst (HasChildrenBelow (length c.args.below.now)) c.in-Or.is c.requires.children in
+    record { within = k.0; tidy = c.requires.below }
+
+pub at-requires-in-Or-2 : goal.at-requires-in-Or-2
+at-requires-in-Or-2 c =
+    let k = subst (HasChildrenBelow (length c.args.below.now)) c.in-Or.is c.requires.children in
+    record { within = k.1; tidy = c.requires.below }
+
+pub at-requires-in-Implies : goal.at-requires-in-Implies
+at-requires-in-Implies c =
+    let k = subst (HasChildrenBelow (length c.args.below.now)) c.in-Implies.is c.requires.children in
+    record { within = k.0; tidy = c.requires.below }
+
+pub at-requires-in-Implies-2 : goal.at-requires-in-Implies-2
+at-requires-in-Implies-2 c =
+    let k = subst (HasChildrenBelow (length c.args.below.now)) c.in-Implies.is c.requires.children in
+    record { within = k.1; tidy = c.requires.below }
+
+pub at-requires-in-Until : goal.at-requires-in-Until
+at-requires-in-Until c =
+    let k = subst (HasChildrenBelow (length c.args.below.now)) c.in-Until.is c.requires.children in
+    record { within = k.0; tidy = c.requires.below }
+
+pub at-requires-in-Until-2 : goal.at-requires-in-Until-2
+at-requires-in-Until-2 c =
+    let k = subst (HasChildrenBelow (length c.args.below.now)) c.in-Until.is c.requires.children in
+    record { within = k.1; tidy = c.requires.below }
+
+pub at-requires-in-Since : goal.at-requires-in-Since
+at-requires-in-Since c =
+    let k = subst (HasChildrenBelow (length c.args.below.now)) c.in-Since.is c.requires.children in
+    record { within = k.0; tidy = c.requires.below }
+
+pub at-requires-in-Since-2 : goal.at-requires-in-Since-2
+at-requires-in-Since-2 c =
+    let k = subst (HasChildrenBelow (length c.args.below.now)) c.in-Since.is c.requires.children in
+    record { within = k.1; tidy = c.requires.below }
+
+pub step_negation-requires : goal.step_negation-requires
+step_negation-requires c = c.requires.own
+
+pub step_conjunction-requires : goal.step_conjunction-requires
+step_conjunction-requires c = record { own = c.requires.own; first = c.at-in-And.ensures.tidy; second = c.at-in-And-2.ensures.tidy }
+
+pub step_disjunction-requires : goal.step_disjunction-requires
+step_disjunction-requires c = record { own = c.requires.own; first = c.at-in-Or.ensures.tidy; second = c.at-in-Or-2.ensures.tidy }
+
+pub step_implication-requires : goal.step_implication-requires
+step_implication-requires c = record { own = c.requires.own; first = c.at-in-Implies.ensures.tidy; second = c.at-in-Implies-2.ensures.tidy }
+
+pub step_until-requires : goal.step_until-requires
+step_until-requires c = record {
+  own = c.requires.own;
+  left = c.at-in-Until.ensures.tidy;
+  right = c.at-in-Until-2.ensures.tidy;
+  entry = c.requires.entry;
+  none = c.requires.none;
+}
+
+pub step_since-requires : goal.step_since-requires
+step_since-requires c = record {
+  own = c.requires.own;
+  left = c.at-in-Since.ensures.tidy;
+  right = c.at-in-Since-2.ensures.tidy;
+  entry = c.requires.entry;
+  none = c.requires.none;
+}

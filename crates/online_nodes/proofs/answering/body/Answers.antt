@@ -1,6 +1,6 @@
 -- The body of a node by its kind.
-use Rattle.std.proofs.Common.{subst}
-use Rattle.online_nodes.specs.Answering.{CanAnswer}
+use Rattle.std.proofs.Common.{subst, sym, inl, inr}
+use Rattle.online_nodes.specs.Answering.{CanAnswer, HasBody}
 use Rattle.online_nodes.specs.declared.kind.Kind.{Kind}
 use Rattle.online_nodes.proofs.answering.body.Goals as goal
 
@@ -21,7 +21,31 @@ since_all-requires c = record {
 }
 
 pub sweep_all-requires : goal.sweep_all-requires
-sweep_all-requires c = ?
+sweep_all-requires c = record {
+  own = c.requires.own;
+  sound = c.requires.sound;
+  inside = c.requires.inside;
+  input = elim c.in-Ahead.is [
+    | inl e ↦ subst (λ (k : Kind). CanAnswer k c.args.edges.now c.args.out.edge c.args.marks) e c.requires.able
+    | inr e ↦ subst (λ (k : Kind). CanAnswer k c.args.edges.now c.args.out.edge c.args.marks) e c.requires.able
+  ];
+}
 
-pub returns : goal.returns
-returns c = ?
+pub returns-in_ok-told-in-Until-clause-told : goal.returns-in_ok-told-in-Until-clause-told
+returns-in_ok-told-in-Until-clause-told c =
+    subst (λ (k : Kind). HasBody k c.args.edges.now c.until_all.new.edges c.args.out c.args.marks c.in_ok-told-in-Until.told) (sym c.in-Until.is)
+    c.in_ok-told-in-Until.ensures.told
+
+pub returns-in_ok-told-in-Since-clause-told : goal.returns-in_ok-told-in-Since-clause-told
+returns-in_ok-told-in-Since-clause-told c =
+    subst (λ (k : Kind). HasBody k c.args.edges.now c.since_all.new.edges c.args.out c.args.marks c.in_ok-told-in-Since.told) (sym c.in-Since.is)
+    c.in_ok-told-in-Since.ensures.told
+
+pub returns-in_ok-told-in-Ahead-clause-told : goal.returns-in_ok-told-in-Ahead-clause-told
+returns-in_ok-told-in-Ahead-clause-told c =
+    elim c.in-Ahead.is [
+      | inl e ↦ subst (λ (k : Kind). HasBody k c.args.edges.now c.sweep_all.new.edges c.args.out c.args.marks c.in_ok-told-in-Ahead.told) (sym e)
+          c.in_ok-told-in-Ahead.ensures.swept
+      | inr e ↦ subst (λ (k : Kind). HasBody k c.args.edges.now c.sweep_all.new.edges c.args.out c.args.marks c.in_ok-told-in-Ahead.told) (sym e)
+          c.in_ok-told-in-Ahead.ensures.swept
+    ]
