@@ -1,5 +1,5 @@
 //! The times at which each node's time is cut, from the root to the leaves.
-ghost use Rattle.std.specs.Prelude.{◌≡◌, ◌≤◌, ◌<◌, ◌+◌, ◌↔◌, ◌++◌, ◌∷◌, [], length, map, All, IsTrue, IfOk, OnOk, MatchResult};
+ghost use Rattle.std.specs.Prelude.{◌≡◌, ◌≤◌, ◌<◌, ◌+◌, ◌↔◌, ◌++◌, ◌∷◌, [], length, map, neg_ℤ, pos, All, IsTrue, IfOk, OnOk, MatchResult};
 ghost use Rattle.rational.specs.Time.{Rational, Within};
 ghost use Rattle.frac128.specs.Value.{value};
 ghost use Rattle.stl_syntax.specs.Cells.{AreCuts, AreRisingTimes, IsAmong, IsChild, shifts, back};
@@ -119,6 +119,26 @@ fn push_back(moves: &mut Vec<i64>, high: Option<u32>) -> Result<(), Memory>
     }
 }
 
+/// Appends the moves of a window ahead, by both of its bounds.
+fn push_window_ahead(moves: &mut Vec<i64>, low: u32, high: u32) -> Result<(), Memory>
+    requires { AreNearMoves moves.old.items }
+    ensures put { OnOk result (moves.new.items ≡ moves.old.items ++ pos low ∷ pos high ∷ []) }
+    ensures near { OnOk result (AreNearMoves moves.new.items) }
+{
+    push_move(moves, i64::from(low))?;
+    push_move(moves, i64::from(high))
+}
+
+/// Appends the moves of a window behind, by its lower bound and by the upper one.
+fn push_window_behind(moves: &mut Vec<i64>, low: u32, high: Option<u32>) -> Result<(), Memory>
+    requires { AreNearMoves moves.old.items }
+    ensures put { OnOk result (moves.new.items ≡ moves.old.items ++ neg_ℤ (pos low) ∷ back high) }
+    ensures near { OnOk result (AreNearMoves moves.new.items) }
+{
+    push_move(moves, -i64::from(low))?;
+    push_back(moves, high)
+}
+
 /// Appends by how much the node's cut times are moved for its children.
 fn put_moves(moves: &mut Vec<i64>, node: &Node) -> Result<(), Memory>
     requires { AreNearMoves moves.old.items }
@@ -128,21 +148,17 @@ fn put_moves(moves: &mut Vec<i64>, node: &Node) -> Result<(), Memory>
     match node {
         Node::Until { low, high, .. } => {
             push_move(moves, 0)?;
-            push_move(moves, i64::from(*low))?;
-            push_move(moves, i64::from(*high))
+            push_window_ahead(moves, *low, *high)
         }
         Node::Eventually { low, high, .. } | Node::Always { low, high, .. } => {
-            push_move(moves, i64::from(*low))?;
-            push_move(moves, i64::from(*high))
+            push_window_ahead(moves, *low, *high)
         }
         Node::Since { low, high, .. } => {
             push_move(moves, 0)?;
-            push_move(moves, -i64::from(*low))?;
-            push_back(moves, *high)
+            push_window_behind(moves, *low, *high)
         }
         Node::Once { low, high, .. } | Node::Historically { low, high, .. } => {
-            push_move(moves, -i64::from(*low))?;
-            push_back(moves, *high)
+            push_window_behind(moves, *low, *high)
         }
         Node::Const(_)
         | Node::Atom(_)

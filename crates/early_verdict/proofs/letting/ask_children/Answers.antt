@@ -1,4 +1,5 @@
-use Rattle.std.proofs.Common.{rules, sym, subst}
+use Rattle.std.proofs.Common.{rules, length, sym, subst}
+use Rattle.stl_syntax.specs.Formula.{HasChildrenBelow}
 use Rattle.frac128.specs.Value.{value}
 use Rattle.early_verdict.specs.Letting.{AreAskedBy, IsUntil}
 use Rattle.early_verdict.proofs.LettingLemmas.{asked_always, asked_and, asked_eventually, asked_historically_by}
@@ -64,3 +65,62 @@ returns-2 c = let n : ¬ (IsUntil c.args.node.now) = search rules in none_asked 
 
 pub returns-3 : goal.returns-3
 returns-3 c = let n : ¬ (IsUntil c.args.node.now) = search rules in none_asked c.args.node.now (value c.args.cut.now.time) c.args.shown.now n
+
+pub ask_from-requires : goal.ask_from-requires
+ask_from-requires c = record {
+  within = subst (HasChildrenBelow (length c.args.shown.now)) c.in-Not.is c.requires.children;
+  tidy = c.requires.tidy;
+  inside = c.requires.inside;
+}
+
+pub ask_both-requires : goal.ask_both-requires
+ask_both-requires c =
+    let k = subst (HasChildrenBelow (length c.args.shown.now)) c.in-And.is c.requires.children in
+    record { left = k.0; right = k.1; tidy = c.requires.tidy; inside = c.requires.inside }
+
+pub ask_both-requires-in-Or : goal.ask_both-requires-in-Or
+ask_both-requires-in-Or c =
+    let k = subst (HasChildrenBelow (length c.args.shown.now)) c.in-Or.is c.requires.children in
+    record { left = k.0; right = k.1; tidy = c.requires.tidy; inside = c.requires.inside }
+
+pub ask_both-requires-in-Implies : goal.ask_both-requires-in-Implies
+ask_both-requires-in-Implies c =
+    let k = subst (HasChildrenBelow (length c.args.shown.now)) c.in-Implies.is c.requires.children in
+    record { left = k.0; right = k.1; tidy = c.requires.tidy; inside = c.requires.inside }
+
+pub ask_both-requires-in-Until : goal.ask_both-requires-in-Until
+ask_both-requires-in-Until c =
+    let k = subst (HasChildrenBelow (length c.args.shown.now)) c.in-Until.is c.requires.children in
+    record { left = k.0; right = k.1; tidy = c.requires.tidy; inside = c.requires.inside }
+
+pub ask_ahead-requires : goal.ask_ahead-requires
+ask_ahead-requires c = record {
+  within = subst (HasChildrenBelow (length c.args.shown.now)) c.in-Eventually.is c.requires.children;
+  tidy = c.requires.tidy;
+  inside = c.requires.inside;
+  near = c.requires.near;
+}
+
+pub ask_ahead-requires-in-Always : goal.ask_ahead-requires-in-Always
+ask_ahead-requires-in-Always c = record {
+  within = subst (HasChildrenBelow (length c.args.shown.now)) c.in-Always.is c.requires.children;
+  tidy = c.requires.tidy;
+  inside = c.requires.inside;
+  near = c.requires.near;
+}
+
+pub ask_back-requires : goal.ask_back-requires
+ask_back-requires c = record {
+  within = subst (HasChildrenBelow (length c.args.shown.now)) c.in-Once.is c.requires.children;
+  tidy = c.requires.tidy;
+  inside = c.requires.inside;
+  near = c.requires.near;
+}
+
+pub ask_back-requires-in-Historically : goal.ask_back-requires-in-Historically
+ask_back-requires-in-Historically c = record {
+  within = subst (HasChildrenBelow (length c.args.shown.now)) c.in-Historically.is c.requires.children;
+  tidy = c.requires.tidy;
+  inside = c.requires.inside;
+  near = c.requires.near;
+}

@@ -1,4 +1,4 @@
-use Rattle.std.proofs.Common.{◌≡◌, ◌^◌, take, to_z, of_z, sym, subst, arith}
+use Rattle.std.proofs.Common.{rules, ◌≡◌, ◌^◌, take, to_z, of_z, sym, subst, arith}
 use Rattle.std.specs.Int.{w64}
 use Rattle.std.proofs.lemmas.Int.{to_z-of_z}
 use Rattle.std.proofs.lemmas.List.{take_all}
@@ -15,7 +15,7 @@ loop-t-init c = adds_none (λ t m. m.cut)
 
 pub shift-requires : goal.shift-requires
 shift-requires c =
-    let same : to_z w64 (of_z w64 c.args.by) ≡ c.args.by = to_z-of_z w64 c.args.by c.ranges.by in
+    let same : to_z w64 (of_z w64 c.args.by) ≡ c.args.by = search (rules, to_z-of_z) in
     let near = subst (λ t. IsWithin (2 ^ 34) (value t)) (sym c.t-item.is) (c.requires.limited c.loop-t.t-index c.t-item.result c.loop-t-test.true) in
     subst (λ k. FitsFloor w64 (add (value c.t-item.result) (whole k))) (sym same) (move_fits (value c.t-item.result) c.args.by near c.requires.near)
 
@@ -28,7 +28,7 @@ loop-t-preserved c =
 
 pub returns : goal.returns
 returns c =
-    let same : to_z w64 (of_z w64 c.args.by) ≡ c.args.by = to_z-of_z w64 c.args.by c.ranges.by in
+    let same : to_z w64 (of_z w64 c.args.by) ≡ c.args.by = search (rules, to_z-of_z) in
     let all = take_all c.loop-t.t-index c.args.parent.now (let t = c.loop-t-test.false in omega (arith, t)) in
     let told = subst (λ k. Adds (IsMoved (value c.args.from.now) (value c.args.to.now) (times_of (take c.loop-t.t-index c.args.parent.now)) k)
     (times_of c.args.times.now.items) (times_of c.loop-t.times.items)) same c.loop-t.invariant in

@@ -1,4 +1,4 @@
-use Rattle.std.proofs.Common.{◌≡◌, ◌<ℤ◌, ◌≤ℤ◌, ◌∙◌, Some, true, false, ap, pos, to_z, of_z, sym, subst, not}
+use Rattle.std.proofs.Common.{rules, ◌≡◌, ◌<ℤ◌, ◌≤ℤ◌, ◌∙◌, Some, true, false, ap, pos, to_z, of_z, sym, subst, not}
 use Rattle.std.specs.Int.{w64}
 use Rattle.std.specs.Prelude.{MatchOption}
 use Rattle.std.proofs.lemmas.Bool.{false≢true}
@@ -11,7 +11,7 @@ use Rattle.online_robust.proofs.station.go_on.Goals as goal
 
 pub returns-in_default-from_start-clause-moved : goal.returns-in_default-from_start-clause-moved
 returns-in_default-from_start-clause-moved c = λ m g.
-    let back : to_z w64 (of_z w64 c.args.number) ≡ c.args.number = to_z-of_z w64 c.args.number c.ranges.number in
+    let back : to_z w64 (of_z w64 c.args.number) ≡ c.args.number = search (rules, to_z-of_z) in
     let e = c.args.edges.now in
     go_below m c.args.node c.args.operator.now e c.args.number g c.in-Some.start c.reach.new.self (sym c.start.ensures ∙ c.in-Some.is)
     (subst (λ n. n <ℤ pos c.in-Some.start) back c.in_default-from_start.ensures)
@@ -19,7 +19,7 @@ returns-in_default-from_start-clause-moved c = λ m g.
 
 pub returns-then-is_at-clause-moved : goal.returns-then-is_at-clause-moved
 returns-then-is_at-clause-moved c = λ m g.
-    let back : to_z w64 (of_z w64 c.args.number) ≡ c.args.number = to_z-of_z w64 c.args.number c.ranges.number in
+    let back : to_z w64 (of_z w64 c.args.number) ≡ c.args.number = search (rules, to_z-of_z) in
     go_same m c.args.node c.args.operator.now c.args.edges.now c.args.number g
     (sym c.number-before.ensures ∙ c.is_at.ensures.0 c.if-is_at.true ∙ ap Some back)
 
@@ -27,7 +27,7 @@ returns-then-is_at-clause-moved c = λ m g.
 may_give : (c : After-was_shown) (m : Move) → CanGoTo m c.args.node c.args.operator.now c.args.edges.now c.args.number
     → CanGiveOut m c.args.node c.args.operator.now c.args.edges.now c.in-Some-from_start.to (not c.was_shown.result)
 may_give c m g =
-    let back : to_z w64 (of_z w64 c.args.number) ≡ c.args.number = to_z-of_z w64 c.args.number c.ranges.number in
+    let back : to_z w64 (of_z w64 c.args.number) ≡ c.args.number = search (rules, to_z-of_z) in
     go_give m c.args.node c.args.operator.now c.args.edges.now c.args.number g c.in-Some.start c.in-Some-from_start.to
     c.was_shown.result (sym c.start.ensures ∙ c.in-Some.is)
     (sym back ∙ c.in-Some-from_start.ensures.0) c.in-Some-from_start.ensures.1
