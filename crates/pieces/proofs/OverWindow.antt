@@ -164,8 +164,8 @@ module _ {P : Type 0} {shape : ShapeOf P} {chain : Chain P} {way : Way} where
   }
 
 -- what comes next may be met
-pub meets_next : {P : Type 0} {shape : ShapeOf P} {chain : Chain P} {w : Window P} {p : Piece P} → IsNonEmpty w.way.over → StandsFor shape chain w
-    → IsNext shape chain w.way (place w.met) p → Meets shape chain w.way (place w.met) p w.sliding
+pub meets_next : {P : Type 0} {shape : ShapeOf P} {chain : Chain P} {c : Place} {w : Window P} {p : Piece P} → IsNonEmpty w.way.over
+    → StandsFor shape chain c w → IsNext shape chain w.way c p → Meets shape chain w.way c p w.sliding
 meets_next some st next = record {
   can = st.met.can;
   to = st.met.to;

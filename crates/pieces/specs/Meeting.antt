@@ -77,7 +77,7 @@ module _ {P : Type 0} (shape : ShapeOf P) (chain : Chain P) where
       pub left : IsLeft way met gone
       pub entered : HasEntered shape chain way met s
 
-  -- the window stands for the chain: it has met the pieces up to a place, and may meet the next one
-  pub record StandsFor (w : Window P) : Type 0 where
-    pub met : HasMet w.way (place w.met) w.sliding
-    pub ready : IsNonEmpty w.way.over → IsReady w.way (place w.met) (place w.gone) w.sliding
+  -- the window stands for the chain: it has met the pieces up to the place, and may meet the next one
+  pub record StandsFor (at : Place) (w : Window P) : Type 0 where
+    pub met : HasMet w.way at w.sliding
+    pub ready : IsNonEmpty w.way.over → IsReady w.way at (place w.gone) w.sliding

@@ -36,9 +36,7 @@ use value_laws::Shape;
 #[derive(Drop)]
 pub struct Window<P: Shape> {
     pub(crate) way: Way,
-    /// Up to where the pieces were met.
-    pub(crate) met: Cut,
-    /// Up to where it begins before that place.
+    /// Up to where it begins before the place up to which the pieces were met.
     pub(crate) gone: Cut,
     pub(crate) sliding: Sliding<P>,
 }
@@ -60,8 +58,7 @@ impl<P: Shape> Window<P> {
     ) -> Result<Window<P>, Memory>
         requires can { (s : Chain P) × CanBegin P.Shape s (record { side = side; over = over; to = to.now }) (place from.now) }
         ensures stands { (s : Chain P) → CanBegin P.Shape s (record { side = side; over = over; to = to.now }) (place from.now)
-            → IfOk result (λ w. StandsFor P.Shape s w) }
-        ensures met { IfOk result (λ w. place w.met ≡ place from.now) }
+            → IfOk result (StandsFor P.Shape s (place from.now)) }
         ensures way { IfOk result (λ w. w.way ≡ record { side = side; over = over; to = to.now }) }
     {
         let way = Way {
@@ -77,7 +74,6 @@ impl<P: Shape> Window<P> {
         if is_empty(&over) {
             return Ok(Window {
                 way,
-                met: *from,
                 gone: *from,
                 sliding,
             });
@@ -86,44 +82,45 @@ impl<P: Shape> Window<P> {
         enter(&way, from, &mut sliding, &mut fault)?;
         Ok(Window {
             way,
-            met: *from,
             gone: left(&way, from),
             sliding,
         })
     }
 
-    /// Lets the window meet the next piece, which begins where it has met all before.
+    /// Lets the window meet the next piece, which begins at `from`: all before that was met.
     ///
     /// # Errors
     ///
     /// `Memory` where a crossing of two shapes that count, or a value that counts, needs a denominator of 2^60 or more: the pair is then in
     /// `fault`; and where memory is wanting. The window is of no use then.
-    pub fn meet(&mut self, piece: &Piece<P>, fault: &mut Option<WidePair<P>>) -> Result<(), Memory>
-        requires next { (s : Chain P) × StandsFor P.Shape s self.old × IsNext P.Shape s self.old.way (place self.old.met) piece.now }
+    pub fn meet(
+        &mut self,
+        from: &Cut,
+        piece: &Piece<P>,
+        fault: &mut Option<WidePair<P>>,
+    ) -> Result<(), Memory>
+        requires next { (s : Chain P) × StandsFor P.Shape s (place from.now) self.old × IsNext P.Shape s self.old.way (place from.now) piece.now }
         requires none { fault.old ≡ None }
-        ensures stands { (s : Chain P) → StandsFor P.Shape s self.old → IsNext P.Shape s self.old.way (place self.old.met) piece.now
-            → OnOk result (StandsFor P.Shape s self.new) }
-        ensures met { OnOk result (place self.new.met ≡ end piece.now) }
+        ensures stands { (s : Chain P) → StandsFor P.Shape s (place from.now) self.old → IsNext P.Shape s self.old.way (place from.now) piece.now
+            → OnOk result (StandsFor P.Shape s (end piece.now) self.new) }
         ensures way { self.new.way ≡ self.old.way }
         ensures still { OnOk result (fault.new ≡ None) }
-        ensures wide { (s : Chain P) → StandsFor P.Shape s self.old → IsNext P.Shape s self.old.way (place self.old.met) piece.now
+        ensures wide { (s : Chain P) → StandsFor P.Shape s (place from.now) self.old → IsNext P.Shape s self.old.way (place from.now) piece.now
             → OnErr result (IfSome fault.new (IsCauseOver P.Shape s self.old.way.over)) }
     {
         if is_empty(&self.way.over) {
-            self.met = piece.until;
             return Ok(());
         }
         let until = left(&self.way, &piece.until);
         pass(
             &self.way,
-            &self.met,
+            from,
             &self.gone,
             piece,
             &until,
             &mut self.sliding,
             fault,
         )?;
-        self.met = piece.until;
         self.gone = until;
         Ok(())
     }
@@ -134,13 +131,13 @@ impl<P: Shape> Window<P> {
     ///
     /// As `meet`.
     pub fn end(&mut self, fault: &mut Option<WidePair<P>>) -> Result<(), Memory>
-        requires last { (s : Chain P) × StandsFor P.Shape s self.old × (place self.old.met ≡ stop s) × (place self.old.way.to ≡ stop s) }
+        requires last { (s : Chain P) × StandsFor P.Shape s (stop s) self.old × (place self.old.way.to ≡ stop s) }
         requires none { fault.old ≡ None }
-        ensures told { (s : Chain P) → StandsFor P.Shape s self.old → place self.old.met ≡ stop s → place self.old.way.to ≡ stop s
+        ensures told { (s : Chain P) → StandsFor P.Shape s (stop s) self.old → place self.old.way.to ≡ stop s
             → OnOk result (Tells P.Shape (Best P.Shape s self.old.way) s.from (stop s) self.new.sliding.out) }
-        ensures bases { (s : Chain P) → StandsFor P.Shape s self.old → place self.old.met ≡ stop s → place self.old.way.to ≡ stop s
+        ensures bases { (s : Chain P) → StandsFor P.Shape s (stop s) self.old → place self.old.way.to ≡ stop s
             → OnOk result (BasesOver P.Shape s self.old.way.over self.new.sliding.out) }
-        ensures wide { (s : Chain P) → StandsFor P.Shape s self.old → place self.old.met ≡ stop s → place self.old.way.to ≡ stop s
+        ensures wide { (s : Chain P) → StandsFor P.Shape s (stop s) self.old → place self.old.way.to ≡ stop s
             → OnErr result (IfSome fault.new (IsCauseOver P.Shape s self.old.way.over)) }
     {
         let side = self.way.side;
@@ -154,7 +151,6 @@ impl<P: Shape> Window<P> {
     {
         let Window {
             way: _,
-            met: _,
             gone: _,
             sliding,
         } = self;
@@ -197,16 +193,18 @@ fn slide_over<P: Shape>(
     window: &mut Window<P>,
     fault: &mut Option<WidePair<P>>,
 ) -> Result<(), Memory>
-    requires stands { StandsFor P.Shape s.now window.old }
-    requires begins { place window.old.met ≡ s.now.from }
+    requires stands { StandsFor P.Shape s.now s.now.from window.old }
     requires ends { place window.old.way.to ≡ stop s.now }
     requires none { fault.old ≡ None }
     ensures told { OnOk result (Tells P.Shape (Best P.Shape s.now window.old.way) s.now.from (stop s.now) window.new.sliding.out) }
     ensures bases { OnOk result (BasesOver P.Shape s.now window.old.way.over window.new.sliding.out) }
     ensures wide { OnErr result (IfSome fault.new (IsCauseOver P.Shape s.now window.old.way.over)) }
 {
+    let mut from = s.from();
     for i in 0..s.len() {
-        window.meet(s.piece(i), fault)?;
+        let piece = s.piece(i);
+        window.meet(&from, piece, fault)?;
+        from = piece.until;
     }
     window.end(fault)
 }

@@ -6,7 +6,7 @@ use Rattle.frac128.specs.Cuts.{place}
 use Rattle.pl_signal.proofs.Kept.{fault_kept}
 use Rattle.pieces.specs.Chains.{Tells, stop}
 use Rattle.pieces.specs.Over.{BasesOver, HasCauseOver, IsCauseOver}
-use Rattle.pieces.specs.Meeting.{CanBegin}
+use Rattle.pieces.specs.Meeting.{CanBegin, StandsFor}
 use Rattle.pieces.specs.Windows.{Best, BestOver}
 use Rattle.pieces.proofs.Ends.{at_most_itself}
 use Rattle.pieces.proofs.window.over_window.Given.{Over}
@@ -37,13 +37,11 @@ pub begin-requires : goal.begin-requires
 begin-requires g c = record { can = (c.args.s.now, can g (goal.at.begin-requires g c).After-until) }
 
 pub slide_over-requires-clause-stands : goal.slide_over-requires-clause-stands
-slide_over-requires-clause-stands g c = c.in_ok-window.ensures.stands c.args.s.now (can g (goal.at.slide_over-requires-clause-stands g c).After-until)
+slide_over-requires-clause-stands g c = subst (λ b. StandsFor g.P.Shape c.args.s.now b c.in_ok-window.window) c.from.ensures
+    (c.in_ok-window.ensures.stands c.args.s.now (can g (goal.at.slide_over-requires-clause-stands g c).After-until))
 
 pub slide_over-requires-clause-ends : goal.slide_over-requires-clause-ends
 slide_over-requires-clause-ends g c = ap (λ w. place w.to) c.in_ok-window.ensures.way ∙ c.until.ensures.value
-
-pub slide_over-requires-clause-begins : goal.slide_over-requires-clause-begins
-slide_over-requires-clause-begins g c = c.in_ok-window.ensures.met ∙ c.from.ensures
 
 pub returns-in-Ok-clause-told : goal.returns-in-Ok-clause-told
 returns-in-Ok-clause-told g c =

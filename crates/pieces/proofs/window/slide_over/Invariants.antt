@@ -6,8 +6,8 @@ use Rattle.pieces.proofs.window.slide_over.Given as goal
 
 abbrev pub invariant-loop-i : goal.invariant-loop-i
 invariant-loop-i g l = record {
-  stands : StandsFor g.P.Shape l.s l.window;
-  at : place l.window.met ≡ begin_at l.s.from l.s.pieces l.i;
+  stands : StandsFor g.P.Shape l.s (begin_at l.s.from l.s.pieces l.i) l.window;
+  at : place l.from ≡ begin_at l.s.from l.s.pieces l.i;
   way : l.window.way ≡ l.fn.window.way;
   still : l.fault ≡ None;
 }

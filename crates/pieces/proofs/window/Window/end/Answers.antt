@@ -10,7 +10,6 @@ use Rattle.frac128.specs.Cuts.{place}
 use Rattle.value_laws.specs.Members.{ShapeLaws}
 use Rattle.pieces.specs.Chains.{HasShape, stop}
 use Rattle.pieces.specs.Over.{IsMovedTo}
-use Rattle.pieces.specs.Windows.{Stands}
 use Rattle.pieces.proofs.Holding.{told_within}
 use Rattle.pieces.proofs.Meeting.{none_last, none_level, none_rises, on_ok_two}
 use Rattle.pieces.proofs.OverWindow.{tells_all}
@@ -22,7 +21,7 @@ tell-requires-clause-alone g c = λ h. none_last g.P.Shape (assumption g.met.P.S
 
 pub tell-requires-clause-steps : goal.tell-requires-clause-steps
 tell-requires-clause-steps g c =
-    let (s, st, last, ends) = c.requires.last in
+    let (s, st, ends) = c.requires.last in
     st.met.stands.steps
 
 pub tell-requires-clause-rises : goal.tell-requires-clause-rises
@@ -35,37 +34,37 @@ tell-requires-clause-level g c =
 
 pub tell-requires-clause-from_within : goal.tell-requires-clause-from_within
 tell-requires-clause-from_within g c =
-    let (s, st, last, ends) = c.requires.last in
+    let (s, st, ends) = c.requires.last in
     told_within st.met.can st.met.stands
 
 pub tell-requires-clause-to_within : goal.tell-requires-clause-to_within
 tell-requires-clause-to_within g c =
-    let (s, st, last, ends) = c.requires.last in
+    let (s, st, ends) = c.requires.last in
     st.met.within
 
 pub tell-requires-clause-order : goal.tell-requires-clause-order
 tell-requires-clause-order g c =
-    let (s, st, last, ends) = c.requires.last in
+    let (s, st, ends) = c.requires.last in
     λ t u. st.met.to t (st.met.stands.upto t u)
 
 pub returns-clause-told : goal.returns-clause-told
-returns-clause-told g c s st last at_stop =
+returns-clause-told g c s st at_stop =
     let laws : ShapeLaws g.P.Shape = assumption g.met.P.Shape in
     let way = c.args.self.now.way in
     let old = c.args.self.now.sliding in
     on_ok_two c.tell.result (λ told ends. tells_all g.P.Shape laws s way st.met.can.normal c.of_none.result old c.tell.new.self (place way.to)
-    (subst (λ x. Stands g.P.Shape s way x x old) last st.met.stands) told ends at_stop st.met.to c.of_none.ensures.value)
+    st.met.stands told ends at_stop st.met.to c.of_none.ensures.value)
     c.tell.ensures.told c.tell.ensures.ends
 
 pub returns-clause-bases : goal.returns-clause-bases
-returns-clause-bases g c s st last at_stop = on_ok_weaker c.tell.result (λ told.
+returns-clause-bases g c s st at_stop = on_ok_weaker c.tell.result (λ told.
     subst (λ x. (p : g.row.P.Denot) → HasShape c.tell.new.self.out p → IsMovedTo g.P.Shape s c.args.self.now.way.over x p) at_stop
     (plays_told g.P.Shape s c.args.self.now.way.over (place c.args.self.now.way.to) c.args.self.now.way.side c.args.self.now.sliding c.tell.new.self
     st.met.plays c.of_none.result (λ m. absurd (false≢true (sym c.of_none.ensures.still ∙ m))) told).told)
     c.tell.ensures.told
 
 pub returns-clause-wide : goal.returns-clause-wide
-returns-clause-wide g c s st last at_stop =
+returns-clause-wide g c s st at_stop =
     let way = c.args.self.now.way in
     let out = stop c.args.self.now.sliding.out in
     on_err_weaker c.tell.result (λ some. IfSome_then c.tell.new.fault some (told_cause_none g.P.Shape s way.over (place way.to)
