@@ -14,7 +14,9 @@ use Rattle.frac128.specs.declared.ramp.Ramp.{Ramp}
 use Rattle.frac128.specs.Line.{line}
 use Rattle.frac128.specs.Lowest.{IsWide}
 use Rattle.frac128.specs.Value.{value}
-use Rattle.frac128.proofs.Fractions.{HasDenominator-value}
+use Rattle.frac128.proofs.Fractions.{HasDenominator-value, one_fraction}
+use Rattle.frac128.proofs.Wholes.{whole_frac}
+use Rattle.rational.proofs.Order.{same_trans}
 use Rattle.frac128.proofs.Differences.{everywhere_zero}
 use Rattle.frac128.proofs.Making.{not_wide}
 
@@ -44,6 +46,10 @@ pub value_at_end : (f : Ramp) (t : Frac) (v : ℤ) → t.rest ≡ 0 → t.whole 
 value_at_end f t v r h j =
     subst (λ n. at (line f) (mixed t.whole n t.den t.positive) ≈ whole v) (sym r)
     (at_end f.t0 f.v0 f.rise t.whole v f.run t.den f.positive t.positive h j)
+
+-- a fraction that is a whole number is its floor, with no rest
+pub floor_of_whole : (t : Frac) (n : ℤ) → value t ≈ whole n → (t.whole ≡ n) × (t.rest ≡ 0)
+floor_of_whole t n h = let one = one_fraction t (whole_frac n) (same_trans h (record { same = omega arith })) in (one.0, one.1)
 
 -- the order of whole numbers
 pub order_of_wholes : (o : Ordering) (v w : ℤ) → o ≡ int_cmp v w → IsOrder o (whole v) (whole w)

@@ -1,6 +1,7 @@
 -- What a `Ramp` stands for.
-use Rattle.std.specs.Prelude.{ℕ, ℤ}
+use Rattle.std.specs.Prelude.{ℕ, ℤ, pos, ◌+ℤ◌, ◌⊎◌}
 use Rattle.rational.specs.Line.{Line, ramp_line}
+use Rattle.rational.specs.Rational.{Rational, whole, ◌≈◌}
 use Rattle.frac128.specs.declared.ramp.Ramp.{Ramp}
 
 -- the line of a ramp
@@ -22,3 +23,7 @@ rise_in_run f = f.rise
 -- the run, a length of time
 abbrev pub run_time : Ramp → ℕ
 run_time f = f.run
+
+-- a time is the base, or the end of the run
+abbrev pub IsEnd : Ramp → Rational → Type 0
+IsEnd f t = (t ≈ whole f.t0) ⊎ (t ≈ whole (f.t0 +ℤ pos f.run))

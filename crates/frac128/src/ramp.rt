@@ -1,5 +1,5 @@
 //! A line through a point of time and value.
-ghost use Rattle.std.specs.Prelude.{◌≡◌, ◌+◌, ◌*◌, ◌<◌, ◌≤◌, ◌^◌, ◌↔◌, pos, ◌+ℤ◌, ◌-ℤ◌, ◌*ℤ◌, IsTrue, IfOk, IfSome, MatchResult};
+ghost use Rattle.std.specs.Prelude.{◌≡◌, ◌+◌, ◌*◌, ◌<◌, ◌≤◌, ◌^◌, ◌↔◌, pos, ◌+ℤ◌, ◌-ℤ◌, ◌*ℤ◌, IsTrue, IfOk, MatchOption, MatchResult};
 ghost use Rattle.std.specs.Ordering.{MatchOrdering, int_cmp};
 ghost use Rattle.std.specs.Int.RustNames.{unsigned_abs};
 ghost use Rattle.rational.specs.Rational.{Rational, fraction, add, negate, subtract, whole};
@@ -32,7 +32,7 @@ pub struct Ramp {
 
 impl Ramp {
     ghost use Rattle.frac128.specs.Value.{denominator, rest_part, value, whole_part};
-    ghost use Rattle.frac128.specs.Line.{base, base_value, line, rise_in_run, run_time};
+    ghost use Rattle.frac128.specs.Line.{IsEnd, base, base_value, line, rise_in_run, run_time};
     ghost use Rattle.rational.specs.Line.{Falls, Level, Rises, at};
     ghost use Rattle.rational.specs.Rational.{IsOrder, IsWithin, ◌≈◌};
 
@@ -134,10 +134,10 @@ impl Ramp {
         self.at(t).frac()
     }
 
-    /// The value at `t`, where it is whole since `t` is the base or the end of the run: it is told with no product. None says nothing.
+    /// The value at `t` where `t` is the base or the end of the run, at which it is whole: it is told with no product. None at all other times.
     #[inline(always)]
     pub fn plain(&self, t: &Frac) -> Option<i64>
-        ensures { IfSome result (λ v. at (line self.now) (value t.now) ≈ whole v) }
+        ensures { MatchOption result (¬ (IsEnd self.now (value t.now))) (λ v. at (line self.now) (value t.now) ≈ whole v) }
     {
         if t.rest() != 0 {
             return None;
