@@ -22,6 +22,10 @@ use stl_syntax::{Scale, Text};
 use value_laws::{Margin, Shape};
 
 /// Appends the value of a margin at a time, in units.
+///
+/// # Errors
+///
+/// `Memory` where memory is wanting; part of the text may have been appended then.
 pub fn put_value(text: &mut Text, m: &Margin, at: &Frac, digits: u8) -> Result<(), Memory>
     requires few { digits ≤ 6 }
     requires time { IsWithin (2 ^ 34) (value at.now) }

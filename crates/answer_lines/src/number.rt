@@ -175,10 +175,15 @@ pub(crate) fn put_fraction(text: &mut Text, n: &Lowest) -> Result<(), Memory>
     put_digits(text, n.den)
 }
 
-/// The text of a number of ticks of `1 / 10^digits`, as a number of units.
+/// Appends a number of ticks of `1 / 10^digits`, as a number of units.
+///
+/// # Errors
+///
+/// `Memory` where memory is wanting; part of the text may have been appended then.
 pub fn put_time(text: &mut Text, t: &Frac, digits: u8) -> Result<(), Memory>
     requires { digits ≤ 6 }
     ensures ok { OnOk result (Grew (IsNumberText digits (value t.now)) text.old text.new) }
+    ensures err { OnErr result (GrewInPart (IsNumberText digits (value t.now)) text.old text.new) }
 {
     put_fraction(text, &in_units(t, digits))
 }

@@ -26,7 +26,11 @@ fn closing(inside: bool) -> &'static [u8]
     if inside { b"]" } else { b")" }
 }
 
-/// The text of a span.
+/// Appends the text of a span, its ends in units.
+///
+/// # Errors
+///
+/// `Memory` where memory is wanting; part of the text may have been appended then.
 pub fn put_span(text: &mut Text, on: &Span, scale: Scale) -> Result<(), Memory>
     requires { scale.time ≤ 6 }
     ensures ok { OnOk result (Grew (IsSpanText scale on.now) text.old text.new) }

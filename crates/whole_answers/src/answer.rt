@@ -21,6 +21,10 @@ pub struct Answer {
 }
 
 /// The signal of the truth of the formula at every time of the trace. Truth is never refused as `Wide`.
+///
+/// # Errors
+///
+/// `Memory` where memory is wanting.
 pub fn truth_of(alloc: Global, case: &Case) -> Result<Signal<Truth>, Memory>
     requires bound { IsBound case.now.bound case.now.formula case.now.trace.header }
     requires some { 0 < length case.now.trace.rows }
