@@ -293,7 +293,7 @@ fn is_answered_after_faults(alloc: Global, case: Case<'_>) -> Result<bool, Fail>
     if !have_failed(&mut input, &mut out, &mut err) {
         return Ok(false);
     }
-    let status = status_of(alloc, &words, &mut input, &mut out, &mut err);
+    let status = status_of(alloc, words, &mut input, &mut out, &mut err);
     Ok(status == case.status && hold(case, &input, &out, &err))
 }
 

@@ -6,7 +6,7 @@ use program_cases::{sink, source, strings};
 use std::alloc::Global;
 use std::cell::Cell;
 use std::test::Fail;
-use workbench::{Kept, run};
+use workbench::program;
 
 /// The words of a stream, the lines of its input with what each makes it tell, what the end makes it tell, and its status.
 #[derive(Clone, Copy)]
@@ -164,14 +164,7 @@ fn keeps_pace(alloc: Global, stream: Told<'_>, size: usize) -> Result<bool, Fail
     };
     let mut err = sink(alloc, 4096, 4096, 0)?;
     let words = strings(alloc, stream.words)?;
-    let status = run(
-        alloc,
-        &words,
-        &mut looking,
-        &mut counting,
-        &mut err,
-        &mut Kept::Nothing,
-    );
+    let status = program(alloc, Some(words), &mut looking, &mut counting, &mut err);
     Ok(looking.agrees && status == stream.status && counting.inner.written() == told.as_bytes())
 }
 

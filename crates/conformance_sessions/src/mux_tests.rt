@@ -12,7 +12,7 @@ const TOLD: &str =
                     a (3,5] true\na (5,8] false\na (8,10] false\na start false\n";
 
 /// Formulas and inputs, what is written and told, and the status: a fault of the input ends the run.
-const ANSWERED: [Asked<'static>; 16] = [
+const ANSWERED: [Asked<'static>; 17] = [
     ("eventually[0,2] x >= 5", BENCHES, TOLD, "", 0),
     ("true", "", "", "", 0),
     (
@@ -77,6 +77,13 @@ const ANSWERED: [Asked<'static>; 16] = [
         "a [3,3] true\n",
         "line 3: bad tag\n",
         4,
+    ),
+    (
+        "true",
+        "abcdefghijklmnop\n",
+        "abcdefghijklmnop line 1: no header\n",
+        "",
+        0,
     ),
     (
         "true",

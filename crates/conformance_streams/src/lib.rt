@@ -1,4 +1,5 @@
-//! Tests of formulas row by row: edges, and the network of verdicts in worked cases, used from outside through their contracts alone.
+//! Tests of formulas row by row: edges, the network of verdicts in worked cases, and `Watch` call by call; used from outside through their
+//! contracts alone.
 #![tactic(auto)]
 
 #[cfg(test)]
@@ -7,3 +8,5 @@ mod given;
 mod online_nodes_tests;
 #[cfg(test)]
 mod stream_tests;
+#[cfg(test)]
+mod written_streams_tests;

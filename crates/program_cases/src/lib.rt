@@ -1,11 +1,12 @@
 //! The whole program's one call, run over sources and sinks in memory: what is asked, how the devices behave, and what is to come of it.
+//! It keeps nothing of a run: a crate that lets go of a `Kept` proves the drop of each of its parts again.
 //! The crates of tests of the program share it.
 #![tactic(auto)]
 
 use io_edge::{MemSink, MemSource};
 use std::alloc::{AllocError, Global};
 use std::test::Fail;
-use workbench::{Kept, run};
+use workbench::program;
 
 /// What is asked, what is read, and what is to be written.
 #[derive(Clone, Copy)]
@@ -76,12 +77,12 @@ pub fn source(alloc: Global, bytes: &[u8], most: usize, fails: u64) -> Result<Me
 /// The status of a run, of which nothing is kept.
 pub fn status_of(
     alloc: Global,
-    words: &Vec<String>,
+    words: Vec<String>,
     input: &mut MemSource,
     out: &mut MemSink,
     err: &mut MemSink,
 ) -> u8 {
-    run(alloc, words, input, out, err, &mut Kept::Nothing)
+    program(alloc, Some(words), input, out, err)
 }
 
 /// Runs the words over the input.
@@ -95,7 +96,7 @@ pub fn runs(alloc: Global, case: Case<'_>, devices: Devices) -> Result<Ended, Fa
     )?;
     let mut out = sink(alloc, devices.room, devices.write_most, devices.write_fails)?;
     let mut err = sink(alloc, 4096, devices.write_most, devices.tell_fails)?;
-    let status = status_of(alloc, &words, &mut input, &mut out, &mut err);
+    let status = status_of(alloc, words, &mut input, &mut out, &mut err);
     Ok(Ended { status, out, err })
 }
 
