@@ -26,14 +26,15 @@ use Rattle.trace_reader.specs.TraceText.{Line, lines}
 use Rattle.trace_stream.proofs.Columns.{All-get}
 use Rattle.session_mux.specs.Sessions.{Tagged, IsTag, AreTagged, none as none_tagged, unfinished, blank as blank_line, next, own, Alone, tags_after, MuxText}
 use Rattle.session_mux.specs.SessionsAlone.{lines_of}
-use Rattle.session_mux.specs.Hearing.{heard, is_plain, HasPlainNames, HaveTags}
+use Rattle.session_laws.specs.Hearing.{heard, is_plain, HasPlainNames, HaveTags}
 use Rattle.session_mux.specs.Inputs.{AreLinesBefore, sound, faulted}
 use Rattle.session_mux.specs.Saying.{texts}
 use Rattle.session_mux.proofs.TagLemmas.{tag_is}
-use Rattle.session_mux.proofs.EndsSaid.{as_alone_to_its_end}
-use Rattle.session_mux.proofs.SessionsSaid.{text_alone_once, own_of_lines}
-use Rattle.session_mux.proofs.HearingLemmas.{hears_its_end}
-use Rattle.session_mux.proofs.OwedLines.{tagged_lines_once}
+use Rattle.session_laws.proofs.EndsSaid.{as_alone_to_its_end}
+use Rattle.session_mux.proofs.OneText.{text_alone_once}
+use Rattle.session_laws.proofs.SessionsSaid.{own_of_lines}
+use Rattle.session_laws.proofs.HearingLemmas.{hears_its_end}
+use Rattle.session_laws.proofs.OwedLines.{tagged_lines_once}
 use Rattle.workbench.specs.Requests.{sessions}
 use Rattle.workbench.specs.Ended.{IsAnswered}
 

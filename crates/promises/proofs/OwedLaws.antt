@@ -16,7 +16,7 @@ use Rattle.report.specs.Table.{AreRecords, heading}
 use Rattle.answer_lines.proofs.StreamTexts.{IsLonger}
 use Rattle.trace_stream.proofs.OwedRows.{stream_owed_once, stream_owed_grows}
 use Rattle.trace_stream.proofs.WideTexts.{AreFirst, wide_text_of_all}
-use Rattle.session_mux.proofs.OwedLines.{lines_owed_once, lines_owed_grow}
+use Rattle.session_laws.proofs.OwedLines.{lines_owed_once, lines_owed_grow}
 use Rattle.answer_lines.proofs.OneText.{number_once, value_once, verdicts_once, start_once, margins_once}
 use Rattle.promises.proofs.ExplainTexts.{explain_once}
 use Rattle.promises.proofs.JsonTexts.{json_once}

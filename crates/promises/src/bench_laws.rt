@@ -4,7 +4,7 @@ ghost use Rattle.stl_syntax.specs.Characters.{is_among};
 ghost use Rattle.stl_syntax.specs.Formula.{Formula};
 ghost use Rattle.stl_grammar.specs.FormulaRefusals.{IsFormulaOf};
 ghost use Rattle.trace_reader.specs.TraceText.{lines};
-ghost use Rattle.session_mux.specs.Hearing.{heard};
+ghost use Rattle.session_laws.specs.Hearing.{heard};
 ghost use Rattle.session_mux.specs.SessionsAlone.{lines_of};
 ghost use Rattle.session_mux.specs.Saying.{texts};
 ghost use Rattle.workbench.specs.Requests.{sessions};

@@ -8,7 +8,7 @@ use Rattle.trace_reader.specs.InputFaults.{stream_limits}
 use Rattle.trace_stream.specs.Streams.{verdicts, StreamOf, OwesRows}
 use Rattle.trace_stream.proofs.OwedRows.{stream_owed_grows}
 use Rattle.session_mux.specs.Sessions.{IsRowsStream, IsFaultLine, Alone}
-use Rattle.session_mux.proofs.SessionsSaid.{stream_of, text_alone_once}
+use Rattle.session_mux.proofs.OneText.{stream_of, text_alone_once}
 use Rattle.workbench.specs.Requests.{stream}
 use Rattle.run_laws.specs.OneAnswer.{IsFront}
 use Rattle.run_laws.proofs.Endings.{IsEnding, at_fault, answer, too_wide, too_full}

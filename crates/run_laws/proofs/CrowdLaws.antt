@@ -10,12 +10,13 @@ use Rattle.stl_syntax.specs.Characters.{is_among}
 use Rattle.stl_syntax.specs.Formula.{Formula}
 use Rattle.stl_grammar.specs.FormulaRefusals.{IsFormulaOf}
 use Rattle.trace_reader.specs.TraceText.{Line, lines}
-use Rattle.session_mux.specs.Hearing.{heard, HaveTags}
+use Rattle.session_laws.specs.Hearing.{heard, HaveTags}
 use Rattle.session_mux.specs.Inputs.{InputFault, FaultOfInput, AreLinesBefore, sound, faulted, OwesLines}
 use Rattle.session_mux.specs.Saying.{texts}
 use Rattle.session_mux.specs.Sessions.{Tagged, IsTag, AreTagged, none, unfinished, blank, next, own, is_stopped, tags_after, Alone, AreAnswers, MuxText}
-use Rattle.session_mux.proofs.HearingLemmas.{hears_what_is_said}
-use Rattle.session_mux.proofs.SessionsSaid.{as_alone, text_alone_once}
+use Rattle.session_laws.proofs.HearingLemmas.{hears_what_is_said}
+use Rattle.session_mux.proofs.OneText.{text_alone_once}
+use Rattle.session_laws.proofs.SessionsSaid.{as_alone}
 use Rattle.session_mux.proofs.TagLemmas.{tag_is}
 use Rattle.session_mux.proofs.TextLemmas.{EndsInFeed, alone_ends, texts_joined}
 use Rattle.workbench.specs.Requests.{Request, has_input, Asks, stream, sessions, verdicts}

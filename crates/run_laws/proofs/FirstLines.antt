@@ -11,7 +11,8 @@ use Rattle.trace_reader.proofs.OpenLines.{Parts, parts, lines-now, open_line}
 use Rattle.session_mux.specs.Inputs.{fault_line, FaultOfInput, AreLinesBefore, sound, faulted}
 use Rattle.session_mux.specs.Sessions.{Tagged, IsTagged, AreTagged, none, unfinished, blank, next, is_query, is_stop, own, is_stopped}
 use Rattle.session_mux.proofs.FrontLines.{input_fault_stays}
-use Rattle.session_mux.proofs.OwedLines.{input_fault_once, tagged_lines_once, take_past}
+use Rattle.session_mux.proofs.FrontTexts.{take_past}
+use Rattle.session_laws.proofs.OwedLines.{input_fault_once, tagged_lines_once}
 use Rattle.session_mux.proofs.OwnLemmas.{no_stop}
 use Rattle.run_laws.proofs.LinesOfAll.{early_fault, lines_before}
 

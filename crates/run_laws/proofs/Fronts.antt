@@ -7,7 +7,7 @@ use Rattle.report.specs.Report.{Command}
 use Rattle.trace_stream.specs.Streams.{verdicts, early, margins}
 use Rattle.trace_stream.proofs.OwedRows.{stream_owed_grows}
 use Rattle.trace_stream.proofs.WideTexts.{AreFirst, wide_text_of_all}
-use Rattle.session_mux.proofs.OwedLines.{lines_owed_grow}
+use Rattle.session_laws.proofs.OwedLines.{lines_owed_grow}
 use Rattle.workbench.specs.Requests.{Request, no_form, refused, whole, stream, sessions, generated, has_input}
 use Rattle.workbench.specs.Owed.{OwesAtEnd, not_yet, too_many, Owes}
 use Rattle.workbench.specs.Ended.{IsWide, IsOverfull, EndsWith}

@@ -14,7 +14,7 @@ use Rattle.trace_reader.specs.declared.refusal.Limits.{Limits}
 use Rattle.trace_stream.proofs.OneFault.{one_fault}
 use Rattle.trace_stream.proofs.OwedRows.{stream_owed_once}
 use Rattle.trace_stream.specs.CaseReader.{IsWhole}
-use Rattle.session_mux.proofs.OwedLines.{input_fault_once, lines_owed_once}
+use Rattle.session_laws.proofs.OwedLines.{input_fault_once, lines_owed_once}
 use Rattle.session_mux.specs.Inputs.{input_fault_text}
 use Rattle.promises.proofs.OwedLaws.{check_owed_once, robust_owed_once, explain_owed_once, json_owed_once, table_owed_once}
 use Rattle.workbench.specs.Requests.{Request, no_form, refused, whole, stream, sessions, generated, has_input, Stream, verdicts, early, margins}

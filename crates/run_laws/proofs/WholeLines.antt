@@ -7,7 +7,7 @@ use Rattle.std.proofs.lemmas.List.Elements.{All-head, All-tail}
 use Rattle.trace_reader.specs.TraceText.{Line, lines}
 use Rattle.trace_reader.proofs.LineLemmas.{IsDone, rest, lines-nil}
 use Rattle.trace_reader.proofs.OpenLines.{Parts, parts, lines-now, open_line}
-use Rattle.session_mux.specs.Hearing.{heard, says_to}
+use Rattle.session_laws.specs.Hearing.{heard, says_to}
 use Rattle.session_mux.specs.Saying.{texts}
 use Rattle.run_laws.specs.Crowd.{whole_texts, heard_whole}
 

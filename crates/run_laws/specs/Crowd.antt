@@ -4,7 +4,7 @@ use Rattle.io_edge.specs.Calls.{Drained, Filled}
 use Rattle.stl_syntax.specs.Characters.{is_among}
 use Rattle.stl_syntax.specs.Formula.{Formula}
 use Rattle.trace_reader.specs.TraceText.{Line, lines}
-use Rattle.session_mux.specs.Hearing.{heard, says_to}
+use Rattle.session_laws.specs.Hearing.{heard, says_to}
 use Rattle.session_mux.specs.Inputs.{AreLinesBefore}
 use Rattle.session_mux.specs.Saying.{texts}
 use Rattle.session_mux.specs.SessionsAlone.{lines_of}

@@ -1,5 +1,5 @@
 -- What a session writes for first bytes whose last line has ended, where it writes a text for more bytes.
-use Rattle.std.proofs.Common.{◌≡◌, ◌⊎◌, inl, inr, ℕ, ◌-◌, ◌<◌, ◌≤◌, Bool, false}
+use Rattle.std.proofs.Common.{◌≡◌, ◌⊎◌, inl, inr, ℕ, zero, suc, ◌+◌, ◌-◌, ◌<◌, ◌≤◌, Bool, false}
 use Rattle.std.proofs.Common.{List, [], ◌∷◌, ◌++◌, length, take, refl, sym, ap, ◌∙◌, subst, arith, append-nil, append_assoc, Option, Some, None, ℤ}
 use Rattle.std.specs.Prelude.{All}
 use Rattle.std.proofs.lemmas.Bool.{false≢true, cases_lt}
@@ -23,9 +23,14 @@ use Rattle.trace_stream.proofs.OwedRows.{stream_owed_grows}
 use Rattle.trace_stream.proofs.RowsBefore.{RowLine, goes_on, is_blank, is_row, row_line, TraceLine, is_heading, trace_line, fault_stays}
 use Rattle.session_mux.specs.Sessions.{IsRowsStream, IsFaultLine, Alone}
 use Rattle.session_mux.proofs.FrontFaults.{lines_first, lines_all, fault_in_front, fault_early}
-use Rattle.session_mux.proofs.OwedLines.{take_past}
-use Rattle.session_mux.proofs.SessionsSaid.{stream_of, text_alone_once}
+use Rattle.session_mux.proofs.OneText.{stream_of, text_alone_once}
 use Rattle.session_mux.proofs.TextLemmas.{alone_stays}
+
+-- a take that goes past the first of two lists
+pub take_past : {X : Type 0} (xs ys : List X) (n m : ℕ) → n ≡ length xs + m → take n (xs ++ ys) ≡ xs ++ take m ys
+take_past [] ys n m e = let same : n ≡ m = omega (arith, e) in ap (λ k. take k ys) same
+take_past (x ∷ xs) ys zero m e = absurd (omega (arith, e))
+take_past (x ∷ xs) ys (suc n) m e = ap (λ l. x ∷ l) (take_past xs ys n m (omega (arith, e)))
 
 -- rows have a text where they and more rows have one
 rows_text_front : (New : NewText) (p : Subformula) (header : Header) (before : List Row) (old : Option ℤ) (rows beyond : List Row)

@@ -13,8 +13,7 @@ use Rattle.trace_reader.specs.TraceText.{Line}
 use Rattle.trace_reader.proofs.FeedLemmas.{none-free}
 use Rattle.trace_reader.proofs.LineLemmas.{rest, lines-nil, lines-rest}
 use Rattle.session_mux.specs.Saying.{texts, EndsInFeed, HasLastLines}
-use Rattle.session_mux.proofs.TextLemmas.{texts_joined}
-use Rattle.session_mux.proofs.PlainTexts.{one_line}
+use Rattle.session_mux.proofs.TextLemmas.{one_line, texts_joined}
 
 -- behind the last LF there is none
 after_free : (xs : List ℕ) (j : ℕ) → Nowhere (Passes (is_byte 10) xs) j (length xs) → HasNoFeed (drop j xs)

@@ -20,7 +20,7 @@ use Rattle.session_mux.specs.Running.{RunLine, IsRunLine, contents_of, tagged_of
 use Rattle.session_mux.proofs.FrontTexts.{alone_front, alone_grows}
 use Rattle.session_mux.proofs.OwnLemmas.{own_grows, own_stays, tags_grow}
 use Rattle.session_mux.proofs.SessionLemmas.{both_lines, content_goes_on, line_of_open, line_of_stopped}
-use Rattle.session_mux.proofs.SessionsSaid.{text_alone_once}
+use Rattle.session_mux.proofs.OneText.{text_alone_once}
 use Rattle.session_mux.proofs.TextLemmas.{alone_ends, ends_tail}
 
 -- ---- one content for many

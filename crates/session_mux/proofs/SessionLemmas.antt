@@ -31,7 +31,7 @@ use Rattle.session_mux.specs.Standing.{HasReason, IsStoppedAt, GoesOnWith, recen
 use Rattle.session_mux.specs.Standing.{HasGrown, IsCutShort, IsAfterLine, IsReply, HasReplied}
 use Rattle.session_mux.specs.declared.session.Session.{Session}
 use Rattle.session_mux.proofs.RecentLemmas.{prefixed_last}
-use Rattle.session_mux.proofs.SessionsSaid.{text_alone_once}
+use Rattle.session_mux.proofs.OneText.{text_alone_once}
 use Rattle.session_mux.proofs.TextLemmas.{EndsInFeed, alone_ends, text_ends, ends_tail, lines_joined}
 use Rattle.session_mux.proofs.TextLemmas.{texts_joined, alone_of, alone_faulted, alone_stays}
 

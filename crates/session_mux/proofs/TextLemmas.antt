@@ -11,13 +11,14 @@ use Rattle.stl_syntax.specs.declared.items.Verdict.{Verdict}
 use Rattle.stl_syntax.specs.declared.scale.Scale.{Scale}
 use Rattle.stl_syntax.specs.declared.scale.UnitFault.{UnitFault}
 use Rattle.stl_syntax.specs.declared.scale.UnitFault.TheVariants as unit
+use Rattle.trace_reader.specs.Feeds.{HasNoFeed}
 use Rattle.trace_reader.specs.TraceText.{Line, lines}
 use Rattle.trace_reader.specs.InputFaults.{stream_limits, Fault, of_trace, unknown, unit as of_unit, IsInputFault}
 use Rattle.trace_reader.specs.InputFaults.{AreRowsBefore, sound, no_header_yet, faulted, faulted_header}
 use Rattle.trace_reader.specs.declared.refusal.Limits.{Limits}
 use Rattle.trace_reader.specs.declared.refusal.TraceKind.{TraceKind}
 use Rattle.trace_reader.specs.declared.refusal.TraceKind.TheVariants as trace
-use Rattle.trace_reader.proofs.LineLemmas.{lines-nil, lines-append}
+use Rattle.trace_reader.proofs.LineLemmas.{done, lines-nil, lines-append, lines-line}
 use Rattle.answer_lines.specs.FaultTexts.{in_line, in_field, fault_text, kind_text, unit_fault_text}
 use Rattle.trace_stream.specs.Streams.{verdicts, StreamOf}
 use Rattle.trace_stream.specs.Following.{IsTextOf}
@@ -26,6 +27,11 @@ use Rattle.session_mux.specs.Sessions.{IsRowsStream, Alone}
 pub use Rattle.session_mux.specs.Saying.{EndsInFeed}
 use Rattle.session_mux.specs.Saying.{texts}
 use Rattle.session_mux.specs.Standing.{HasFault}
+
+-- bytes without an LF, and one behind them, are one line
+pub one_line : (w : List ℕ) → HasNoFeed w → lines true (w ++ newline) ≡ done w ∷ []
+one_line w free = lines-append true w [] ∙ ap (λ ls. lines false (w ++ newline) ++ ls) (lines-nil true)
+    ∙ append-nil (lines false (w ++ newline)) ∙ lines-line w free
 
 ends_joined : (a b text : List ℕ) → EndsInFeed a → EndsInFeed b → text ≡ a ++ b → EndsInFeed text
 ends_joined a b text p (inl e) k = subst (λ t. EndsInFeed t) (sym (k ∙ ap (λ t. a ++ t) e ∙ append-nil a)) p

@@ -8,6 +8,5 @@ pub mod Knowing
 pub mod Muxes
 pub mod Inputs
 pub mod Taking
-pub mod Hearing
 pub mod Running
 pub mod Near

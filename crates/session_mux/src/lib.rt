@@ -4,7 +4,6 @@
 mod fault;
 mod input;
 mod known;
-pub mod laws;
 mod line;
 mod mux;
 mod near;

@@ -1,5 +1,5 @@
 use Rattle.trace_stream.proofs.OwedRows.{stream_owed_once}
-use Rattle.session_mux.proofs.OwedLines.{lines_owed_once}
+use Rattle.session_laws.proofs.OwedLines.{lines_owed_once}
 use Rattle.promises.proofs.OwedLaws.{check_owed_once, robust_owed_once, explain_owed_once, json_owed_once, table_owed_once}
 use Rattle.promises.proofs.owing_laws.one_text_is_owed.Goals as goal
 

@@ -1,5 +1,5 @@
 use Rattle.trace_stream.proofs.OwedRows.{stream_owed_grows}
-use Rattle.session_mux.proofs.OwedLines.{lines_owed_grow}
+use Rattle.session_laws.proofs.OwedLines.{lines_owed_grow}
 use Rattle.promises.proofs.owing_laws.what_is_owed_only_grows.Goals as goal
 
 pub returns : goal.returns

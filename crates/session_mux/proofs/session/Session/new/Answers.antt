@@ -1,5 +1,5 @@
 use Rattle.std.proofs.Common.{refl, ◌∙◌}
-use Rattle.session_mux.proofs.SessionsSaid.{nothing_alone}
+use Rattle.session_mux.proofs.OneText.{nothing_alone}
 use Rattle.session_mux.proofs.SessionLemmas.{no_recent}
 use Rattle.session_mux.proofs.session.Session.new.Goals as goal
 

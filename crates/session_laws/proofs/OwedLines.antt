@@ -1,5 +1,5 @@
 -- What is owed to an input of several sessions is one text, and only grows.
-use Rattle.std.proofs.Common.{◌≡◌, inl, inr, ℕ, zero, suc, ◌+◌, ◌-◌, ◌<◌, ◌≤◌, Bool, true, false, List, [], ◌∷◌, ◌++◌}
+use Rattle.std.proofs.Common.{◌≡◌, inl, inr, ℕ, suc, ◌+◌, ◌-◌, ◌<◌, ◌≤◌, Bool, true, false, List, [], ◌∷◌, ◌++◌}
 use Rattle.std.proofs.Common.{length, take, refl, sym, ap, ◌∙◌, subst, arith, append-nil, append_assoc, length-append}
 use Rattle.std.specs.Prelude.{All, MatchBool, codes}
 use Rattle.std.proofs.lemmas.Bool.{false≢true}
@@ -19,8 +19,9 @@ use Rattle.session_mux.specs.Inputs.{InputFault}
 use Rattle.session_mux.specs.Inputs.{fault_line, FaultOfInput, AreLinesBefore, sound, faulted, OwesLines}
 use Rattle.session_mux.proofs.Tagging.{tagged_once}
 use Rattle.session_mux.proofs.LinesPass.{Later, WithTag, InLine}
-use Rattle.session_mux.proofs.SessionsSaid.{text_alone_once}
 use Rattle.session_mux.proofs.FrontLines.{later_fault, input_fault_stays, answers_split}
+use Rattle.session_mux.proofs.FrontTexts.{take_past}
+use Rattle.session_mux.proofs.OneText.{text_alone_once}
 
 -- ---- one fault
 
@@ -263,12 +264,6 @@ answers_alone : (f : Formula) (bytes : List ℕ) {all : List Tagged} {whole : Bo
     → AreLinesBefore bytes false all whole → MuxText f all whole text → AreAnswers f [] all text
 answers_alone f bytes text (sound calm are) m = m
 answers_alone f bytes text (faulted x g are) m = m
-
--- a take that goes past the first of two lists
-pub take_past : {X : Type 0} (xs ys : List X) (n m : ℕ) → n ≡ length xs + m → take n (xs ++ ys) ≡ xs ++ take m ys
-take_past [] ys n m e = let same : n ≡ m = omega (arith, e) in ap (λ k. take k ys) same
-take_past (x ∷ xs) ys zero m e = absurd (omega (arith, e))
-take_past (x ∷ xs) ys (suc n) m e = ap (λ l. x ∷ l) (take_past xs ys n m (omega (arith, e)))
 
 short_rest : (line : List ℕ) → length (rest false line) ≤ 1
 short_rest [] = omega arith

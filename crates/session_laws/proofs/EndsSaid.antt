@@ -8,7 +8,8 @@ use Rattle.stl_syntax.specs.Characters.{is_among}
 use Rattle.stl_syntax.specs.Formula.{Formula}
 use Rattle.session_mux.specs.Sessions.{Tagged, own, is_stopped, Alone, SoFar, AreEnds, tags_after}
 use Rattle.session_mux.specs.SessionsAlone.{lines_of, AreSaidAtEnd, AreSaidInAll, EachIsAsAloneToItsEnd, OthersAddNothingAtTheEnd}
-use Rattle.session_mux.proofs.SessionsSaid.{text_alone_once, as_alone, said_is_alone, nothing_alone, own_of_lines}
+use Rattle.session_mux.proofs.OneText.{text_alone_once, nothing_alone}
+use Rattle.session_laws.proofs.SessionsSaid.{as_alone, said_is_alone, own_of_lines}
 
 -- ---- each tag stands once
 

@@ -14,13 +14,13 @@ use Rattle.trace_reader.specs.Feeds.{HasNoFeed}
 use Rattle.trace_reader.specs.TraceText.{Line, lines}
 use Rattle.trace_reader.proofs.LineLemmas.{done, lines-nil}
 use Rattle.trace_stream.proofs.FaultPlaces.{at_true, at_false}
-use Rattle.session_mux.specs.Hearing.{begins_with, says_to, heard, is_plain, HasPlainNames, HaveTags, EachHearsWhatIsSaid, EachHearsItsEnd}
+use Rattle.session_laws.specs.Hearing.{begins_with, says_to, heard, is_plain, HasPlainNames, HaveTags, EachHearsWhatIsSaid, EachHearsItsEnd}
 use Rattle.session_mux.specs.Sessions.{Tagged, IsTag, is_tag_byte, is_query, own, is_stopped, Alone, prefixed, last_eight, IsAnswer, tags_after}
 use Rattle.session_mux.specs.SessionsAlone.{is_of, IsAdded, AreSaidTo, AreSaidAtEnd}
 use Rattle.session_mux.specs.Saying.{texts}
-use Rattle.session_mux.proofs.PlainTexts.{plain_both, plain_free, AreFree, IsSaid, AreSaid, lines_free, one_line, said_back, said_alone}
 use Rattle.session_mux.proofs.TagLemmas.{bytes_of}
-use Rattle.session_mux.proofs.TextLemmas.{EndsInFeed, alone_ends, ends_tail, lines_joined, texts_joined}
+use Rattle.session_mux.proofs.TextLemmas.{EndsInFeed, one_line, alone_ends, ends_tail, lines_joined, texts_joined}
+use Rattle.session_laws.proofs.PlainTexts.{plain_both, plain_free, AreFree, IsSaid, AreSaid, lines_free, said_back, said_alone}
 
 -- ---- what a line says
 

@@ -1,5 +1,5 @@
 //! Laws of several sessions in one input. Each is the contract of a call that does nothing, so that the gate proves it.
-ghost use Rattle.session_mux.specs.Hearing.{EachHearsItsEnd, EachHearsWhatIsSaid};
+ghost use Rattle.session_laws.specs.Hearing.{EachHearsItsEnd, EachHearsWhatIsSaid};
 ghost use Rattle.session_mux.specs.SessionsAlone.{EachIsAsAlone, EachIsAsAloneToItsEnd, OneTextAlone, OthersAddNothing, OthersAddNothingAtTheEnd};
 
 /// Given bytes, ended or not, get a session at most one text by itself: the stream of the rows before the first fault, and its line.

@@ -22,11 +22,11 @@ use Rattle.trace_reader.specs.TraceText.{Line, lines}
 use Rattle.trace_reader.specs.InputFaults.{Fault, stream_limits, IsInputFault}
 use Rattle.trace_reader.specs.declared.refusal.TraceKind.{TraceKind}
 use Rattle.trace_reader.specs.declared.refusal.TraceKind.TheVariants as trace
-use Rattle.trace_reader.proofs.LineLemmas.{put, done, lines-nil, lines-feed, lines-other, lines-append, lines-line}
+use Rattle.trace_reader.proofs.LineLemmas.{put, lines-nil, lines-feed, lines-other}
 use Rattle.answer_lines.specs.FaultTexts.{in_line, fault_text, kind_text, unit_fault_text}
-use Rattle.session_mux.specs.Hearing.{is_plain, begins_with, HasPlainNames}
 use Rattle.session_mux.specs.Sessions.{IsRowsStream, Alone}
-use Rattle.session_mux.proofs.TextLemmas.{EndsInFeed, lines_joined, rows_stream_ends, new_ends, rows_end}
+use Rattle.session_mux.proofs.TextLemmas.{EndsInFeed, one_line, lines_joined, rows_stream_ends, new_ends, rows_end}
+use Rattle.session_laws.specs.Hearing.{is_plain, begins_with, HasPlainNames}
 
 -- ---- bytes without LF
 
@@ -111,11 +111,6 @@ lines_free ended (x ∷ xs) = by_test (lines_free ended xs) (cases_eq x 10)
     by_test : AreFree (lines ended xs) → (x ≡ 10) ⊎ (x ≢ 10) → AreFree (lines ended (x ∷ xs))
     by_test h (inl e) = subst (λ y. AreFree (lines ended (y ∷ xs))) (sym e) (subst (λ ls. AreFree ls) (sym (lines-feed ended xs)) (All-nil (λ c. c ≢ 10), h))
     by_test h (inr ne) = subst (λ ls. AreFree ls) (sym (lines-other ended x xs ne)) (put_free (lines ended xs) ne h)
-
--- one line
-pub one_line : (w : List ℕ) → HasNoFeed w → lines true (w ++ newline) ≡ done w ∷ []
-one_line w free = lines-append true w [] ∙ ap (λ ls. lines false (w ++ newline) ++ ls) (lines-nil true)
-    ∙ append-nil (lines false (w ++ newline)) ∙ lines-line w free
 
 said_one : (w : List ℕ) → is_plain w ≡ true → IsSaid w → AreSaid (lines true (w ++ newline))
 said_one w p s = subst (λ ls. AreSaid ls) (sym (one_line w (plain_free w p))) (s, tt)

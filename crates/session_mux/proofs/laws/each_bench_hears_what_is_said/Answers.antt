@@ -1,5 +1,0 @@
-use Rattle.session_mux.proofs.HearingLemmas.{hears_what_is_said}
-use Rattle.session_mux.proofs.laws.each_bench_hears_what_is_said.Goals as goal
-
-pub returns : goal.returns
-returns c = hears_what_is_said

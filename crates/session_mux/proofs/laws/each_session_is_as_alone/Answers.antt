@@ -1,5 +1,0 @@
-use Rattle.session_mux.proofs.SessionsSaid.{as_alone}
-use Rattle.session_mux.proofs.laws.each_session_is_as_alone.Goals as goal
-
-pub returns : goal.returns
-returns c = as_alone
