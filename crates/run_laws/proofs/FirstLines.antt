@@ -11,7 +11,7 @@ use Rattle.trace_reader.proofs.OpenLines.{Parts, parts, lines-now, open_line}
 use Rattle.session_mux.specs.Inputs.{fault_line, FaultOfInput, AreLinesBefore, sound, faulted}
 use Rattle.session_mux.specs.Sessions.{Tagged, IsTagged, AreTagged, none, unfinished, blank, next, is_query, is_stop, own, is_stopped}
 use Rattle.session_mux.proofs.FrontLines.{input_fault_stays}
-use Rattle.session_mux.proofs.FrontTexts.{take_past}
+use Rattle.session_mux.proofs.FrontTexts.{take_beyond}
 use Rattle.session_laws.proofs.OwedLines.{input_fault_once, tagged_lines_once}
 use Rattle.session_mux.proofs.OwnLemmas.{no_stop}
 use Rattle.run_laws.proofs.LinesOfAll.{early_fault, lines_before}
@@ -101,7 +101,7 @@ module _ (bytes more line : List ℕ) (p : Parts bytes line) (seen all : List Ta
   by_faults (sound calm are) (faulted y there also) =
       let behind : length p.front ≤ fault_line y - 1 = omega (arith, not_before) in
       let taken = ap (take (fault_line y - 1)) (p.joins true more)
-      ∙ take_past p.front (lines true (line ++ more)) (fault_line y - 1) (fault_line y - 1 - length p.front) (omega (arith, behind)) in
+      ∙ take_beyond p.front (lines true (line ++ more)) (fault_line y - 1) (fault_line y - 1 - length p.front) (omega (arith, behind)) in
       go_on (take (fault_line y - 1 - length p.front) (lines true (line ++ more))) are (subst (λ l. AreTagged l all) taken also)
     where
       not_before : ¬ (fault_line y < 1 + length p.front)

@@ -20,7 +20,7 @@ use Rattle.session_mux.specs.Inputs.{fault_line, FaultOfInput, AreLinesBefore, s
 use Rattle.session_mux.proofs.Tagging.{tagged_once}
 use Rattle.session_mux.proofs.LinesPass.{Later, WithTag, InLine}
 use Rattle.session_mux.proofs.FrontLines.{later_fault, input_fault_stays, answers_split}
-use Rattle.session_mux.proofs.FrontTexts.{take_past}
+use Rattle.session_mux.proofs.FrontTexts.{take_beyond}
 use Rattle.session_mux.proofs.OneText.{text_alone_once}
 
 -- ---- one fault
@@ -291,7 +291,7 @@ module _ (bytes more : List ℕ) (ended : Bool) (line : List ℕ) (p : Parts byt
   tagged_grow {a} {b} (sound calm are) (faulted y g others) =
       let behind : length p.front ≤ fault_line y - 1 = omega (arith, not_before) in
       first_of (take (fault_line y - 1) (lines ended (bytes ++ more))) (take (fault_line y - 1 - length p.front) (lines ended (line ++ more))) a b are
-      (ap (take (fault_line y - 1)) later_lines ∙ take_past p.front (lines ended (line ++ more)) (fault_line y - 1)
+      (ap (take (fault_line y - 1)) later_lines ∙ take_beyond p.front (lines ended (line ++ more)) (fault_line y - 1)
       (fault_line y - 1 - length p.front) (omega (arith, behind))) others
     where
       not_before : ¬ (fault_line y < 1 + length p.front)

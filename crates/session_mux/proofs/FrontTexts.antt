@@ -27,10 +27,10 @@ use Rattle.session_mux.proofs.OneText.{stream_of, text_alone_once}
 use Rattle.session_mux.proofs.TextLemmas.{alone_stays}
 
 -- a take that goes past the first of two lists
-pub take_past : {X : Type 0} (xs ys : List X) (n m : ℕ) → n ≡ length xs + m → take n (xs ++ ys) ≡ xs ++ take m ys
-take_past [] ys n m e = let same : n ≡ m = omega (arith, e) in ap (λ k. take k ys) same
-take_past (x ∷ xs) ys zero m e = absurd (omega (arith, e))
-take_past (x ∷ xs) ys (suc n) m e = ap (λ l. x ∷ l) (take_past xs ys n m (omega (arith, e)))
+pub take_beyond : {X : Type 0} (xs ys : List X) (n m : ℕ) → n ≡ length xs + m → take n (xs ++ ys) ≡ xs ++ take m ys
+take_beyond [] ys n m e = let same : n ≡ m = omega (arith, e) in ap (λ k. take k ys) same
+take_beyond (x ∷ xs) ys zero m e = absurd (omega (arith, e))
+take_beyond (x ∷ xs) ys (suc n) m e = ap (λ l. x ∷ l) (take_beyond xs ys n m (omega (arith, e)))
 
 -- rows have a text where they and more rows have one
 rows_text_front : (New : NewText) (p : Subformula) (header : Header) (before : List Row) (old : Option ℤ) (rows beyond : List Row)
@@ -183,7 +183,7 @@ module _ (f : Formula) (a b : List ℕ) (p : Parts a []) where
     behind_front : (y : Fault) → Faulted (a ++ b) y
         → take (line_of y - 1) (lines false (a ++ b)) ≡ p.front ++ take (line_of y - 1 - length p.front) (lines false b)
     behind_front y g = ap (take (line_of y - 1)) (lines_all stream_limits f a b p)
-        ∙ take_past p.front (lines false b) (line_of y - 1) (line_of y - 1 - length p.front) (omega (arith, k.behind y g))
+        ∙ take_beyond p.front (lines false b) (line_of y - 1) (line_of y - 1 - length p.front) (omega (arith, k.behind y g))
 
     front_calm : {header : Option Header} {rows : List Row} {whole : Bool} (stream : List ℕ) → AreRowsBefore stream_limits f (a ++ b) false header rows whole
         → IsRowsStream f header rows whole stream → Front

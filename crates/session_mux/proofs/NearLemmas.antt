@@ -1,9 +1,10 @@
 -- The first LF among 32 bytes, by the marks of a vector.
-use Rattle.std.proofs.Common.{◌≡◌, ◌↔◌, inl, inr, ℕ, ◌+◌, ◌<◌, ◌≤◌, List, Bool, true, false, length, arith, refl, sym, ap, ◌∙◌}
+use Rattle.std.proofs.Common.{◌≡◌, ◌↔◌, inl, inr, ℕ, ◌+◌, ◌<◌, ◌≤◌, List, Bool, true, false, length, take, arith, refl, sym, ap, ◌∙◌}
 use Rattle.std.specs.Prelude.{◌==◌, slice_index, if◌then◌else◌}
 use Rattle.std.specs.Int.{bit_at}
 use Rattle.std.proofs.lemmas.Bool.{eqb-true, eq-eqb, cases_lt}
-use Rattle.std.proofs.lemmas.List.{get_or_past}
+use Rattle.std.proofs.lemmas.Grind.{same_number_lists}
+use Rattle.std.proofs.lemmas.List.{get_or_past, get_or-take, length-take-le}
 use Rattle.std.proofs.lemmas.Nat.Bits.{bit_at-zero}
 use Rattle.memchr.specs.Find.{is_byte, NoneBefore, Passes}
 use Rattle.memchr.specs.Lanes.{HasLanes}
@@ -46,6 +47,36 @@ module _ (text : List ℕ) (at m : ℕ) (bytes lanes : List ℕ) (loaded : HasLa
         is = by_lane (slice_index text (at + n)) (slice_index lanes n) (lane n near) ((bits n).0 set);
         before = λ k less is. absurd (omega (arith, sym (set_at k (omega (arith, less, near)) is) ∙ below k less));
       }
+
+-- a text and a room, of which the marks tell where they differ
+module _ (text room : List ℕ) (m : ℕ) (bytes others lanes : List ℕ) (loaded : HasLanes bytes (λ k. slice_index text (0 + k)))
+    (held : HasLanes others (λ k. slice_index room (0 + k)))
+    (tested : HasLanes lanes (λ k. if slice_index bytes k == slice_index others k then 0 else 255))
+    (bits : (k : ℕ) → (bit_at m k ≡ 1) ↔ (128 ≤ slice_index lanes k)) where
+  -- where there is no mark, they do not
+  same_at : (k : ℕ) → k < 32 → (bit_at m k ≡ 1 → ⊥) → slice_index text k ≡ slice_index room k
+  same_at k near clear = by_test (slice_index bytes k == slice_index others k) refl
+    where
+      at : 0 + k ≡ k
+      at = omega arith
+
+      by_test : (b : Bool) → (slice_index bytes k == slice_index others k) ≡ b → slice_index text k ≡ slice_index room k
+      by_test true e =
+          sym (loaded.each k near ∙ ap (slice_index text) at) ∙ eqb-true (slice_index bytes k) (slice_index others k) e
+          ∙ held.each k near ∙ ap (slice_index room) at
+      by_test false e =
+          let high : slice_index lanes k ≡ 255 = tested.each k near ∙ ap (λ b. if b then 0 else 255) e in
+          absurd (clear ((bits k).1 (omega (arith, high))))
+
+  -- so the text begins as the room does, up to the first mark
+  pub begins : (n : ℕ) → n ≤ 32 → ((k : ℕ) → k < n → bit_at m k ≡ 1 → ⊥) → 32 ≤ length text → 32 ≤ length room → take n text ≡ take n room
+  begins n few clear long wide =
+      let size = length-take-le n text (omega (arith, few, long)) in
+      let other = length-take-le n room (omega (arith, few, wide)) in
+      same_number_lists (take n text) (take n room) (size ∙ sym other)
+      (λ k less.
+      let low : k < n = omega (arith, less, size) in
+      get_or-take n text k 0 low ∙ same_at k (omega (arith, low, few)) (clear k low) ∙ sym (get_or-take n room k 0 low))
 
 -- the first LF that is near is the first of all
 pub near_is_first : (text : List ℕ) (n : ℕ) → IsNextFeed text 0 n → 32 ≤ length text

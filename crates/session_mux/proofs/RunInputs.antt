@@ -1,12 +1,12 @@
 -- Lines of one session that follow one another in an input: what it stands for once their session took them together.
 use Rattle.std.proofs.Common.{◌≡◌, ◌≢◌, ◌⊎◌, inl, inr, refl, sym, ap, subst, ◌∙◌, ℕ, suc, ◌+◌, ◌-◌, ◌*◌, ◌<◌, ◌≤◌, Bool, true, false}
 use Rattle.std.proofs.Common.{List, [], ◌∷◌, ◌++◌, append_assoc, append-nil, length, take, drop}
-use Rattle.std.proofs.Common.{arith, length-append, take-append-drop, take-add, length-drop, get_or}
+use Rattle.std.proofs.Common.{arith, length-append, take-append-drop, take-add, length-drop, get_or, get_or-append-add}
 use Rattle.std.specs.Prelude.{All, reverse, ◌&&◌, ◌||◌, ◌==◌, if◌then◌else◌, map, Ok, Err}
-use Rattle.std.proofs.lemmas.Bool.{false≢true, eqb-true, and_parts}
+use Rattle.std.proofs.lemmas.Bool.{false≢true, eqb-true, and_parts, cases_lt}
 use Rattle.std.proofs.lemmas.Grind.{flat_map-append}
-use Rattle.std.proofs.lemmas.List.{drop_more, length-take-le, length_push, take_all, reverse-append, reverse-reverse}
-use Rattle.std.proofs.lemmas.List.Elements.{All-head, All-tail, All-nil, All-cons, All-append}
+use Rattle.std.proofs.lemmas.List.{length-take-le, length_push, take_all, take-append-le, reverse-append, reverse-reverse}
+use Rattle.std.proofs.lemmas.List.Elements.{All-head, All-tail, All-nil, All-cons, All-append, All-get_or, All-take}
 use Rattle.std.proofs.Math.Seq.{take-append_seam}
 use Rattle.rational.proofs.Lists.{take_rest}
 use Rattle.answer_lines.proofs.Adding.{take_past}
@@ -34,6 +34,7 @@ use Rattle.session_mux.specs.declared.stop.InputStop.TheVariants.{Fault as Fault
 use Rattle.session_mux.specs.declared.stop.LineKind.{LineKind}
 use Rattle.session_mux.specs.declared.stop.LineKind.TheVariants as kind
 use Rattle.session_mux.specs.declared.input.Input.{Input}
+use Rattle.session_mux.proofs.FrontTexts.{take_beyond}
 use Rattle.session_mux.proofs.Inputting.{stored_there, refused_fault}
 use Rattle.session_mux.proofs.LinesPass.{passed_on, known_tag, known_count}
 use Rattle.session_mux.proofs.RunLemmas.{contents_end, run_as_one, tags_as_one, run_answers}
@@ -159,9 +160,9 @@ module _ (f : Formula) (seen : List Tagged) (t : List ℕ) (l : RunLine) (ls : L
     };
   }
 
--- a run was taken by its session: so were all its lines
+-- a run, of the bytes of a line that went on and of n bytes of a piece, was taken by its session: so were all its lines
 module _ (f : Formula) (i : Input) (bytes written piece : List ℕ) (k : IsTaking f i bytes written) (t : List ℕ) (is_tag : IsTag t) (n : ℕ)
-    (l : RunLine) (ls : List RunLine) (each : All (IsRunLine t) (l ∷ ls)) (empty : i.part ≡ []) (taken : take n piece ≡ bytes_of (l ∷ ls))
+    (l : RunLine) (ls : List RunLine) (each : All (IsRunLine t) (l ∷ ls)) (taken : i.part ++ take n piece ≡ bytes_of (l ∷ ls))
     (few : i.whole + length (l ∷ ls) ≤ 8589934592) (c : List ℕ) (e : contents_of (l ∷ ls) ≡ c ++ newline) where
   abbrev past : Past
   past = record { formula = f; seen = k.taken.tagged }
@@ -172,8 +173,7 @@ module _ (f : Formula) (i : Input) (bytes written piece : List ℕ) (k : IsTakin
   joins_run : (more : List ℕ) (b : Bool) → lines b ((bytes ++ take n piece) ++ more) ≡ (k.front ++ lines_of_run all_lines) ++ lines b more
   joins_run more b =
       ap (lines b) (append_assoc bytes (take n piece) more) ∙ k.joins b (take n piece ++ more)
-      ∙ ap (λ p. k.front ++ lines b (p ++ (take n piece ++ more))) empty
-      ∙ ap (λ p. k.front ++ lines b (p ++ more)) taken
+      ∙ ap (λ p. k.front ++ lines b p) (sym (append_assoc i.part (take n piece) more) ∙ ap (λ p. p ++ more) taken)
       ∙ ap (λ z. k.front ++ z) (run_lines all_lines t each b more)
       ∙ sym (append_assoc k.front (lines_of_run all_lines) (lines b more))
 
@@ -208,8 +208,8 @@ module _ (f : Formula) (i : Input) (bytes written piece : List ℕ) (k : IsTakin
     few = omega (arith, next, few);
     part_few = λ some. absurd (let z : length new.part ≡ 0 = ap length none_left in omega (arith, z, some));
     short = (let z : length new.part ≡ 0 = ap length none_left in omega (arith, z));
-    small = (let a = k.small in let z : length new.part ≡ 0 = ap length none_left in let y : length i.part ≡ 0 = ap length empty in
-        omega (arith, a, z, y, next, length-append bytes (take n piece), ap length taken, run_small all_lines t each));
+    small = (let a = k.small in let z : length new.part ≡ 0 = ap length none_left in
+        omega (arith, a, z, next, length-append bytes (take n piece), length-append i.part (take n piece), ap length taken, run_small all_lines t each));
     taken = run_has_lines new.mux new.text h;
   }
 
@@ -351,13 +351,6 @@ own_front t piece rest content at end is split h feed e few k no_query no_stop =
       some = omega arith;
     }
 
--- a line by the tag, a space and the content
-pub line_parts : (t line : List ℕ) → length t < length line → take (length t) line ≡ t → get_or line (length t) 0 ≡ 32
-    → line ≡ t ++ 32 ∷ drop (length t + 1) line
-line_parts t line within front space =
-    sym (take-append-drop (length t) line) ∙ ap (λ w. w ++ drop (length t) line) front
-    ∙ ap (λ w. t ++ w) (drop_more line (length t) 0 within ∙ ap (λ c. c ∷ drop (length t + 1) line) space)
-
 -- contents without their last LF
 pub without_feed : (contents c : List ℕ) → contents ≡ c ++ newline → take (length contents - 1) contents ≡ c
 without_feed contents c e =
@@ -391,26 +384,55 @@ gathered_some t piece most n count contents g some = by_lines g.lines g.are g.co
     by_lines [] e k = absurd (some e)
     by_lines (l ∷ ls) e k = let (c, ends) = contents_end l ls in (c, k ∙ ends)
 
+-- bytes with an LF go beyond the front that has none
+pub part_within : (part piece first more : List ℕ) (n : ℕ) → HasNoFeed part → take n (part ++ piece) ≡ (first ++ newline) ++ more → length part < n
+part_within part piece first more n free taken = elim (cases_lt (length part) n) [
+  | inl less ↦ less
+  | inr far ↦
+      let front : take n part ≡ first ++ (newline ++ more) =
+      sym (take-append-le n part piece (omega (arith, far))) ∙ taken ∙ append_assoc first newline more in
+      let feed : get_or (take n part) (length first + 0) 0 ≡ 10 =
+      ap (λ w. get_or w (length first + 0) 0) front ∙ get_or-append-add first (newline ++ more) 0 0 in
+      let inside : length first + 0 < length (take n part) = omega (arith, ap length front, length-append first (newline ++ more)) in
+      absurd (All-get_or (λ d. d ≢ 10) (take n part) (length first + 0) 0 inside (All-take (λ d. d ≢ 10) n part free) feed)
+]
+
 module _ (f : Formula) (i : Input) (bytes written piece : List ℕ) (k : IsTaking f i bytes written) (t : List ℕ) (is_tag : IsTag t) (n count : ℕ)
-    (contents : List ℕ) (g : HasGathered t piece (8589934592 - i.whole) n count contents) (empty : i.part ≡ []) (some : count ≡ 0 → ⊥) where
+    (contents : List ℕ) (g : HasGathered t (i.part ++ piece) (8589934592 - i.whole) n count contents) (some : count ≡ 0 → ⊥) where
   abbrev front_past : Past
   front_past = record { formula = f; seen = k.taken.tagged }
+
+  -- what was gathered has more bytes than the line that went on
+  pub run_beyond : length i.part < n
+  run_beyond = by_lines g.lines g.are g.taken
+    where
+      by_lines : (ls : List RunLine) → count ≡ length ls → take n (i.part ++ piece) ≡ bytes_of ls → length i.part < n
+      by_lines [] are taken = absurd (some are)
+      by_lines (l ∷ ls) are taken = part_within i.part piece l.bytes (bytes_of ls) n k.free taken
+
+  -- the others are of the piece
+  of_piece : (ls : List RunLine) → take n (i.part ++ piece) ≡ bytes_of ls → i.part ++ take (n - length i.part) piece ≡ bytes_of ls
+  of_piece ls taken = sym (take_beyond i.part piece n (n - length i.part) (omega (arith, run_beyond))) ∙ taken
+
+  -- and no more than it has
+  pub run_within : n - length i.part ≤ length piece
+  run_within = let within = g.within in omega (arith, within, length-append i.part piece)
 
   -- its session took what was gathered
   pub run_done : (new : Input) → new.part ≡ [] → new.whole ≡ i.whole + count
       → ((c : List ℕ) → contents ≡ c ++ newline → HasTaken front_past (record { tag = t; content = c }) new.mux i.text new.text)
-      → IsTaking f new (bytes ++ take n piece) written
+      → IsTaking f new (bytes ++ take (n - length i.part) piece) written
   run_done new none_left next h = by_lines g.lines g.each g.taken g.are g.contents_are
     where
-      by_lines : (ls : List RunLine) → All (IsRunLine t) ls → take n piece ≡ bytes_of ls → count ≡ length ls → contents ≡ contents_of ls
-          → IsTaking f new (bytes ++ take n piece) written
+      by_lines : (ls : List RunLine) → All (IsRunLine t) ls → take n (i.part ++ piece) ≡ bytes_of ls → count ≡ length ls → contents ≡ contents_of ls
+          → IsTaking f new (bytes ++ take (n - length i.part) piece) written
       by_lines [] each taken are e = absurd (some are)
       by_lines (l ∷ ls) each taken are e =
           let (c, ends) = contents_end l ls in
           let few = g.few in
           let low = k.few in
-          run_taken f i bytes written piece k t is_tag n l ls each empty taken (omega (arith, are, few, low)) c ends new none_left
-          (omega (arith, next, are)) (h c (e ∙ ends))
+          run_taken f i bytes written piece k t is_tag (n - length i.part) l ls each (of_piece (l ∷ ls) taken) (omega (arith, are, few, low)) c ends
+          new none_left (omega (arith, next, are)) (h c (e ∙ ends))
 
   -- or refused it
   pub run_stopped : (after : List ℕ) (stop : InputStop)
@@ -418,14 +440,15 @@ module _ (f : Formula) (i : Input) (bytes written piece : List ℕ) (k : IsTakin
       → IsInputStop f (bytes ++ piece) false (written ++ after) stop
   run_stopped after stop h = by_lines g.lines g.each g.taken g.are g.contents_are
     where
-      by_lines : (ls : List RunLine) → All (IsRunLine t) ls → take n piece ≡ bytes_of ls → count ≡ length ls → contents ≡ contents_of ls
+      by_lines : (ls : List RunLine) → All (IsRunLine t) ls → take n (i.part ++ piece) ≡ bytes_of ls → count ≡ length ls → contents ≡ contents_of ls
           → IsInputStop f (bytes ++ piece) false (written ++ after) stop
       by_lines [] each taken are e = absurd (some are)
       by_lines (l ∷ ls) each taken are e =
           let (c, ends) = contents_end l ls in
           let few = g.few in
           let low = k.few in
-          run_refused f i bytes written piece k t is_tag n l ls each empty taken (omega (arith, are, few, low)) c ends after stop (h c (e ∙ ends))
+          run_refused f i bytes written piece k t is_tag (n - length i.part) l ls each (of_piece (l ∷ ls) taken) (omega (arith, are, few, low)) c ends
+          after stop (h c (e ∙ ends))
 
 -- no bytes were taken
 pub nothing_taken : (f : Formula) (i : Input) (bytes written piece : List ℕ) (n : ℕ) → n ≤ 0 → IsTaking f i (bytes ++ take n piece) written

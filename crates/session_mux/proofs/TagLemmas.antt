@@ -1,6 +1,6 @@
 -- Tags as numbers: each tag has one of its own, which is not 0.
 use Rattle.std.proofs.Common.{◌≡◌, get_or, drop, length-drop, refl, sym, ap, subst, ◌∙◌, ℕ, zero, suc, ◌+◌, ◌-◌, ◌*◌, ◌^◌, ◌⊎◌}
-use Rattle.std.proofs.Common.{inl, inr, ◌++◌, take, append-nil, ◌≢◌, ◌<◌, ◌≤◌, true, List, [], ◌∷◌, length, arith}
+use Rattle.std.proofs.Common.{inl, inr, ◌++◌, take, append-nil, append_assoc, codes, ◌≢◌, ◌<◌, ◌≤◌, true, List, [], ◌∷◌, length, arith}
 use Rattle.std.proofs.lemmas.Bool.{false≢true, and_parts}
 use Rattle.std.proofs.lemmas.Bool.Decides.{nat_tests}
 use Rattle.std.proofs.lemmas.List.{drop_more, drop_all, take_all, take-append-drop, length-take-le}
@@ -167,3 +167,10 @@ tag_and_content line rest n front more some short space is =
     subst (λ (w : List ℕ). IsTagged w (record { tag = take n line; content = rest }))
     (ap (λ w. take n line ++ w) (ap (λ w. 32 ∷ w) is ∙ ap (λ b. b ∷ drop (n + 1) line) (sym space) ∙ sym (drop_more line n 0 more)) ∙ take-append-drop n line)
     (followed rest (made_tag (take n line) front (λ z. some (sym long ∙ z)) (omega (arith, long, short))))
+
+-- a piece that begins with a tag and a space, as they stand in a room
+pub rest_is : (t room piece : List ℕ) (n : ℕ) → take (n + 1) room ≡ take n room ++ codes " " → take n room ≡ t → take (n + 1) piece ≡ take (n + 1) room
+    → piece ≡ t ++ 32 ∷ drop (n + 1) piece
+rest_is t room piece n space is same =
+    sym (take-append-drop (n + 1) piece) ∙ ap (λ w. w ++ drop (n + 1) piece) (same ∙ space ∙ ap (λ w. w ++ codes " ") is)
+    ∙ append_assoc t (codes " ") (drop (n + 1) piece)

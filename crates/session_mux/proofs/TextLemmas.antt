@@ -33,7 +33,8 @@ pub one_line : (w : List ℕ) → HasNoFeed w → lines true (w ++ newline) ≡ 
 one_line w free = lines-append true w [] ∙ ap (λ ls. lines false (w ++ newline) ++ ls) (lines-nil true)
     ∙ append-nil (lines false (w ++ newline)) ∙ lines-line w free
 
-ends_joined : (a b text : List ℕ) → EndsInFeed a → EndsInFeed b → text ≡ a ++ b → EndsInFeed text
+-- whole lines and then others are whole lines
+pub ends_joined : (a b text : List ℕ) → EndsInFeed a → EndsInFeed b → text ≡ a ++ b → EndsInFeed text
 ends_joined a b text p (inl e) k = subst (λ t. EndsInFeed t) (sym (k ∙ ap (λ t. a ++ t) e ∙ append-nil a)) p
 ends_joined a b text p (inr (x, e)) k = inr (a ++ x, k ∙ ap (λ t. a ++ t) e ∙ sym (append_assoc a x newline))
 

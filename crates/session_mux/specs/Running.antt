@@ -13,6 +13,10 @@ use Rattle.session_mux.specs.declared.stop.LineKind.TheVariants.{TooManySessions
 use Rattle.session_mux.specs.declared.stop.InputStop.{InputStop}
 use Rattle.session_mux.specs.declared.stop.InputStop.TheVariants.{Fault as Faulty, NoMemory}
 
+-- the bytes of a line that goes on and those of a piece stand in the room, if a line goes on
+abbrev pub IsJoined : List ℕ → List ℕ → List ℕ → Type 0
+IsJoined part piece room = 0 < length part → room ≡ part ++ piece
+
 -- a line without its LF, and its content
 pub record RunLine : Type 0 where
   pub bytes : List ℕ

@@ -1,7 +1,7 @@
 //! Why a call was refused.
 
 /// Why a line, or the end, of an input was refused.
-#[derive(Clone, Copy, Debug, PartialEq, Eq)]
+#[derive(Clone, Copy, PartialEq)]
 pub enum MuxFault {
     /// The line is not blank, and has no tag.
     BadTag,

@@ -7,7 +7,7 @@ ghost use Rattle.stl_syntax.specs.Texts.{newline};
 ghost use Rattle.session_mux.specs.Sessions.{IsTag};
 ghost use Rattle.session_mux.specs.Owning.{IsWithFeed};
 ghost use Rattle.session_mux.specs.Muxes.{Past, StandsFor, HasTaken};
-ghost use Rattle.session_mux.specs.Running.{IsRunRefused};
+ghost use Rattle.session_mux.specs.Running.{IsJoined, IsRunRefused};
 ghost use Rattle.session_mux.specs.Taking.{ended_line, IsSized, HasLines, IsTaking, HasTakenSome, IsInputStop};
 ghost use Rattle.session_mux.specs.Taking.{IsLineStop, IsPartStop, HasAll, IsHanded, IsNotHanded, IsUnsized};
 
@@ -15,6 +15,7 @@ use crate::fault::MuxFault;
 use crate::mux::Mux;
 use crate::run::{content_of, front_tag, gather};
 use crate::stop::{InputStop, LineFault, LineKind};
+use frac128::Memory;
 use memchr::memchr;
 use std::alloc::Global;
 use stl_syntax::{Formula, Text};
@@ -29,7 +30,8 @@ const LONGEST: usize = 4_113;
 /// and that is to be written.
 ///
 /// Lines of one session that follow one another in a piece are handed to it together: it makes their answers in one step of its network,
-/// where they would take one each. `run` is room for their contents.
+/// where they would take one each. `run` is room for their contents, and `joined` for a piece behind the bytes of a line that ends in it,
+/// which goes with those that follow it.
 ///
 /// `IsTaking` says when it stands for the bytes that it took, and for the text that was taken from it. After a refusal it stands for
 /// nothing: its text is that of the lines before the fault, and no more is asked of it.
@@ -40,6 +42,7 @@ pub struct Input {
     run: Vec<u8>,
     whole: u64,
     text: Text,
+    joined: Text,
 }
 
 /// A fault of line `line`.
@@ -100,6 +103,32 @@ fn hand_run(
     }
 }
 
+/// Puts the bytes of a line that goes on and those of a piece into the room, if a line goes on.
+///
+/// # Errors
+/// Want of memory.
+fn join(room: &mut Text, part: &[u8], piece: &[u8]) -> Result<(), Memory>
+    ensures { OnOk result (IsJoined part.now piece.now room.new) }
+{
+    if part.is_empty() {
+        return Ok(());
+    }
+    room.clear();
+    room.push(part)?;
+    room.push(piece)
+}
+
+/// The bytes of a line that goes on, and those of a piece: they stand in the room, or no line goes on.
+fn all_bytes<'a>(part: &[u8], piece: &'a [u8], room: &'a Text) -> &'a [u8]
+    requires { IsJoined part.now piece.now room.now }
+    ensures { result.now ≡ part.now ++ piece.now }
+{
+    if part.is_empty() {
+        return piece;
+    }
+    room.bytes()
+}
+
 impl Input {
     /// Takes no bytes yet. It takes no memory.
     pub fn new(alloc: Global, formula: Formula) -> Input
@@ -112,6 +141,7 @@ impl Input {
             run: Vec::new(alloc),
             whole: 0,
             text: Text::new(alloc),
+            joined: Text::new(alloc),
         }
     }
 
@@ -149,20 +179,28 @@ impl Input {
         Ok(())
     }
 
-    /// Hands the lines at the front of a piece that one session takes together to it, and answers how many bytes they have: none where the
-    /// piece begins with another line.
+    /// Whether lines may end in a piece that one session takes together. Of a line that goes on it is known by its LF.
+    fn may_run(&self, piece: &[u8]) -> bool {
+        self.part.bytes().is_empty() || memchr(b'\n', piece).is_some()
+    }
+
+    /// Hands the lines that end in a piece and that one session takes together to it, and answers how many bytes of the piece they have: none
+    /// where another line comes first.
     fn take_run(&mut self, piece: &[u8]) -> Result<usize, InputStop>
-        requires taking { HasTakenSome self.old }
-        requires whole { self.old.part ≡ [] }
+        requires { HasTakenSome self.old }
         ensures taken { (f : Parsed) (bytes written : List ℕ) → IsTaking f self.old bytes written → MatchResult result
             (λ n. IsTaking f self.new (bytes ++ take n piece.now) written)
             (λ e. IsInputStop f (bytes ++ piece.now) false (written ++ self.new.text) e) }
         ensures within { MatchResult result (λ n. n ≤ length piece.now) (λ _. Unit {0}) }
     {
-        let Some(tag) = front_tag(piece) else {
+        let Ok(()) = join(&mut self.joined, self.part.bytes(), piece) else {
+            return Err(InputStop::NoMemory);
+        };
+        let bytes = all_bytes(self.part.bytes(), piece, &self.joined);
+        let Some(tag) = front_tag(bytes) else {
             return Ok(0);
         };
-        let Ok(run) = gather(&mut self.run, tag, piece, MOST_LINES - self.whole) else {
+        let Ok(run) = gather(&mut self.run, tag, bytes, MOST_LINES - self.whole) else {
             return Err(InputStop::NoMemory);
         };
         if run.lines == 0 {
@@ -175,8 +213,10 @@ impl Input {
             &self.run[..run.used],
             &mut self.text,
         )?;
+        let taken = run.bytes - self.part.bytes().len();
+        self.part.clear();
         self.whole += run.lines;
-        Ok(run.bytes)
+        Ok(taken)
     }
 
     /// Takes bytes of a piece, up to and with its first LF, and answers how many.
@@ -201,7 +241,7 @@ impl Input {
         }
     }
 
-    /// Takes some bytes of a piece: lines that go to one session together, or bytes up to and with the first LF. It answers how many.
+    /// Takes some bytes of a piece: those of lines that go to one session together, or bytes up to and with the first LF. It answers how many.
     fn step(&mut self, piece: &[u8]) -> Result<usize, InputStop>
         requires { HasTakenSome self.old }
         ensures taken { (f : Parsed) (bytes written : List ℕ) → IsTaking f self.old bytes written → MatchResult result
@@ -210,7 +250,7 @@ impl Input {
         ensures within { MatchResult result (λ n. n ≤ length piece.now) (λ _. Unit {0}) }
         ensures progress { MatchResult result (λ n. 0 < length piece.now → 0 < n) (λ _. Unit {0}) }
     {
-        if self.part.bytes().is_empty() {
+        if self.may_run(piece) {
             let taken = self.take_run(piece)?;
             if taken > 0 {
                 return Ok(taken);
@@ -290,6 +330,7 @@ impl Input {
             run: _run,
             whole: _whole,
             text: _text,
+            joined: _joined,
         } = self;
         mux
     }

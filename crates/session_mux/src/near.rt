@@ -1,5 +1,5 @@
-//! The first LF of a text, which is near in most, and the copy of a few bytes before it.
-ghost use Rattle.std.specs.Prelude.{◌≡◌, ◌≢◌, ◌↔◌, ◌==◌, ◌<◌, ◌≤◌, ◌+◌, ℕ, length, take, slice_index, if◌then◌else◌, MatchOption};
+//! The first LF of a text, which is near in most, the copy of a few bytes before it, and whether a text begins with a short word.
+ghost use Rattle.std.specs.Prelude.{◌≡◌, ◌≢◌, ◌↔◌, ◌==◌, ◌<◌, ◌≤◌, ◌+◌, ℕ, length, take, slice_index, if◌then◌else◌, IsTrue, MatchOption};
 ghost use Rattle.std.specs.Int.{bit_at};
 ghost use Rattle.memchr.specs.Find.{is_byte, IsFirstByte};
 ghost use Rattle.memchr.specs.Lanes.{HasLanes};
@@ -30,6 +30,16 @@ fn feeds(bytes: u8x32) -> u8x32
     bytes
         .simd_eq(u8x32::splat(b'\n'))
         .select(u8x32::splat(255), u8x32::splat(0))
+}
+
+/// All bits where two bytes differ, and none where they are the same.
+#[inline(always)]
+fn differing(bytes: u8x32, others: u8x32) -> u8x32
+    ensures { HasLanes result (λ k. if slice_index bytes k == slice_index others k then 0 else 255) }
+{
+    bytes
+        .simd_eq(others)
+        .select(u8x32::splat(0), u8x32::splat(255))
 }
 
 /// The top bits of the bytes.
@@ -75,6 +85,20 @@ pub(crate) fn first_feed(text: &[u8]) -> Option<usize>
         Some(at) => Some(at),
         None => memchr(b'\n', text),
     }
+}
+
+/// Whether the first bytes of a text are those of a room, so many of them.
+#[inline(always)]
+pub(crate) fn begins_with(text: &[u8], room: &[u8; NEAR], len: usize) -> bool
+    requires long { 32 ≤ length text.now }
+    requires few { len ≤ 32 }
+    ensures { IsTrue result → take len text.now ≡ take len room.now }
+{
+    let marks = top_bits(differing(bytes_at(text, 0), bytes_at(room, 0)));
+    if marks == 0 {
+        return true;
+    }
+    lowest(marks) >= len
 }
 
 /// Puts some bytes behind what stands before `at`, and answers where they end. A few are copied as 32, where the text at whose front they

@@ -9,7 +9,7 @@ ghost use Rattle.session_mux.specs.Running.{IsOwnLine, HasGathered};
 
 use crate::near::{NEAR, first_feed, put_front};
 use crate::session::{asks, stops};
-use crate::tag::{LONGEST, tag_len};
+use crate::tag::{LONGEST, Tag, tag_len};
 use answer_lines::add_byte;
 use frac128::Memory;
 
@@ -47,28 +47,14 @@ pub(crate) fn content_of(line: &[u8]) -> &[u8]
     line
 }
 
-/// What follows the tag and a space, where a piece begins with them.
-#[inline(always)]
-fn after_tag<'a>(tag: &[u8], piece: &'a [u8]) -> Option<&'a [u8]>
-    ensures { MatchOption result (Unit {0}) (λ r. piece.now ≡ tag.now ++ 32 ∷ r.now) }
-{
-    if piece.len() <= tag.len() {
-        return None;
-    }
-    if piece[tag.len()] == b' ' && &piece[..tag.len()] == tag {
-        return Some(&piece[tag.len() + 1..]);
-    }
-    None
-}
-
 /// The line at the front of a piece, where it has the tag, goes to the trace of its session, and is not too long.
 #[inline(always)]
-fn own_line<'a>(tag: &[u8], piece: &'a [u8]) -> Option<OwnLine<'a>>
+fn own_line<'a>(tag: &Tag, piece: &'a [u8]) -> Option<OwnLine<'a>>
     requires { IsTag tag.now }
     ensures { MatchOption result (Unit {0}) (λ l. (l.content.now ≡ take (length l.content.now) l.rest.now) × (length l.content.now + 1 ≤ l.bytes)
         × IsOwnLine tag.now piece.now l.content.now l.bytes) }
 {
-    let Some(rest) = after_tag(tag, piece) else {
+    let Some(rest) = tag.rest(piece) else {
         return None;
     };
     let Some(at) = first_feed(rest) else {
@@ -89,9 +75,9 @@ fn own_line<'a>(tag: &[u8], piece: &'a [u8]) -> Option<OwnLine<'a>>
     })
 }
 
-/// The tag at the front of a piece, where a space follows it.
+/// The tag at the front of a piece, if bytes of a tag stand there, and not too many.
 pub(crate) fn front_tag(piece: &[u8]) -> Option<&[u8]>
-    ensures { MatchOption result (Unit {0}) (λ t. IsTag t.now) }
+    ensures { MatchOption result (Unit {0}) (λ t. IsTag t.now × (t.now ≡ take (length t.now) piece.now)) }
 {
     let len = tag_len(piece);
     if len == 0 || len > LONGEST {
@@ -127,22 +113,24 @@ fn put_line(room: &mut [u8], at: usize, line: &OwnLine) -> usize
     add_byte(room, end, b'\n')
 }
 
-/// Puts the contents of the lines at the front of a piece that have this tag, at most so many, one after the other, each with its LF, to the
-/// front of the room.
+/// Puts the contents of the lines at the front of a piece that have this tag, which stands there, at most so many, one after the other, each
+/// with its LF, to the front of the room.
 ///
 /// # Errors
 /// Want of memory.
 pub(crate) fn gather(room: &mut Vec<u8>, tag: &[u8], piece: &[u8], most: u64) -> Result<Run, Memory>
-    requires { IsTag tag.now }
+    requires tag { IsTag tag.now }
+    requires front { tag.now ≡ take (length tag.now) piece.now }
     ensures gathered { IfOk result (λ r. HasGathered tag.now piece.now most r.bytes r.lines (take r.used room.new.items)) }
     ensures within { IfOk result (λ r. r.used ≤ length room.new.items) }
 {
     make_room(room, piece)?;
+    let own = Tag::at_front(tag, piece);
     let mut bytes = 0;
     let mut lines = 0;
     let mut used = 0;
     while lines < most {
-        let Some(line) = own_line(tag, &piece[bytes..]) else {
+        let Some(line) = own_line(&own, &piece[bytes..]) else {
             return Ok(Run { bytes, lines, used });
         };
         used = put_line(room, used, &line);

@@ -1,10 +1,11 @@
 //! The tag that a line begins with.
-ghost use Rattle.std.specs.Prelude.{◌≡◌, ◌<◌, ◌≤◌, ◌^◌, ◌+◌, ◌++◌, codes, length, take, drop, true, MatchOption};
+ghost use Rattle.std.specs.Prelude.{◌≡◌, ◌<◌, ◌≤◌, ◌^◌, ◌+◌, ◌++◌, ◌∷◌, codes, length, take, drop, true, MatchOption};
 ghost use Rattle.stl_syntax.specs.Characters.{is_space as is_spacing, all, StopsAt};
 ghost use Rattle.session_mux.specs.Sessions.{is_tag_byte as is_of_tag, Tagged, IsTag, IsTagged};
 ghost use Rattle.answer_lines.specs.After.{IsAdded};
 ghost use Rattle.session_mux.specs.Tags.{number_of as number};
 
+use crate::near::{NEAR, begins_with, put_front};
 use answer_lines::{add_byte, add_part};
 use std::marker::Model;
 
@@ -48,7 +49,7 @@ pub(crate) fn tag_len(line: &[u8]) -> usize
 }
 
 /// Room for a tag and a space, and what else is copied with them.
-const ROOM: usize = 32;
+const ROOM: usize = NEAR;
 
 /// A tag that is kept, with a space behind it. Contracts see the tag.
 #[derive(Drop)]
@@ -73,8 +74,18 @@ impl Tag {
         requires { length tag.now ≤ 16 }
         ensures { result ≡ tag.now }
     {
+        Tag::at_front(tag, tag)
+    }
+
+    /// A tag to be kept, which stands at the front of a text.
+    #[inline(always)]
+    pub(crate) fn at_front(tag: &[u8], text: &[u8]) -> Tag
+        requires few { length tag.now ≤ 16 }
+        requires front { tag.now ≡ take (length tag.now) text.now }
+        ensures { result ≡ tag.now }
+    {
         let mut bytes = [0; ROOM];
-        let len = add_part(&mut bytes, 0, tag, tag.len());
+        let len = put_front(&mut bytes, 0, tag, text);
         add_byte(&mut bytes, len, b' ');
         Tag { bytes, len }
     }
@@ -84,6 +95,36 @@ impl Tag {
         ensures { result.now ≡ self.now }
     {
         &self.bytes[..self.len]
+    }
+
+    /// What follows the tag and a space, where a piece begins with them.
+    #[inline(always)]
+    pub(crate) fn rest<'a>(&self, piece: &'a [u8]) -> Option<&'a [u8]>
+        ensures { MatchOption result (Unit {0}) (λ r. piece.now ≡ self.now ++ 32 ∷ r.now) }
+    {
+        let len = self.len + 1;
+        if piece.len() < NEAR {
+            return self.rest_of_few(piece);
+        }
+        if begins_with(piece, &self.bytes, len) {
+            return Some(&piece[len..]);
+        }
+        None
+    }
+
+    /// The same, of a piece of whatever length.
+    #[inline(never)]
+    fn rest_of_few<'a>(&self, piece: &'a [u8]) -> Option<&'a [u8]>
+        ensures { MatchOption result (Unit {0}) (λ r. piece.now ≡ self.now ++ 32 ∷ r.now) }
+    {
+        let len = self.len + 1;
+        if piece.len() < len {
+            return None;
+        }
+        if &piece[..len] == &self.bytes[..len] {
+            return Some(&piece[len..]);
+        }
+        None
     }
 
     /// Puts the tag and a space behind what stands before `at`, and answers where they end.

@@ -1,16 +1,36 @@
-use Rattle.std.proofs.Common.{◌+◌, ◌-◌, take, List, ℕ, refl, sym, ap, subst, ◌∙◌}
+use Rattle.std.proofs.Common.{◌≡◌, ◌+◌, ◌-◌, ◌++◌, take, length, List, ℕ, refl, sym, ap, subst, ◌∙◌, arith}
 use Rattle.std.proofs.lemmas.Result.{err_from_is_err_and}
 use Rattle.session_mux.specs.Muxes.{Past}
 use Rattle.session_mux.specs.Owning.{IsWithFeed}
+use Rattle.session_mux.specs.Running.{IsJoined, HasGathered}
+use Rattle.session_mux.specs.Taking.{IsTaking}
 use Rattle.session_mux.specs.declared.input.Input.{Input}
-use Rattle.session_mux.proofs.RunInputs.{gathered_some, run_done, run_stopped}
+use Rattle.session_mux.proofs.RunInputs.{gathered_some, run_beyond, run_done, run_stopped}
 use Rattle.session_mux.proofs.input.Input.take_run.Goals as goal
+
+pub all_bytes-bytes-requires : goal.all_bytes-bytes-requires
+all_bytes-bytes-requires c =
+    subst (λ p. IsJoined p c.args.piece.now c.join.new.room) (c.bytes.ensures ∙ sym c.bytes-2.ensures) c.in-Ok.ensures
 
 pub hand_run-requires-clause-feed : goal.hand_run-requires-clause-feed
 hand_run-requires-clause-feed c =
-    subst (λ (b : List ℕ). IsWithFeed (take c.in-Ok.run'.used b)) (sym c.deref.ensures.value)
-    (gathered_some c.in-Some.tag.now c.args.piece.now (8589934592 - c.args.self.now.whole) c.in-Ok.run'.bytes c.in-Ok.run'.lines _
-    c.in-Ok.ensures.gathered c.if-run-eq0.false)
+    subst (λ (b : List ℕ). IsWithFeed (take c.in-Ok-gather.run'.used b)) (sym c.deref.ensures.value)
+    (gathered_some c.in-Some.tag.now c.all_bytes-bytes.result.now (8589934592 - c.args.self.now.whole) c.in-Ok-gather.run'.bytes c.in-Ok-gather.run'.lines _
+    c.in-Ok-gather.ensures.gathered c.if-run-eq0.false)
+
+-- all bytes are those of the line that went on and of the piece
+of_both : {t all part other contents : List ℕ} {most n count : ℕ} (piece : List ℕ) → all ≡ other ++ piece → other ≡ part
+    → HasGathered t all most n count contents → HasGathered t (part ++ piece) most n count contents
+of_both {t} {contents = contents} {most} {n} {count} piece e same g =
+    subst (λ b. HasGathered t b most n count contents) (e ∙ ap (λ p. p ++ piece) same) g
+
+pub overflow_sub-taken : goal.overflow_sub-taken
+overflow_sub-taken c =
+    let r = c.requires in
+    let beyond = run_beyond r.formula c.args.self.now r.bytes r.written c.args.piece.now r.is c.in-Some.tag.now c.in-Some.ensures.0
+    c.in-Ok-gather.run'.bytes c.in-Ok-gather.run'.lines _ (of_both c.args.piece.now c.all_bytes-bytes.ensures c.bytes-2.ensures c.in-Ok-gather.ensures.gathered)
+    c.if-run-eq0.false in
+    omega (arith, beyond, ap length c.bytes-3.ensures)
 
 pub returns-in_err-hand_run-clause-taken : goal.returns-in_err-hand_run-clause-taken
 returns-in_err-hand_run-clause-taken c =
@@ -18,9 +38,10 @@ returns-in_err-hand_run-clause-taken c =
     let i = c.args.self.now in
     rw (q.1, q.2) (λ f bytes written k.
     let past : Past = record { formula = f; seen = k.taken.tagged } in
-    run_stopped f i bytes written c.args.piece.now k c.in-Some.tag.now c.in-Some.ensures c.in-Ok.run'.bytes c.in-Ok.run'.lines _
-    c.in-Ok.ensures.gathered c.requires.whole c.if-run-eq0.false c.hand_run.new.text c.in_err-hand_run.field-0.0
-    (λ content ends. c.in_err-hand_run.ensures past content k.taken.stands (ap (take c.in-Ok.run'.used) c.deref.ensures.value ∙ ends)))
+    run_stopped f i bytes written c.args.piece.now k c.in-Some.tag.now c.in-Some.ensures.0 c.in-Ok-gather.run'.bytes c.in-Ok-gather.run'.lines _
+    (of_both c.args.piece.now c.all_bytes-bytes.ensures c.bytes-2.ensures c.in-Ok-gather.ensures.gathered) c.if-run-eq0.false c.hand_run.new.text
+    c.in_err-hand_run.field-0.0
+    (λ content ends. c.in_err-hand_run.ensures past content k.taken.stands (ap (take c.in-Ok-gather.run'.used) c.deref.ensures.value ∙ ends)))
 
 pub returns-clause-taken : goal.returns-clause-taken
 returns-clause-taken c = λ f bytes written k.
@@ -28,11 +49,13 @@ returns-clause-taken c = λ f bytes written k.
     let past : Past = record { formula = f; seen = k.taken.tagged } in
     let new : Input = record {
       mux = c.hand_run.new.mux;
-      part = i.part;
+      part = c.clear.new.self;
       run = c.gather.new.room;
-      whole = i.whole + c.in-Ok.run'.lines;
+      whole = i.whole + c.in-Ok-gather.run'.lines;
       text = c.hand_run.new.text;
+      joined = c.join.new.room;
     } in
-    run_done f i bytes written c.args.piece.now k c.in-Some.tag.now c.in-Some.ensures c.in-Ok.run'.bytes c.in-Ok.run'.lines _
-    c.in-Ok.ensures.gathered c.requires.whole c.if-run-eq0.false new c.requires.whole refl
-    (λ content ends. c.in_ok-hand_run.ensures past content k.taken.stands (ap (take c.in-Ok.run'.used) c.deref.ensures.value ∙ ends))
+    subst (λ (p : List ℕ). IsTaking f new (bytes ++ take (c.in-Ok-gather.run'.bytes - length p) c.args.piece.now) written) (sym c.bytes-3.ensures)
+    (run_done f i bytes written c.args.piece.now k c.in-Some.tag.now c.in-Some.ensures.0 c.in-Ok-gather.run'.bytes c.in-Ok-gather.run'.lines _
+    (of_both c.args.piece.now c.all_bytes-bytes.ensures c.bytes-2.ensures c.in-Ok-gather.ensures.gathered) c.if-run-eq0.false new c.clear.ensures refl
+    (λ content ends. c.in_ok-hand_run.ensures past content k.taken.stands (ap (take c.in-Ok-gather.run'.used) c.deref.ensures.value ∙ ends)))

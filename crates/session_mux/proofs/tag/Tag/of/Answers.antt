@@ -1,28 +1,6 @@
-use Rattle.std.proofs.Common.{◌≡◌, ℕ, ◌+◌, ◌≤◌, List, ◌++◌, length, take, codes, arith, sym, ap, ◌∙◌}
-use Rattle.std.proofs.lemmas.List.{take-take, take_all, take-append-le}
-use Rattle.answer_lines.specs.After.{IsAdded}
+use Rattle.std.proofs.Common.{length, sym, arith}
+use Rattle.std.proofs.lemmas.List.{take_all}
 use Rattle.session_mux.proofs.tag.Tag.of.Goals as goal
 
--- the tag, and with the space
-kept : (tag old mid new : List ℕ) (n m : ℕ) → IsAdded (take (length tag) tag) old 0 mid n → IsAdded (codes " ") mid n new m → length tag ≤ 16
-    → 32 ≤ length old → (n ≤ 16) × (take n new ≡ tag) × (take (n + 1) new ≡ take n new ++ codes " ")
-kept tag old mid new n m a b few room =
-    let whole : take (length tag) tag ≡ tag = take_all (length tag) tag (omega arith) in
-    let is : take n mid ≡ tag = a.added ∙ whole in
-    let size : n ≡ length tag = omega (arith, a.size, ap length whole) in
-    let next : m ≡ n + 1 = b.size in
-    let both : take (n + 1) new ≡ tag ++ codes " " = ap (λ k. take k new) (sym next) ∙ b.added ∙ ap (λ w. w ++ codes " ") is in
-    let front : take n new ≡ tag =
-    sym (take-take n (n + 1) new (omega arith)) ∙ ap (take n) both ∙ take-append-le n tag (codes " ") (omega (arith, size))
-    ∙ take_all n tag (omega (arith, size)) in
-    (omega (arith, size, few), front, both ∙ ap (λ w. w ++ codes " ") (sym front))
-
-pub invariant_of-result : goal.invariant_of-result
-invariant_of-result c =
-    let (few, is, next) =
-    kept c.args.tag.now _ _ c.add_byte.new.buf c.add_part-len.result _ c.add_part-len.ensures c.add_byte.ensures c.requires (omega arith) in (few, next)
-
-pub returns : goal.returns
-returns c =
-    let (few, is, next) =
-    kept c.args.tag.now _ _ c.add_byte.new.buf c.add_part-len.result _ c.add_part-len.ensures c.add_byte.ensures c.requires (omega arith) in is
+pub at_front-requires : goal.at_front-requires
+at_front-requires c = record { few = c.requires; front = sym (take_all (length c.args.tag.now) c.args.tag.now (omega arith)) }
