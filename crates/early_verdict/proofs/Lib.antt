@@ -44,3 +44,5 @@ mod SinceStands
 mod SinceLooks
 mod AnewLemmas
 mod NodeSets
+mod Having
+mod FirstSets

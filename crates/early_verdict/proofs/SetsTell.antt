@@ -4,8 +4,8 @@ use Rattle.std.specs.Prelude.{◌↔◌, MatchOption}
 use Rattle.rational.specs.Time.{Rational}
 use Rattle.stl_syntax.specs.Trace.{Trace}
 use Rattle.growing_sets.specs.Spans.{Lies, IsOn}
-use Rattle.growing_sets.specs.Steps.{Tells}
-use Rattle.early_verdict.specs.Fitting.{Says, SayBoth, IsEmpty, KeepsBounds, ArePartsTidy}
+use Rattle.growing_sets.specs.Steps.{Gains, Tells}
+use Rattle.early_verdict.specs.Fitting.{Says, SayBoth, AreSetsTidy, IsEmpty, IsTidy, HasStepped, KeepsBounds, ArePartsTidy}
 use Rattle.early_verdict.specs.Happening.{Was}
 use Rattle.early_verdict.specs.Looking.{WasList}
 use Rattle.growing_sets.specs.declared.stretch.Stretch.{Stretch}
@@ -72,6 +72,20 @@ parts_kept (Some x) new e = subst (λ y. MatchOption y ⊥ (KeepsBounds x)) (sym
   holding = record { both = refl; run = refl; some = refl; each = refl };
   failing = record { fail = refl; stop = refl; never = refl; broken = refl };
 })
+
+-- the node's own two sets took an entry, and those between stayed
+pub stepped_by : (old : Sets) (x y : Grown) → AreSetsTidy old
+    → IsTidy x × (x.bounds ≡ old.yes.bounds) × Gains old.yes.spans.items x.spans.items x.fresh.items
+    → IsTidy y × (y.bounds ≡ old.no.bounds) × Gains old.no.spans.items y.spans.items y.fresh.items
+    → HasStepped old (record { yes = x; no = y; parts = old.parts })
+stepped_by old x y tidy f g = record {
+  tidy = record { yes = f.0; no = g.0; parts = tidy.parts };
+  yes = f.1;
+  no = g.1;
+  parts = parts_kept old.parts old.parts refl;
+  gains_yes = f.2;
+  gains_no = g.2;
+}
 
 -- parts that stay are tidy still
 pub parts_tidy : (old new : Option Parts) → new ≡ old → MatchOption old (Unit {0}) ArePartsTidy → MatchOption new (Unit {0}) ArePartsTidy

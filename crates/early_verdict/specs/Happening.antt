@@ -8,18 +8,40 @@ use Rattle.rational.specs.Places.{AtMost, Same}
 use Rattle.frac128.specs.Cuts.{place}
 use Rattle.growing_sets.specs.Spans.{IsOn, Lies}
 use Rattle.growing_sets.specs.Steps.{Gains}
-use Rattle.early_verdict.specs.Fitting.{Lists, AreEmpty, start_place, sure_place}
+use Rattle.early_verdict.specs.Fitting.{Lists, AreEmpty, AreSetsTidy, IsEmpty, IsFailingEmpty, IsFailingTidy, IsHoldingEmpty, IsHoldingTidy, IsTidy}
+use Rattle.early_verdict.specs.Fitting.{start_place, sure_place}
 use Rattle.early_verdict.specs.Looking.{WasList}
 use Rattle.early_verdict.specs.declared.entry.Entry.{Entry}
 use Rattle.growing_sets.specs.declared.stretch.Stretch.{Stretch}
 use Rattle.growing_sets.specs.declared.grown.Grown.{Grown}
 use Rattle.early_verdict.specs.declared.sets.Sets.{Sets}
+use Rattle.early_verdict.specs.declared.sets.Holding.{Holding}
+use Rattle.early_verdict.specs.declared.sets.Failing.{Failing}
 
 -- no time ceases to be sure, and the times are small
 pub record IsEntry (e : Entry) : Type 0 where
   pub order : AtMost (place e.before) (place e.sure)
   pub near_start : IsWithin (2 ^ 34) (value e.start.time)
   pub near_sure : IsWithin (2 ^ 34) (value e.sure.time)
+
+-- sets can take an entry: their lists rise, and before the first one they have no time
+pub record CanTake (e : Entry) (Tidy Empty : Type 0) : Type 0 where
+  pub tidy : Tidy
+  pub entry : IsEntry e
+  pub none : e.first ≡ true → Empty
+
+-- so a set, those between, and those of a node
+abbrev pub SetCanTake : Entry → Grown → Type 0
+SetCanTake e x = CanTake e (IsTidy x) (IsEmpty x)
+
+abbrev pub HoldingCanTake : Entry → Holding → Type 0
+HoldingCanTake e x = CanTake e (IsHoldingTidy x) (IsHoldingEmpty x)
+
+abbrev pub FailingCanTake : Entry → Failing → Type 0
+FailingCanTake e x = CanTake e (IsFailingTidy x) (IsFailingEmpty x)
+
+abbrev pub SetsCanTake : Entry → Sets → Type 0
+SetsCanTake e s = CanTake e (AreSetsTidy s) (AreEmpty s)
 
 -- the trace goes on from the one before it, if there is one
 pub record Happens (e : Entry) (old : Option Trace) (tr : Trace) : Type 0 where

@@ -4,6 +4,8 @@ use Rattle.rational.specs.Time.{Rational, later, ◌≤ʳ◌, ◌<ʳ◌}
 use Rattle.stl_syntax.specs.declared.node.Node.{Node}
 use Rattle.stl_syntax.specs.declared.node.Node.TheVariants.{Until, Since}
 use Rattle.stl_syntax.specs.Cells.{IsChild}
+use Rattle.stl_syntax.specs.Trace.{Trace}
+use Rattle.stl_syntax.specs.WellFormed.{AreWellFormed}
 use Rattle.rational.specs.Places.{Place, After, AtMost, Before, Upto}
 use Rattle.frac128.specs.Cuts.{place}
 use Rattle.growing_sets.specs.Spans.{IsAmong, IsOn, Lies}
@@ -11,7 +13,7 @@ use Rattle.growing_sets.specs.Steps.{HoldsFrom}
 use Rattle.growing_sets.specs.Showing.{IsCutAt, IsGrownInside}
 use Rattle.early_verdict.specs.Changing.{ChangesAt}
 use Rattle.early_verdict.specs.Fitting.{AreSetsTidy, IsTidy}
-use Rattle.early_verdict.specs.Living.{IsNarrowed, IsShown, LooksAt}
+use Rattle.early_verdict.specs.Living.{IsNarrowed, IsShown, LooksAt, NetIs}
 use Rattle.growing_sets.specs.declared.stretch.Stretch.{Stretch}
 use Rattle.growing_sets.specs.declared.grown.Grown.{Grown}
 use Rattle.early_verdict.specs.declared.sets.Holding.{Holding}
@@ -162,6 +164,16 @@ pub record IsDecisive (d : Rational) (own left right : Sets) : Type 0 where
   pub first : (m : Rational) × Lies left.no.bounds m × (m <ʳ d)
   pub decides : MatchOption own.parts (Unit {0}) (λ x. IsOn x.holding.both.spans.items d) ⊎ IsOn left.no.spans.items d
 
+-- so of what the node at place i goes on from, and of what its operands show
+pub record AreDecisive (d : Rational) (live shown : List Sets) (i p q : ℕ) : Type 0 where
+  pub own : Sets
+  pub left : Sets
+  pub right : Sets
+  pub at_own : slice_get live i ≡ Some own
+  pub at_left : slice_get shown p ≡ Some left
+  pub at_right : slice_get shown q ≡ Some right
+  pub decides : IsDecisive d own left right
+
 -- the times of the sets between lie within their bounds
 pub record IsHoldingInside (x : Holding) : Type 0 where
   pub both : IsGrownInside x.both
@@ -221,3 +233,9 @@ pub record AreAskedBy (n : Node) (from : Rational) (old new : List Sets) : Type 
   pub looks : (start : Rational) (own : Stretch) (parts : Option Parts) → ((p : ℕ) (u : Rational) → IsShown old p u → start ≤ʳ u)
       → ((t : Rational) → Lies own t → from ≤ʳ t) → LooksAt n start old own parts → LooksAt n start new own parts
   pub cut : IsUntil n → (p : ℕ) (w x : Sets) → IsChild n p → slice_get old p ≡ Some w → slice_get new p ≡ Some x → ShowsFrom from w x
+
+-- a net of nodes of which the one at the place is n
+pub record NetHas (nodes : List Node) (tr : Trace) (live shown : List Sets) (i : ℕ) (n : Node) : Type 0 where
+  pub formed : AreWellFormed nodes
+  pub here : slice_get nodes i ≡ Some n
+  pub stands : NetIs nodes tr live shown

@@ -1,25 +1,28 @@
 //! One entry over the sets of constants, negations and connectives.
-ghost use Rattle.std.specs.Prelude.{◌≡◌, OnOk, Option};
+ghost use Rattle.std.specs.Prelude.{OnOk, Option};
 ghost use Rattle.stl_syntax.specs.Trace.{Trace};
-ghost use Rattle.early_verdict.specs.Fitting.{Lists, lists_of, AreSetsTidy, IsTidy, HasStepped, ConstantFits};
+ghost use Rattle.early_verdict.specs.Adding.{HasGrown};
+ghost use Rattle.early_verdict.specs.Fitting.{Lists, lists_of, AreEmpty, AreSetsTidy, HasStepped, ConstantFits};
 ghost use Rattle.early_verdict.specs.Fitting.{NegationFits, ConjunctionFits, DisjunctionFits, ImplicationFits};
-ghost use Rattle.growing_sets.specs.Growing.{Adds};
-ghost use Rattle.growing_sets.specs.Spans.{Lies};
 ghost use Rattle.early_verdict.specs.Happening.{Had, Happens, Was};
 
+use crate::atoms::rest;
 use crate::entry::Entry;
 use crate::sets::Sets;
 use frac128::Memory;
-use growing_sets::Grown;
 
-/// Adds all times within the bounds.
-fn fill(own: &mut Grown) -> Result<(), Memory>
-    requires { IsTidy own.old }
-    ensures bounds { own.new.bounds ≡ own.old.bounds }
-    ensures adds { OnOk result (Adds own.old own.new (Lies own.old.bounds)) }
+/// Adds all times of its bounds to the set of that truth.
+fn fill(own: &mut Sets, holds: bool) -> Result<(), Memory>
+    requires { AreSetsTidy own.old }
+    ensures grown { OnOk result (HasGrown own.old own.new) }
+    ensures fits { OnOk result (AreEmpty own.old → ConstantFits holds own.new) }
 {
-    let bounds = own.bounds();
-    own.add(bounds.from, bounds.to)
+    if holds {
+        let all = own.yes.bounds();
+        return own.yes.add(all.from, all.to);
+    }
+    let all = own.no.bounds();
+    own.no.add(all.from, all.to)
 }
 
 /// A constant: decided at all times from the first entry on.
@@ -29,16 +32,11 @@ pub(crate) fn step_constant(own: &mut Sets, holds: bool, entry: &Entry) -> Resul
     ensures fits { OnOk result ((old : Option Trace) (tr : Trace) → Happens entry.now old tr
         → Was old (λ o. ConstantFits holds) own.old → ConstantFits holds own.new) }
 {
-    own.yes.rest();
-    own.no.rest();
-    if !entry.first {
-        return Ok(());
+    rest(own);
+    if entry.first {
+        return fill(own, holds);
     }
-    if holds {
-        fill(&mut own.yes)
-    } else {
-        fill(&mut own.no)
-    }
+    Ok(())
 }
 
 /// A negation is true where its operand is certainly false, and false where that is certainly true.

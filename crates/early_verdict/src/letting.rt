@@ -10,11 +10,12 @@ ghost use Rattle.rational.specs.Places.{After, Upto};
 ghost use Rattle.frac128.specs.Cuts.{place};
 ghost use Rattle.growing_sets.specs.Spans.{AreTidy, IsOn};
 ghost use Rattle.early_verdict.specs.Fitting.{AreSetsTidy, IsFailingTidy, IsHoldingTidy};
-ghost use Rattle.early_verdict.specs.Standing.{AllTidy, IsOperatorAt};
+ghost use Rattle.early_verdict.specs.Standing.{AllTidy, IsOperator, IsOperatorAt};
 ghost use Rattle.early_verdict.specs.Living.{IsNarrowed, NetIs};
-ghost use Rattle.early_verdict.specs.Letting.{AreApart, AreAskedBy, AreInside, BeginsAtOnce, IsAskedFirst, IsAskedFrom};
+ghost use Rattle.early_verdict.specs.Letting.{AreApart, AreAskedBy, AreDecisive, AreInside, BeginsAtOnce, IsAskedFirst, IsAskedFrom};
 ghost use Rattle.early_verdict.specs.Letting.{IsFirstLeft, ArePartsInside, IsFailingCut, IsFailingInside, IsHoldingCut};
-ghost use Rattle.early_verdict.specs.Letting.{IsHoldingInside, IsInside, IsRunCut, IsRunCutAt, HasShed, HasShedAt, IsUntil};
+ghost use Rattle.early_verdict.specs.Letting.{IsHoldingInside, IsInside, IsRunCut, IsRunCutAt, HasShed, HasShedAt, IsUntil, NetHas};
+ghost use Rattle.stl_syntax.specs.declared.node.Node.{Node as ANode};
 ghost use Rattle.stl_syntax.specs.declared.node.Node.TheVariants.{Since, Until};
 ghost use Rattle.early_verdict.specs.declared.sets.Sets.{Sets as ASets};
 
@@ -355,13 +356,76 @@ fn endless_since(node: &Node) -> Option<Endless>
     })
 }
 
-/// The times that the node at the place shows.
-fn shown_at(shown: &[Sets], place: u32) -> Stretch
-    requires { place < length shown.now }
-    ensures { (x : ASets) × (slice_get shown.now place ≡ Some x) × (result ≡ x.no.bounds) }
+/// The bounds of the sets at a place.
+fn bounds_at(sets: &[Sets], at: usize) -> Stretch
+    requires { at < length sets.now }
+    ensures { (x : ASets) × (slice_get sets.now at ≡ Some x) × (result ≡ x.no.bounds) }
 {
-    let at = place as usize;
-    shown[at].no.bounds()
+    sets[at].no.bounds()
+}
+
+/// Lets go of what a since with a bound needs no more, of its own sets and of its operands'.
+fn let_go_bounded(live: &mut [Sets], shown: &mut [Sets], i: usize, since: &Back)
+    requires { (nodes : List ANode) × (tr : ATrace) × (a : ℕ)
+        × NetHas nodes tr live.old shown.old i (Since since.now.left since.now.right a (Some since.now.most)) }
+    ensures count { length live.new ≡ length live.old }
+    ensures stands { (nodes : List ANode) (tr : ATrace) (a : ℕ)
+        → NetHas nodes tr live.old shown.old i (Since since.now.left since.now.right a (Some since.now.most)) → NetIs nodes tr live.new shown.new }
+{
+    let own = bounds_at(live, i);
+    let first = cut_before(&own.from, since.most);
+    ask_both(shown, since.left, since.right, &first);
+    let wide = bounds_at(shown, since.left as usize);
+    cut_run_at(live, i, wide, &first, &own.from);
+}
+
+/// From where on a since without a bound begins anew, as its own sets and those of its operands say.
+fn begin_of(live: &[Sets], shown: &[Sets], i: usize, since: &Endless, from: &Cut) -> Option<Cut>
+    requires own { i < length live.now }
+    requires left { since.now.left < length shown.now }
+    requires right { since.now.right < length shown.now }
+    requires tidy { (s : ASets) → slice_get live.now i ≡ Some s → AreSetsTidy s }
+    requires left_tidy { AllTidy shown.now }
+    requires near { IsWithin (2 ^ 34) (value from.now.time) }
+    ensures { IfSome result (λ c. (later (value c.time) since.now.low ≤ʳ value from.now.time)
+        × AreDecisive (value c.time) live.now shown.now i since.now.left since.now.right) }
+{
+    let left = &shown[since.left as usize];
+    let right = &shown[since.right as usize];
+    decisive(&live[i], left, right, since.low, from)
+}
+
+/// Lets go of what a since without a bound needs no more, once it begins anew.
+fn let_go_endless(live: &mut [Sets], shown: &mut [Sets], i: usize, since: &Endless)
+    requires { (nodes : List ANode) × (tr : ATrace) × NetHas nodes tr live.old shown.old i (Since since.now.left since.now.right since.now.low None) }
+    ensures count { length live.new ≡ length live.old }
+    ensures stands { (nodes : List ANode) (tr : ATrace)
+        → NetHas nodes tr live.old shown.old i (Since since.now.left since.now.right since.now.low None) → NetIs nodes tr live.new shown.new }
+{
+    let own = bounds_at(live, i);
+    let Some(first) = begin_of(live, shown, i, since, &own.from) else {
+        return;
+    };
+    ask_both(shown, since.left, since.right, &first);
+    let wide = bounds_at(shown, since.left as usize);
+    cut_run_at(live, i, wide, &first, &own.from);
+    cut_endless_at(live, i, &shown[since.right as usize].yes.spans, since.low);
+}
+
+/// Lets go of what another operator needs no more: its children show what it looks at from its own times on, and the sets between of an
+/// until are cut there.
+fn let_go_asked(live: &mut [Sets], shown: &mut [Sets], i: usize, node: &Node)
+    requires operator { IsOperator node.now }
+    requires stands { (nodes : List ANode) × (tr : ATrace) × NetHas nodes tr live.old shown.old i node.now }
+    ensures count { length live.new ≡ length live.old }
+    ensures stands { (nodes : List ANode) (tr : ATrace) → NetHas nodes tr live.old shown.old i node.now → NetIs nodes tr live.new shown.new }
+{
+    let own = bounds_at(live, i);
+    ask_children(shown, node, &own.from);
+    if let Some(left) = left_of_until(node) {
+        let wide = bounds_at(shown, left as usize);
+        cut_run_at(live, i, wide, &own.from, &own.from);
+    }
 }
 
 /// Lets go of what the node at the place needs no more, of its own and of its children's.
@@ -376,31 +440,15 @@ fn let_go_at(live: &mut [Sets], shown: &mut [Sets], formula: &Formula, i: u32)
     let at = i as usize;
     let node = formula.node(i);
     shed_at(live, shown, at);
-    let own = live[at].no.bounds();
-    if let Some(back) = bounded_since(node) {
-        let first = cut_before(&own.from, back.most);
-        ask_both(shown, back.left, back.right, &first);
-        let wide = shown_at(shown, back.left);
-        cut_run_at(live, at, wide, &first, &own.from);
+    if let Some(since) = bounded_since(node) {
+        let_go_bounded(live, shown, at, &since);
         return;
     }
-    if let Some(anew) = endless_since(node) {
-        let left = &shown[anew.left as usize];
-        let right = &shown[anew.right as usize];
-        let Some(first) = decisive(&live[at], left, right, anew.low, &own.from) else {
-            return;
-        };
-        ask_both(shown, anew.left, anew.right, &first);
-        let wide = shown_at(shown, anew.left);
-        cut_run_at(live, at, wide, &first, &own.from);
-        cut_endless_at(live, at, &shown[anew.right as usize].yes.spans, anew.low);
+    if let Some(since) = endless_since(node) {
+        let_go_endless(live, shown, at, &since);
         return;
     }
-    ask_children(shown, node, &own.from);
-    if let Some(left) = left_of_until(node) {
-        let wide = shown_at(shown, left);
-        cut_run_at(live, at, wide, &own.from, &own.from);
-    }
+    let_go_asked(live, shown, at, node);
 }
 
 /// Lets go of it for the node at the place; an atom asks for nothing, and goes on from what it shows.

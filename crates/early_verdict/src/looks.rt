@@ -1,11 +1,11 @@
 //! One entry over the sets of operators whose windows lie ahead or behind.
-ghost use Rattle.std.specs.Prelude.{◌≡◌, OnOk, Option, List, Bool, ℕ, true, false};
+ghost use Rattle.std.specs.Prelude.{◌≡◌, OnOk, Option, List, Bool, ℕ, false};
 ghost use Rattle.stl_syntax.specs.Trace.{Trace};
 ghost use Rattle.frac128.specs.Cuts.{place};
 ghost use Rattle.growing_sets.specs.Steps.{Gains, SeesOnly};
-ghost use Rattle.early_verdict.specs.Fitting.{Lists, lists_of, Says, AreEmpty, IsEmpty, AreSetsTidy, IsTidy};
+ghost use Rattle.early_verdict.specs.Fitting.{Lists, lists_of, Says, AreSetsTidy, IsTidy};
 ghost use Rattle.early_verdict.specs.Fitting.{HasStepped, EventuallyFits, AlwaysFits, OnceFits, HistoricallyFits};
-ghost use Rattle.early_verdict.specs.Happening.{Had, Happens, IsEntry, Was};
+ghost use Rattle.early_verdict.specs.Happening.{Had, Happens, SetCanTake, SetsCanTake, Was};
 ghost use Rattle.early_verdict.specs.Looking.{IsAhead, IsBehind, WasTold, WasList, SeesOnlyTo};
 ghost use Rattle.growing_sets.specs.declared.stretch.Stretch.{Stretch};
 
@@ -16,10 +16,8 @@ use growing_sets::{Grown, Window};
 
 /// The times each of whose window, all of it, is one of the set.
 pub(crate) fn each_open(own: &mut Grown, x: &Grown, entry: &Entry, w: &Window) -> Result<(), Memory>
-    requires own { IsTidy own.old }
+    requires own { SetCanTake entry.now own.old }
     requires input { IsTidy x.now }
-    requires entry { IsEntry entry.now }
-    requires none { entry.now.first ≡ true → IsEmpty own.old }
     ensures tidy { OnOk result (IsTidy own.new) }
     ensures bounds { own.new.bounds ≡ own.old.bounds }
     ensures gains { OnOk result (Gains own.old.spans.items own.new.spans.items own.new.fresh.items) }
@@ -29,11 +27,9 @@ pub(crate) fn each_open(own: &mut Grown, x: &Grown, entry: &Entry, w: &Window) -
         → Says own.new (SeesOnly w.now (place entry.now.start) x.now.spans.items)) }
 {
     if entry.first {
-        own.each_first(x, &entry.start, w)?;
-        return Ok(());
+        return own.each_first(x, &entry.start, w);
     }
-    own.each(x, &entry.start, w)?;
-    Ok(())
+    own.each(x, &entry.start, w)
 }
 
 /// The times each of whose window is one of the set; at the end of the input each up to the last row.
@@ -43,10 +39,8 @@ pub(crate) fn each_ahead(
     entry: &Entry,
     w: &Window,
 ) -> Result<(), Memory>
-    requires own { IsTidy own.old }
+    requires own { SetCanTake entry.now own.old }
     requires input { IsTidy x.now }
-    requires entry { IsEntry entry.now }
-    requires none { entry.now.first ≡ true → IsEmpty own.old }
     ensures tidy { OnOk result (IsTidy own.new) }
     ensures bounds { own.new.bounds ≡ own.old.bounds }
     ensures gains { OnOk result (Gains own.old.spans.items own.new.spans.items own.new.fresh.items) }
@@ -56,11 +50,9 @@ pub(crate) fn each_ahead(
         → Says own.new (SeesOnlyTo entry.now.ended w.now (place entry.now.start) (place entry.now.sure) x.now.spans.items)) }
 {
     if entry.ended {
-        own.each_last(x, &entry.start, &entry.sure, w)?;
-        return Ok(());
+        return own.each_last(x, &entry.start, &entry.sure, w);
     }
-    each_open(own, x, entry, w)?;
-    Ok(())
+    each_open(own, x, entry, w)
 }
 
 /// Some time of a window ahead.
@@ -70,10 +62,8 @@ pub(crate) fn step_eventually(
     w: &Window,
     entry: &Entry,
 ) -> Result<(), Memory>
-    requires own { AreSetsTidy own.old }
+    requires own { SetsCanTake entry.now own.old }
     requires operand { AreSetsTidy p.now }
-    requires entry { IsEntry entry.now }
-    requires none { entry.now.first ≡ true → AreEmpty own.old }
     ensures stepped { OnOk result (HasStepped own.old own.new) }
     ensures fits { OnOk result ((old : Option Trace) (tr : Trace) (p' : Lists) (a b : ℕ) (a_in b_in : Bool) → IsAhead w.now a b a_in b_in
         → Happens entry.now old tr → Had old tr p' p.now → Was old (λ o. EventuallyFits false o a b a_in b_in p') own.old
@@ -86,10 +76,8 @@ pub(crate) fn step_eventually(
 
 /// Each time of a window ahead.
 pub(crate) fn step_always(own: &mut Sets, p: &Sets, w: &Window, entry: &Entry) -> Result<(), Memory>
-    requires own { AreSetsTidy own.old }
+    requires own { SetsCanTake entry.now own.old }
     requires operand { AreSetsTidy p.now }
-    requires entry { IsEntry entry.now }
-    requires none { entry.now.first ≡ true → AreEmpty own.old }
     ensures stepped { OnOk result (HasStepped own.old own.new) }
     ensures fits { OnOk result ((old : Option Trace) (tr : Trace) (p' : Lists) (a b : ℕ) (a_in b_in : Bool) → IsAhead w.now a b a_in b_in
         → Happens entry.now old tr → Had old tr p' p.now → Was old (λ o. AlwaysFits false o a b a_in b_in p') own.old
@@ -102,10 +90,8 @@ pub(crate) fn step_always(own: &mut Sets, p: &Sets, w: &Window, entry: &Entry) -
 
 /// Some time of a window behind.
 pub(crate) fn step_once(own: &mut Sets, p: &Sets, w: &Window, entry: &Entry) -> Result<(), Memory>
-    requires own { AreSetsTidy own.old }
+    requires own { SetsCanTake entry.now own.old }
     requires operand { AreSetsTidy p.now }
-    requires entry { IsEntry entry.now }
-    requires none { entry.now.first ≡ true → AreEmpty own.old }
     ensures stepped { OnOk result (HasStepped own.old own.new) }
     ensures fits { OnOk result ((old : Option Trace) (tr : Trace) (p' : Lists) (a : ℕ) (b : Option ℕ) (a_in b_in : Bool) → IsBehind w.now a b a_in b_in
         → Happens entry.now old tr → Had old tr p' p.now → Was old (λ o. OnceFits o a b a_in b_in p') own.old
@@ -123,10 +109,8 @@ pub(crate) fn step_historically(
     w: &Window,
     entry: &Entry,
 ) -> Result<(), Memory>
-    requires own { AreSetsTidy own.old }
+    requires own { SetsCanTake entry.now own.old }
     requires operand { AreSetsTidy p.now }
-    requires entry { IsEntry entry.now }
-    requires none { entry.now.first ≡ true → AreEmpty own.old }
     ensures stepped { OnOk result (HasStepped own.old own.new) }
     ensures fits { OnOk result ((old : Option Trace) (tr : Trace) (p' : Lists) (a : ℕ) (b : Option ℕ) (a_in b_in : Bool) → IsBehind w.now a b a_in b_in
         → Happens entry.now old tr → Had old tr p' p.now → Was old (λ o. HistoricallyFits o a b a_in b_in p') own.old

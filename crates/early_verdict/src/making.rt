@@ -1,5 +1,5 @@
 //! The sets of all nodes, before any row.
-ghost use Rattle.std.specs.Prelude.{◌≡◌, ◌<◌, ◌+◌, IfOk, Some, None, MatchOption, length, slice_get, pos};
+ghost use Rattle.std.specs.Prelude.{◌≡◌, ◌<◌, ◌+◌, ◌++◌, ◌∷◌, [], IfOk, OnOk, Some, None, MatchOption, length, slice_get, pos};
 ghost use Rattle.rational.specs.Rational.{whole};
 ghost use Rattle.stl_syntax.specs.Formula.{HasChildrenBelow};
 ghost use Rattle.stl_syntax.specs.declared.node.Node.{Node as ANode};
@@ -15,6 +15,16 @@ use growing_sets::Stretch;
 use std::alloc::Global;
 use stl_syntax::{Formula, Node};
 
+/// The place of the left operand of an until or a since.
+fn left_operand(node: &Node) -> Option<u32>
+    ensures { result ≡ left_of node.now }
+{
+    match node {
+        Node::Until { left, .. } | Node::Since { left, .. } => Some(*left),
+        _ => None,
+    }
+}
+
 /// The sets of a node that is asked within the bounds.
 fn sets_of(alloc: Global, node: &Node, bounds: Stretch, below: &[Sets]) -> Sets
     requires { HasChildrenBelow (length below.now) node.now }
@@ -24,11 +34,19 @@ fn sets_of(alloc: Global, node: &Node, bounds: Stretch, below: &[Sets]) -> Sets
     ensures parts { MatchOption (left_of node.now) (result.parts ≡ None)
         (λ p. (l : ASets) → slice_get below.now p ≡ Some l → HasPartsFor bounds l result) }
 {
-    match node {
-        Node::Until { left, .. } => Sets::with_parts(alloc, bounds, &below[*left as usize]),
-        Node::Since { left, .. } => Sets::with_parts(alloc, bounds, &below[*left as usize]),
-        _ => Sets::new(alloc, bounds),
-    }
+    let Some(place) = left_operand(node) else {
+        return Sets::new(alloc, bounds);
+    };
+    let left = &below[place as usize];
+    Sets::with_parts(alloc, bounds, left)
+}
+
+/// Puts the sets of one more node behind the others.
+fn add_sets(all: &mut Vec<Sets>, sets: Sets) -> Result<(), Memory>
+    ensures { OnOk result (all.new.items ≡ all.old.items ++ sets ∷ []) }
+{
+    all.push(sets)?;
+    Ok(())
 }
 
 /// The sets of the node at a place, which is asked up to `top` ticks after the start.
@@ -50,9 +68,7 @@ pub(crate) fn all_sets(alloc: Global, formula: &Formula, start: u32) -> Result<V
     let mut all = Vec::new(alloc);
     for i in 0..formula.len() {
         let sets = make_at(alloc, formula, i, start, tops[i as usize], &all);
-        let Ok(()) = all.push(sets) else {
-            return Err(Memory);
-        };
+        add_sets(&mut all, sets)?;
     }
     Ok(all)
 }
@@ -63,9 +79,7 @@ pub(crate) fn shown_of(alloc: Global, live: &[Sets]) -> Result<Vec<Sets>, Memory
 {
     let mut all = Vec::new(alloc);
     for own in live {
-        let Ok(()) = all.push(Sets::new(alloc, own.no.bounds())) else {
-            return Err(Memory);
-        };
+        add_sets(&mut all, Sets::new(alloc, own.no.bounds()))?;
     }
     Ok(all)
 }

@@ -42,8 +42,7 @@ fn step_leaf(
         rest(own);
         return Ok(());
     }
-    step_atom(own, bound, node, next)?;
-    Ok(())
+    step_atom(own, bound, node, next)
 }
 
 /// Steps the atom at a place, which goes on from what it shows.

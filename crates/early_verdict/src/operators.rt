@@ -3,8 +3,8 @@ ghost use Rattle.std.specs.Prelude.{◌≡◌, ◌<◌, ◌^◌, OnOk, Option, S
 ghost use lib.IntN.{neg_ℤ};
 ghost use Rattle.stl_syntax.specs.Formula.{HasChildrenBelow};
 ghost use Rattle.early_verdict.specs.Looking.{IsAhead, IsBehind};
-ghost use Rattle.early_verdict.specs.Fitting.{AreEmpty, AreSetsTidy, HasStepped};
-ghost use Rattle.early_verdict.specs.Happening.{IsEntry};
+ghost use Rattle.early_verdict.specs.Fitting.{AreSetsTidy, HasStepped};
+ghost use Rattle.early_verdict.specs.Happening.{SetsCanTake};
 ghost use Rattle.early_verdict.specs.Standing.{AllTidy, GoesBy, IsOperator, LooksAhead, LooksBehind};
 
 use crate::connectives::{
@@ -70,12 +70,10 @@ fn at(below: &[Sets], place: u32) -> &Sets
 
 /// Steps the sets of an operator whose one operand is looked at ahead.
 fn step_ahead(own: &mut Sets, node: &Node, below: &[Sets], entry: &Entry) -> Result<(), Memory>
-    requires own { AreSetsTidy own.old }
+    requires own { SetsCanTake entry.now own.old }
     requires below { AllTidy below.now }
     requires children { HasChildrenBelow (length below.now) node.now }
     requires operator { LooksAhead node.now }
-    requires entry { IsEntry entry.now }
-    requires none { entry.now.first ≡ true → AreEmpty own.old }
     ensures stepped { OnOk result (HasStepped own.old own.new) }
     ensures fits { OnOk result (GoesBy node.now entry.now below.now own.old own.new) }
 {
@@ -106,12 +104,10 @@ fn step_ahead(own: &mut Sets, node: &Node, below: &[Sets], entry: &Entry) -> Res
 
 /// Steps the sets of an operator whose one operand is looked at behind.
 fn step_behind(own: &mut Sets, node: &Node, below: &[Sets], entry: &Entry) -> Result<(), Memory>
-    requires own { AreSetsTidy own.old }
+    requires own { SetsCanTake entry.now own.old }
     requires below { AllTidy below.now }
     requires children { HasChildrenBelow (length below.now) node.now }
     requires operator { LooksBehind node.now }
-    requires entry { IsEntry entry.now }
-    requires none { entry.now.first ≡ true → AreEmpty own.old }
     ensures stepped { OnOk result (HasStepped own.old own.new) }
     ensures fits { OnOk result (GoesBy node.now entry.now below.now own.old own.new) }
 {
@@ -147,12 +143,10 @@ pub(crate) fn step_operator(
     below: &[Sets],
     entry: &Entry,
 ) -> Result<(), Memory>
-    requires own { AreSetsTidy own.old }
+    requires own { SetsCanTake entry.now own.old }
     requires below { AllTidy below.now }
     requires children { HasChildrenBelow (length below.now) node.now }
     requires operator { IsOperator node.now }
-    requires entry { IsEntry entry.now }
-    requires none { entry.now.first ≡ true → AreEmpty own.old }
     ensures stepped { OnOk result (HasStepped own.old own.new) }
     ensures fits { OnOk result (GoesBy node.now entry.now below.now own.old own.new) }
 {

@@ -1,13 +1,14 @@
 //! One entry over the sets of until and since.
 ghost use Rattle.std.specs.Prelude.{◌≡◌, OnOk, Option, Some, ℕ, true, false, MatchOption, IsSome};
 ghost use Rattle.stl_syntax.specs.Trace.{Trace};
-ghost use Rattle.early_verdict.specs.Fitting.{Lists, lists_of, AreEmpty, AreSetsTidy, IsHoldingTidy, IsFailingTidy};
+ghost use Rattle.early_verdict.specs.Fitting.{Lists, lists_of, AreSetsTidy, IsHoldingTidy, IsFailingTidy};
 ghost use Rattle.early_verdict.specs.Fitting.{IsHoldingEmpty, IsFailingEmpty, GainsHolding, GainsFailing};
 ghost use Rattle.early_verdict.specs.Fitting.{HasFailBounds, HasStepped, KeepsHolding, KeepsFailing, UntilHolding};
 ghost use Rattle.early_verdict.specs.Fitting.{UntilFailing, SinceHolding, SinceFailing, UntilFits, SinceFits};
-ghost use Rattle.early_verdict.specs.Happening.{Had, Happens, IsEntry, Was};
+ghost use Rattle.early_verdict.specs.Happening.{FailingCanTake, Had, Happens, HoldingCanTake, SetsCanTake, Was};
 ghost use Rattle.early_verdict.specs.Looking.{IsAhead, IsBehind};
 
+use crate::atoms::rest;
 use crate::entry::Entry;
 use crate::looks::{each_ahead, each_open};
 use crate::sets::{Failing, Holding, Sets};
@@ -24,11 +25,9 @@ fn until_holds(
     up_to: &Window,
     entry: &Entry,
 ) -> Result<(), Memory>
-    requires own { IsHoldingTidy own.old }
+    requires own { HoldingCanTake entry.now own.old }
     requires left { AreSetsTidy p.now }
     requires right { AreSetsTidy q.now }
-    requires entry { IsEntry entry.now }
-    requires none { entry.now.first ≡ true → IsHoldingEmpty own.old }
     ensures tidy { OnOk result (IsHoldingTidy own.new) }
     ensures bounds { OnOk result (KeepsHolding own.old own.new) }
     ensures gains { OnOk result (GainsHolding own.old own.new) }
@@ -55,11 +54,9 @@ fn until_fails(
     up_to: &Window,
     entry: &Entry,
 ) -> Result<(), Memory>
-    requires own { IsFailingTidy own.old }
+    requires own { FailingCanTake entry.now own.old }
     requires left { AreSetsTidy p.now }
     requires right { AreSetsTidy q.now }
-    requires entry { IsEntry entry.now }
-    requires none { entry.now.first ≡ true → IsFailingEmpty own.old }
     ensures tidy { OnOk result (IsFailingTidy own.new) }
     ensures bounds { OnOk result (KeepsFailing own.old own.new) }
     ensures gains { OnOk result (GainsFailing own.old own.new) }
@@ -86,11 +83,9 @@ fn since_holds(
     down_to: &Window,
     entry: &Entry,
 ) -> Result<(), Memory>
-    requires own { IsHoldingTidy own.old }
+    requires own { HoldingCanTake entry.now own.old }
     requires left { AreSetsTidy p.now }
     requires right { AreSetsTidy q.now }
-    requires entry { IsEntry entry.now }
-    requires none { entry.now.first ≡ true → IsHoldingEmpty own.old }
     ensures tidy { OnOk result (IsHoldingTidy own.new) }
     ensures bounds { OnOk result (KeepsHolding own.old own.new) }
     ensures gains { OnOk result (GainsHolding own.old own.new) }
@@ -117,11 +112,9 @@ fn since_fails(
     down_to: &Window,
     entry: &Entry,
 ) -> Result<(), Memory>
-    requires own { IsFailingTidy own.old }
+    requires own { FailingCanTake entry.now own.old }
     requires left { AreSetsTidy p.now }
     requires right { AreSetsTidy q.now }
-    requires entry { IsEntry entry.now }
-    requires none { entry.now.first ≡ true → IsFailingEmpty own.old }
     ensures tidy { OnOk result (IsFailingTidy own.new) }
     ensures bounds { OnOk result (KeepsFailing own.old own.new) }
     ensures gains { OnOk result (GainsFailing own.old own.new) }
@@ -148,11 +141,9 @@ pub(crate) fn step_until(
     up_to: &Window,
     entry: &Entry,
 ) -> Result<(), Memory>
-    requires own { AreSetsTidy own.old }
+    requires own { SetsCanTake entry.now own.old }
     requires left { AreSetsTidy p.now }
     requires right { AreSetsTidy q.now }
-    requires entry { IsEntry entry.now }
-    requires none { entry.now.first ≡ true → AreEmpty own.old }
     ensures stepped { OnOk result (HasStepped own.old own.new) }
     ensures fits { OnOk result ((old : Option Trace) (tr : Trace) (p' q' : Lists) (a b : ℕ) → IsAhead w.now a b true true → IsAhead up_to.now 0 a true true
         → Happens entry.now old tr → Had old tr p' p.now → Had old tr q' q.now → HasFailBounds own.old p.now
@@ -160,8 +151,7 @@ pub(crate) fn step_until(
         → UntilFits entry.now.ended tr a b (lists_of p.now) (lists_of q.now) own.new) }
 {
     let Some(parts) = &mut own.parts else {
-        own.yes.rest();
-        own.no.rest();
+        rest(own);
         return Ok(());
     };
     until_holds(&mut parts.holding, p, q, w, up_to, entry)?;
@@ -180,11 +170,9 @@ pub(crate) fn step_since(
     down_to: &Window,
     entry: &Entry,
 ) -> Result<(), Memory>
-    requires own { AreSetsTidy own.old }
+    requires own { SetsCanTake entry.now own.old }
     requires left { AreSetsTidy p.now }
     requires right { AreSetsTidy q.now }
-    requires entry { IsEntry entry.now }
-    requires none { entry.now.first ≡ true → AreEmpty own.old }
     ensures stepped { OnOk result (HasStepped own.old own.new) }
     ensures fits { OnOk result ((old : Option Trace) (tr : Trace) (p' q' : Lists) (a : ℕ) (b : Option ℕ)
         → IsBehind w.now a b true true → IsBehind down_to.now 0 (Some a) true true
@@ -192,8 +180,7 @@ pub(crate) fn step_since(
         → IsSome own.old.parts → Was old (λ o. SinceFits o a b p' q') own.old → SinceFits tr a b (lists_of p.now) (lists_of q.now) own.new) }
 {
     let Some(parts) = &mut own.parts else {
-        own.yes.rest();
-        own.no.rest();
+        rest(own);
         return Ok(());
     };
     since_holds(&mut parts.holding, p, q, w, down_to, entry)?;

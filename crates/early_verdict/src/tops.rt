@@ -1,5 +1,5 @@
 //! How far after the start each node is ever asked, when the root is asked there alone.
-ghost use Rattle.std.specs.Prelude.{◌≡◌, ◌≢◌, ◌+◌, ◌<◌, ◌≤◌, ℕ, length, IfOk, Some, slice_get};
+ghost use Rattle.std.specs.Prelude.{◌≡◌, ◌≢◌, ◌+◌, ◌<◌, ◌≤◌, ℕ, length, replicate, IfOk, Some, slice_get};
 ghost use Rattle.stl_syntax.specs.Formula.{HasChildrenBelow};
 ghost use Rattle.early_verdict.specs.Standing.{AsksBelow, looks_ahead, top_at};
 ghost use Rattle.early_verdict.specs.Tops.{AreTops, AreUpTo, Rises, StayFrom, rest_reach};
@@ -61,30 +61,27 @@ fn raise_children(tops: &mut [u32], node: &Node, place: u32, to: u32)
     match node {
         Node::Const(_) | Node::Atom(_) => {}
         Node::Not(of) => raise(tops, *of, to),
-        Node::Eventually { of, .. } => raise(tops, *of, to),
-        Node::Always { of, .. } => raise(tops, *of, to),
-        Node::Once { of, .. } => raise(tops, *of, to),
-        Node::Historically { of, .. } => raise(tops, *of, to),
-        Node::And(left, right) => raise_both(tops, *left, *right, to),
-        Node::Or(left, right) => raise_both(tops, *left, *right, to),
-        Node::Implies(left, right) => raise_both(tops, *left, *right, to),
-        Node::Until { left, right, .. } => raise_both(tops, *left, *right, to),
-        Node::Since { left, right, .. } => raise_both(tops, *left, *right, to),
+        Node::Eventually { of, .. }
+        | Node::Always { of, .. }
+        | Node::Once { of, .. }
+        | Node::Historically { of, .. } => raise(tops, *of, to),
+        Node::And(left, right) | Node::Or(left, right) | Node::Implies(left, right) => {
+            raise_both(tops, *left, *right, to)
+        }
+        Node::Until { left, right, .. } | Node::Since { left, right, .. } => {
+            raise_both(tops, *left, *right, to)
+        }
     }
 }
 
 /// A list of `count` zeros.
 fn zeros(alloc: Global, count: u32) -> Result<Vec<u32>, Memory>
-    ensures count { IfOk result (λ v. length v.items ≡ count) }
-    ensures zero { IfOk result (λ v. AreUpTo 0 v.items) }
+    ensures { IfOk result (λ v. v.items ≡ replicate count 0) }
 {
-    let mut tops = Vec::new(alloc);
-    for _ in 0..count {
-        let Ok(()) = tops.push(0) else {
-            return Err(Memory);
-        };
+    match vec![in alloc; 0; count as usize] {
+        Ok(tops) => Ok(tops),
+        Err(_) => Err(Memory),
     }
-    Ok(tops)
 }
 
 /// The step of a node: where it is asked up to, its children are as far as it looks.

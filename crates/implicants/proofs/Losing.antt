@@ -1,5 +1,5 @@
 -- What is lost without a cell, of its atom and of nodes above.
-use Rattle.std.proofs.Common.{◌≡◌, ℕ, ◌<◌, ◌≤◌, ◌⊎◌, inl, inr, Bool, true, false, List, [], ◌∷◌, zero}
+use Rattle.std.proofs.Common.{◌≡◌, ℕ, ◌+◌, ◌<◌, ◌≤◌, ◌⊎◌, inl, inr, Bool, true, false, List, [], ◌∷◌, zero}
 use Rattle.std.proofs.Common.{suc, length, set, length-set, Some, refl, sym, ap, ◌∙◌, subst, arith}
 use Rattle.std.specs.Prelude.{slice_get, slice_index, slice_index_or, MatchBool, IsTrue}
 use Rattle.rational.specs.Time.{Rational, Interval, IsIn}
@@ -25,6 +25,22 @@ use Rattle.implicants.proofs.Strips.{one_cell}
 use Rattle.implicants.proofs.Certain.{in_run}
 use Rattle.implicants.proofs.Needing.{certain_covered}
 use Rattle.implicants.proofs.MarkedAreKept.{set_marked, marked_set, stays_one}
+
+-- what was so from the next place on is so from this one on
+next_later : {c k : ℕ} → suc c ≤ k → c ≤ k
+next_later h = omega (arith, h)
+
+-- a place behind one that is no earlier than c is not c
+not_behind : {c j k : ℕ} → k < j → j ≡ c → c ≤ k → ⊥
+not_behind h e l = omega (arith, h, e, l)
+
+-- a place is no earlier than itself
+le_refl : {n : ℕ} → n ≤ n
+le_refl = omega arith
+
+-- as far from one place as another is, it is the other
+same_offset : (from : ℕ) {a b p q : ℕ} → p ≡ from + a → q ≡ from + b → a ≡ b → q ≡ p
+same_offset from f g e = omega (arith, f, g, e)
 
 -- a place before the tried one, or a marked one behind it, stays
 still_there : (marks : List Bool) (c j : ℕ) → (j < c) ⊎ ((c < j) × (slice_index_or marks j false ≡ true)) → stays c marks j ≡ true
@@ -66,7 +82,7 @@ module _ (nodes : List Node) (tr : Trace) (all : List Item) (ends : List ℕ) (i
       let there = in_run nodes tr all c marks i (begins ends i) (slice_index ends i) run other.place other.item t other.at (other.node, other.inside) in
       let one : here.0 ≡ there.0 =
       one_cell nodes tr i run.times run.here here.0 there.0 run.cuts.rising run.cells here.2 there.2 inside other.inside in
-      let place : other.place ≡ p = let f = here.1 in let g = there.1 in omega (arith, f, g, one) in
+      let place : other.place ≡ p = same_offset (begins ends i) here.1 there.1 one in
       let so = so_of nodes tr i (cells run.times) run.here here.0 e run.cells here.2 in
       let says = certain_says h i a e t tree node so inside certain in
       let stay : stays c marks p ≡ true = still_there marks c p (subst (λ k. (k < c) ⊎ ((c < k) × (slice_index_or marks k false ≡ true))) place other.is) in
@@ -109,7 +125,7 @@ module _ (nodes : List Node) (tr : Trace) (all : List Item) where
         at = p.at;
         is = elim p.is [
           | inl h ↦ inl h
-          | inr h ↦ inr (h.0, elim (marked_set marks c p.place h.1) [ inl e ↦ absurd (let b = h.0 in omega (arith, b, e, l)) | inr m ↦ m ])
+          | inr h ↦ inr (h.0, elim (marked_set marks c p.place h.1) [ inl e ↦ absurd (not_behind h.0 e l) | inr m ↦ m ])
         ];
         node = p.node;
         inside = p.inside;
@@ -125,20 +141,19 @@ module _ (nodes : List Node) (tr : Trace) (all : List Item) where
       → PutsNeeded nodes tr all c marks new → PutsFrom nodes tr all left c old new
   puts_from_more left c old marks new l before (inl same) = subst (PutsFrom nodes tr all left c old) (sym same) (record {
     stay = before.stay;
-    only = λ k h. elim (before.only k h) [ inl m ↦ inl m | inr m ↦ inr ((let a = m.0 in omega (arith, a)), m.1, m.2) ];
+    only = λ k h. elim (before.only k h) [ inl m ↦ inl m | inr m ↦ inr (next_later m.0, m.1, m.2) ];
   })
   puts_from_more left c old marks new l before (inr (same, needed)) = subst (PutsFrom nodes tr all left c old) (sym same) (record {
     stay = λ k h. set_marked marks c k (before.stay k h);
     only = λ k h. elim (marked_set marks c k h) [
       | inl e ↦ inr (
-        (omega (arith, e)),
-        (omega (arith, e, l)),
-        subst (IsNeeded nodes tr all (set marks c true)) (sym e)
-            (needed_still marks c c (omega arith) needed),
+        subst (λ j. c ≤ j) (sym e) le_refl,
+        subst (λ j. j < left) (sym e) l,
+        subst (IsNeeded nodes tr all (set marks c true)) (sym e) (needed_still marks c c le_refl needed),
       )
       | inr m ↦ elim (before.only k m) [
         | inl o ↦ inl o
-        | inr n ↦ inr ((let a = n.0 in omega (arith, a)), n.1, needed_still marks c k (let a = n.0 in omega (arith, a)) n.2)
+        | inr n ↦ inr (next_later n.0, n.1, needed_still marks c k (next_later n.0) n.2)
       ]
     ];
   })

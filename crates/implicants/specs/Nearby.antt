@@ -1,8 +1,8 @@
 -- Chains that are no less certain than a node: the best but in some runs, in which the node is less.
 use Rattle.std.specs.Prelude.{◌≡◌, ◌⊎◌, ℕ, pos, Bool, true, false, List, Some, slice_get}
 use Rattle.rational.specs.Time.{Rational, IsIn, whole}
-use Rattle.rational.specs.Extended.{Extended, Passes, ◌≤ᵉ◌}
-use Rattle.rational.specs.Places.{After, AtMost, Before, Same, Upto, begins, ends}
+use Rattle.rational.specs.Extended.{Extended, ◌≤ᵉ◌}
+use Rattle.rational.specs.Places.{AtMost, Before, Same, begins, ends}
 use Rattle.frac128.specs.Cuts.{place}
 use Rattle.frac128.specs.Spans.{interval}
 use Rattle.frac128.specs.declared.cut.Cut.{Cut}

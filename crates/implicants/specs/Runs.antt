@@ -1,5 +1,5 @@
 -- Where the cells of each atom stand among all cells.
-use Rattle.std.specs.Prelude.{◌≡◌, ℕ, zero, suc, ◌+◌, ◌<◌, List, [], ◌∷◌, ◌++◌, length, take, Some, slice_get, slice_index}
+use Rattle.std.specs.Prelude.{◌≡◌, ℕ, zero, suc, ◌+◌, ◌<◌, Bool, List, [], ◌∷◌, ◌++◌, length, take, Some, slice_get, slice_index}
 use Rattle.rational.specs.Time.{Rational, ◌≤ʳ◌, ◌<ʳ◌}
 use Rattle.pl_signal.specs.declared.knot.Knot.{Knot}
 use Rattle.pl_signal.specs.Knots.{time}
@@ -37,6 +37,12 @@ pub record AreAllCells (nodes : List Node) (tr : Trace) (items : List Item) (end
   pub cells : AllCells nodes tr 0 nodes items
   pub count : length ends ≡ length nodes
   pub runs : (i : ℕ) (a : Atom) → slice_get nodes i ≡ Some (Leaf a) → IsRun nodes tr items i (begins ends i) (slice_index ends i)
+
+-- marks of the cells of all atoms, over a trace that has rows
+pub record AreMarksOf (nodes : List Node) (tr : Trace) (items : List Item) (ends : List ℕ) (marks : List Bool) : Type 0 where
+  pub some : 0 < length tr.rows
+  pub cells : AreAllCells nodes tr items ends
+  pub count : length marks ≡ length items
 
 -- t is between the knot at a place and the one behind it, or the time of either
 pub record IsUpTo (x : List (Knot Truth)) (place : ℕ) (t : Rational) : Type 0 where

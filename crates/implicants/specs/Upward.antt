@@ -2,7 +2,7 @@
 use Rattle.std.specs.Prelude.{◌≡◌, ◌⊎◌, ◌<◌, ◌∷◌, ◌++◌, ℕ, Bool, true, false, List, [], Option}
 use Rattle.std.specs.declared.vec.Vec.{Vec}
 use Rattle.std.specs.declared.alloc.Global.{Global}
-use Rattle.std.specs.Prelude.{Some, slice_get, slice_set, slice_index_or, MatchBool, MatchOption}
+use Rattle.std.specs.Prelude.{Some, length, slice_get, slice_set, slice_index_or, MatchBool, MatchOption}
 use Rattle.rational.specs.Time.{Rational, IsIn}
 use Rattle.rational.specs.Extended.{Extended}
 use Rattle.rational.specs.Places.{After, Place, Same, Upto}
@@ -121,6 +121,11 @@ AreLostFrom nodes tr all marks c signs each =
     (some : List Item) → StayFrom all marks c some → (r : Run) → IsAmongEach each r → (t : Rational) → IsIn (interval r.on) t
     → ¬ Certain (sign_at signs r.of) (subformula nodes r.of) some tr t
 
+-- each node has a sign and a list of runs
+pub record HasRuns (nodes : List Node) (signs : List Bool) (each : List (Vec Run Global)) : Type 0 where
+  pub count : length signs ≡ length nodes
+  pub lists : length each ≡ length nodes
+
 -- what is the same for all nodes on the way up from an atom
 pub record IsGround (nodes : List Node) (tr : Trace) (all : List Item) (marks : List Bool) (c : ℕ) (signs : List Bool)
     (each : List (Vec Run Global)) : Type 0 where
@@ -136,6 +141,11 @@ module _ (shape : ShapeOf Kleene) where
   -- so is each of them
   abbrev pub AreWhole : Trace → List (Chain Kleene) → Type 0
   AreWhole tr xs = (k : ℕ) (x : Chain Kleene) → slice_get xs k ≡ Some x → IsWhole tr x
+
+  -- each node has one
+  pub record HasChains (nodes : List Node) (tr : Trace) (xs : List (Chain Kleene)) : Type 0 where
+    pub count : length xs ≡ length nodes
+    pub whole : AreWhole tr xs
 
   -- wherever the node is certainly what its sign says without the cell at place c, the chain is the best
   abbrev pub HasBest : List Node → Trace → List Item → List Bool → ℕ → List Bool → ℕ → Chain Kleene → Type 0

@@ -5,7 +5,7 @@ ghost use Rattle.pl_signal.specs.Knots.{stop};
 ghost use Rattle.stl_syntax.specs.declared.atom.Atom.{Atom};
 ghost use Rattle.stl_syntax.specs.declared.items.Item.{Item as Cell};
 ghost use Rattle.stl_syntax.specs.declared.node.Node.TheVariants.{Atom as Leaf};
-ghost use Rattle.implicants.specs.Runs.{begins, AreAllCells};
+ghost use Rattle.implicants.specs.Runs.{begins, AreMarksOf};
 ghost use Rattle.implicants.specs.Keeping.{remaining, TellsFailure};
 ghost use Rattle.implicants.specs.Needs.{AreCertainties};
 ghost use Rattle.stl_syntax.specs.declared.items.Item.{Item};
@@ -130,9 +130,7 @@ fn atom_of(
     left: usize,
     kept: &[bool],
 ) -> Result<Signal<Kleene>, Memory>
-    requires some { 0 < length trace.now.rows }
-    requires cells { AreAllCells formula.now.nodes trace.now cells.now.all.items cells.now.ends.items }
-    requires marks { length kept.now ≡ length cells.now.all.items }
+    requires given { AreMarksOf formula.now.nodes trace.now cells.now.all.items cells.now.ends.items kept.now }
     requires atom { (a : Atom) × (slice_get formula.now.nodes i ≡ Some (Leaf a)) }
     ensures { IfOk result (IsAtomCertainty ⟦<Kleene as Shape>⟧ formula.now.nodes trace.now
         (remaining left kept.now cells.now.all.items) i) }
@@ -166,9 +164,7 @@ fn add_atom(
     kept: &[bool],
     atoms: &mut Atoms<Kleene>,
 ) -> Result<(), Memory>
-    requires some { 0 < length trace.now.rows }
-    requires cells { AreAllCells formula.now.nodes trace.now cells.now.all.items cells.now.ends.items }
-    requires marks { length kept.now ≡ length cells.now.all.items }
+    requires given { AreMarksOf formula.now.nodes trace.now cells.now.all.items cells.now.ends.items kept.now }
     requires inside { i < length formula.now.nodes }
     requires before { AreAtomCertainties ⟦<Kleene as Shape>⟧ formula.now.nodes trace.now
         (remaining left kept.now cells.now.all.items) i atoms.old }
@@ -193,9 +189,7 @@ fn atoms_of(
     left: usize,
     kept: &[bool],
 ) -> Result<Atoms<Kleene>, Memory>
-    requires some { 0 < length trace.now.rows }
-    requires cells { AreAllCells formula.now.nodes trace.now cells.now.all.items cells.now.ends.items }
-    requires marks { length kept.now ≡ length cells.now.all.items }
+    requires { AreMarksOf formula.now.nodes trace.now cells.now.all.items cells.now.ends.items kept.now }
     ensures { IfOk result (AreAtomCertainties ⟦<Kleene as Shape>⟧ formula.now.nodes trace.now
         (remaining left kept.now cells.now.all.items) (length formula.now.nodes)) }
 {
@@ -226,9 +220,7 @@ pub(crate) fn certainties<L: Ledger>(
     kept: &[bool],
     steps: &mut Steps<L>,
 ) -> Result<Chains<Kleene>, Memory>
-    requires some { 0 < length trace.now.rows }
-    requires cells { AreAllCells formula.now.nodes trace.now cells.now.all.items cells.now.ends.items }
-    requires marks { length kept.now ≡ length cells.now.all.items }
+    requires { AreMarksOf formula.now.nodes trace.now cells.now.all.items cells.now.ends.items kept.now }
     ensures told { IfOk result (AreCertainties ⟦<Kleene as Shape>⟧ formula.now.nodes trace.now (remaining left kept.now cells.now.all.items)) }
     ensures closed { IfOk result (AreClosed ⟦<Kleene as Shape>⟧) }
     ensures steps { OnOk result (steps.new ≡ steps.old + 1) }

@@ -1,6 +1,6 @@
 //! Cells that are needed, and of which values and times that is asked.
-ghost use Rattle.std.specs.Prelude.{◌≡◌, ◌<◌, ◌≤◌, false, length, Some, IsTrue, IfOk, IfSome};
-ghost use Rattle.implicants.specs.Runs.{AreAllCells};
+ghost use Rattle.std.specs.Prelude.{◌≡◌, ◌≤◌, false, length, Some, IsTrue, IfOk, IfSome};
+ghost use Rattle.implicants.specs.Runs.{AreMarksOf};
 ghost use Rattle.implicants.specs.Keeping.{remaining};
 ghost use Rattle.implicants.specs.Needs.{AreToldOfMore, MarksNeeded};
 
@@ -46,10 +46,8 @@ pub(crate) fn marked_anew(
     tries: usize,
     kept: &[bool],
 ) -> Result<Vec<bool>, Memory>
-    requires some { 0 < length trace.now.rows }
-    requires cells { AreAllCells formula.now.nodes trace.now cells.now.all.items cells.now.ends.items }
+    requires given { AreMarksOf formula.now.nodes trace.now cells.now.all.items cells.now.ends.items kept.now }
     requires left { left ≤ length cells.now.all.items }
-    requires kept { length kept.now ≡ length cells.now.all.items }
     requires told { IfSome nodes.now (AreToldOfMore ⟦<Kleene as Shape>⟧ formula.now.nodes trace.now
         (remaining left kept.now cells.now.all.items)) }
     ensures count { IfOk result (λ marks. length marks.items ≡ length kept.now) }

@@ -10,14 +10,14 @@ ghost use Rattle.stl_syntax.specs.declared.node.Node.{Node as ANode};
 ghost use Rattle.stl_syntax.specs.declared.node.Node.TheVariants.{Atom as Leaf};
 ghost use Rattle.offline_eval.specs.Forms.{IsClosed, of_pieces};
 ghost use Rattle.offline_eval.specs.Making.{MayMeet};
-ghost use Rattle.implicants.specs.Runs.{AreAllCells};
+ghost use Rattle.implicants.specs.Runs.{AreMarksOf};
 ghost use Rattle.implicants.specs.Keeping.{remaining};
 ghost use Rattle.implicants.specs.Needs.{AreToldOfMore, IsNeeded, IsOn, MarksNeeded};
 ghost use Rattle.implicants.specs.Signs.{sign_at, AreSigns};
 ghost use Rattle.implicants.specs.Upward.{AddsShort, AreLost, AreLostEach, AreLostFrom, AreOperands, AreWhole, HasBest, HasBestIn, IsBestOf};
 ghost use Rattle.std.specs.declared.vec.Vec.{Vec};
 ghost use Rattle.std.specs.declared.alloc.Global.{Global};
-ghost use Rattle.implicants.specs.Upward.{IsGround, IsWhole, PutsNeeded, Settles, SettlesRun};
+ghost use Rattle.implicants.specs.Upward.{HasChains, HasRuns, IsGround, IsWhole, PutsNeeded, Settles, SettlesRun};
 
 use crate::cells::Cells;
 use crate::gone::{cell_at, chain_without, runs_of_cells};
@@ -215,13 +215,11 @@ fn put_lost(
     gained: &mut Vec<Run>,
 ) -> Result<Option<Region>, Memory>
     requires some { 0 < length trace.now.rows }
-    requires inside { k < length ground.now.signs.items }
-    requires place { k < length done.old.items }
-    requires runs { k < length runs.now }
+    requires inside { k < length formula.now.nodes }
+    requires runs { HasRuns formula.now.nodes ground.now.signs.items runs.now }
     requires made { IsWhole ⟦<Kleene as Shape>⟧ trace.now made.now }
-    requires whole { AreWhole ⟦<Kleene as Shape>⟧ trace.now done.old.items }
-    ensures count { length done.new.items ≡ length done.old.items }
-    ensures whole { AreWhole ⟦<Kleene as Shape>⟧ trace.now done.new.items }
+    requires chains { HasChains ⟦<Kleene as Shape>⟧ formula.now.nodes trace.now done.old.items }
+    ensures chains { HasChains ⟦<Kleene as Shape>⟧ formula.now.nodes trace.now done.new.items }
     ensures best { IfOk result (λ o. IfSome o (λ _. (nodes : List ANode) (all : List Item) (marks : List Bool) (c : ℕ)
         → AreLostEach nodes trace.now all marks c ground.now.signs.items runs.now
         → HasBest ⟦<Kleene as Shape>⟧ nodes trace.now all marks c ground.now.signs.items k made.now
@@ -351,12 +349,9 @@ fn taken_on(
 ) -> Result<Option<Region>, Memory>
     requires some { 0 < length trace.now.rows }
     requires inside { j < length formula.now.nodes }
-    requires signs { length ground.now.signs.items ≡ length formula.now.nodes }
-    requires runs { length runs.now ≡ length formula.now.nodes }
-    requires count { length done.old.items ≡ length formula.now.nodes }
-    requires whole { AreWhole ⟦<Kleene as Shape>⟧ trace.now done.old.items }
-    ensures count { length done.new.items ≡ length done.old.items }
-    ensures whole { AreWhole ⟦<Kleene as Shape>⟧ trace.now done.new.items }
+    requires runs { HasRuns formula.now.nodes ground.now.signs.items runs.now }
+    requires chains { HasChains ⟦<Kleene as Shape>⟧ formula.now.nodes trace.now done.old.items }
+    ensures chains { HasChains ⟦<Kleene as Shape>⟧ formula.now.nodes trace.now done.new.items }
     ensures best { IfOk result (λ o. IfSome o (λ _. (all : List Item) (marks : List Bool) (c : ℕ)
         → IsGround formula.now.nodes trace.now all marks c ground.now.signs.items runs.now
         → HasBestIn ⟦<Kleene as Shape>⟧ formula.now.nodes trace.now all marks c ground.now.signs.items k done.old.items
@@ -419,12 +414,9 @@ fn loses_root(
 ) -> Result<bool, Memory>
     requires some { 0 < length trace.now.rows }
     requires inside { from < length formula.now.nodes }
-    requires signs { length ground.now.signs.items ≡ length formula.now.nodes }
-    requires runs { length runs.now ≡ length formula.now.nodes }
-    requires count { length done.old.items ≡ length formula.now.nodes }
-    requires whole { AreWhole ⟦<Kleene as Shape>⟧ trace.now done.old.items }
-    ensures count { length done.new.items ≡ length done.old.items }
-    ensures whole { AreWhole ⟦<Kleene as Shape>⟧ trace.now done.new.items }
+    requires runs { HasRuns formula.now.nodes ground.now.signs.items runs.now }
+    requires chains { HasChains ⟦<Kleene as Shape>⟧ formula.now.nodes trace.now done.old.items }
+    ensures chains { HasChains ⟦<Kleene as Shape>⟧ formula.now.nodes trace.now done.new.items }
     ensures needed { IfOk result (λ b. IsTrue b → (all : List Item) (marks : List Bool) (c : ℕ)
         → IsGround formula.now.nodes trace.now all marks c ground.now.signs.items runs.now
         → HasBestIn ⟦<Kleene as Shape>⟧ formula.now.nodes trace.now all marks c ground.now.signs.items from done.old.items
@@ -490,9 +482,8 @@ fn add_chain(done: &mut Vec<Pieces<Kleene>>, chain: Pieces<Kleene>) -> Result<()
 
 /// A chain for each node, which says nothing of it yet.
 fn blank(alloc: Global, formula: &Formula, trace: &Trace) -> Result<Vec<Pieces<Kleene>>, Memory>
-    requires some { 0 < length trace.now.rows }
-    ensures count { IfOk result (λ xs. length xs.items ≡ length formula.now.nodes) }
-    ensures whole { IfOk result (λ xs. AreWhole ⟦<Kleene as Shape>⟧ trace.now xs.items) }
+    requires { 0 < length trace.now.rows }
+    ensures { IfOk result (λ xs. HasChains ⟦<Kleene as Shape>⟧ formula.now.nodes trace.now xs.items) }
 {
     let none: Vec<Run> = Vec::new(alloc);
     let from = first(trace);
@@ -524,18 +515,14 @@ fn is_needed(
     done: &mut Vec<Pieces<Kleene>>,
     gained: &mut Vec<Run>,
 ) -> Result<bool, Memory>
-    requires some { 0 < length trace.now.rows }
-    requires cells { AreAllCells formula.now.nodes trace.now cells.now.all.items cells.now.ends.items }
+    requires given { AreMarksOf formula.now.nodes trace.now cells.now.all.items cells.now.ends.items marks.now }
     requires inside { c < length cells.now.all.items }
-    requires marks { length marks.now ≡ length cells.now.all.items }
     requires signs { AreSigns formula.now.nodes ground.now.signs.items }
     requires runs { length runs.now ≡ length formula.now.nodes }
     requires lost { AreLostEach formula.now.nodes trace.now cells.now.all.items marks.now c ground.now.signs.items runs.now }
     requires gained { AreLost formula.now.nodes trace.now cells.now.all.items marks.now c ground.now.signs.items gained.old.items }
-    requires count { length done.old.items ≡ length formula.now.nodes }
-    requires whole { AreWhole ⟦<Kleene as Shape>⟧ trace.now done.old.items }
-    ensures count { length done.new.items ≡ length done.old.items }
-    ensures whole { AreWhole ⟦<Kleene as Shape>⟧ trace.now done.new.items }
+    requires chains { HasChains ⟦<Kleene as Shape>⟧ formula.now.nodes trace.now done.old.items }
+    ensures chains { HasChains ⟦<Kleene as Shape>⟧ formula.now.nodes trace.now done.new.items }
     ensures needed { IfOk result (λ b. IsTrue b → IsNeeded formula.now.nodes trace.now cells.now.all.items marks.now c) }
     ensures gained { OnOk result (AreLost formula.now.nodes trace.now cells.now.all.items marks.now c ground.now.signs.items gained.new.items) }
 {
@@ -591,17 +578,13 @@ fn mark_lost(
     done: &mut Vec<Pieces<Kleene>>,
     marks: &mut Vec<bool>,
 ) -> Result<(), Memory>
-    requires some { 0 < length trace.now.rows }
-    requires cells { AreAllCells formula.now.nodes trace.now cells.now.all.items cells.now.ends.items }
+    requires given { AreMarksOf formula.now.nodes trace.now cells.now.all.items cells.now.ends.items marks.old.items }
     requires inside { c < length cells.now.all.items }
-    requires marks { length marks.old.items ≡ length cells.now.all.items }
     requires signs { AreSigns formula.now.nodes ground.now.signs.items }
     requires runs { length runs.old.items ≡ length formula.now.nodes }
     requires lost { AreLostFrom formula.now.nodes trace.now cells.now.all.items marks.old.items (c + 1) ground.now.signs.items runs.old.items }
-    requires count { length done.old.items ≡ length formula.now.nodes }
-    requires whole { AreWhole ⟦<Kleene as Shape>⟧ trace.now done.old.items }
-    ensures count { length done.new.items ≡ length done.old.items }
-    ensures whole { AreWhole ⟦<Kleene as Shape>⟧ trace.now done.new.items }
+    requires chains { HasChains ⟦<Kleene as Shape>⟧ formula.now.nodes trace.now done.old.items }
+    ensures chains { HasChains ⟦<Kleene as Shape>⟧ formula.now.nodes trace.now done.new.items }
     ensures runs { length runs.new.items ≡ length runs.old.items }
     ensures lost { OnOk result
         (AreLostFrom formula.now.nodes trace.now cells.now.all.items marks.new.items c ground.now.signs.items runs.new.items) }
@@ -670,10 +653,8 @@ fn mark_from(
     tries: usize,
     marks: &mut Vec<bool>,
 ) -> Result<(), Memory>
-    requires some { 0 < length trace.now.rows }
-    requires cells { AreAllCells formula.now.nodes trace.now cells.now.all.items cells.now.ends.items }
+    requires given { AreMarksOf formula.now.nodes trace.now cells.now.all.items cells.now.ends.items marks.old.items }
     requires left { left ≤ length cells.now.all.items }
-    requires marks { length marks.old.items ≡ length cells.now.all.items }
     requires signs { AreSigns formula.now.nodes ground.now.signs.items }
     requires runs { length runs.items ≡ length formula.now.nodes }
     requires lost { AreLostFrom formula.now.nodes trace.now cells.now.all.items marks.old.items left ground.now.signs.items runs.items }
@@ -706,10 +687,8 @@ pub(crate) fn mark_upward(
     tries: usize,
     marks: &mut Vec<bool>,
 ) -> Result<(), Memory>
-    requires some { 0 < length trace.now.rows }
-    requires cells { AreAllCells formula.now.nodes trace.now cells.now.all.items cells.now.ends.items }
+    requires given { AreMarksOf formula.now.nodes trace.now cells.now.all.items cells.now.ends.items marks.old.items }
     requires left { left ≤ length cells.now.all.items }
-    requires marks { length marks.old.items ≡ length cells.now.all.items }
     requires told { IfSome nodes.now (AreToldOfMore ⟦<Kleene as Shape>⟧ formula.now.nodes trace.now
         (remaining left marks.old.items cells.now.all.items)) }
     ensures count { OnOk result (length marks.new.items ≡ length marks.old.items) }

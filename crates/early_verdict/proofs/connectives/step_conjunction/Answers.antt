@@ -1,6 +1,6 @@
 use Rattle.std.proofs.Common.{◌⊎◌, inl, inr}
 use Rattle.growing_sets.specs.Spans.{IsOn}
-use Rattle.early_verdict.proofs.SetsTell.{was_said, none_before}
+use Rattle.early_verdict.proofs.SetsTell.{was_said, none_before, stepped_by}
 use Rattle.early_verdict.proofs.connectives.step_conjunction.Goals as goal
 
 pub returns-clause-fits : goal.returns-clause-fits
@@ -12,3 +12,15 @@ returns-clause-fits c = λ old tr p q h k w.
       yes = c.in_ok-both.ensures.tells p.yes q.yes h.yes.gains k.yes.gains was.yes;
       no = c.in_ok-either.ensures.tells p.no q.no h.no.gains k.no.gains was.no;
     }
+
+pub both-requires : goal.both-requires
+both-requires c = record { own = c.requires.own.yes; first = c.requires.first.yes; second = c.requires.second.yes }
+
+pub either-requires : goal.either-requires
+either-requires c = c.requires.own.no
+
+pub returns-clause-stepped : goal.returns-clause-stepped
+returns-clause-stepped c =
+    let y = c.in_ok-both.ensures in
+    let n = c.in_ok-either.ensures in
+    stepped_by c.args.own.now c.both.new.self c.either.new.self c.requires.own (y.tidy, y.bounds, y.gains) (n.tidy, n.bounds, n.gains)

@@ -1,6 +1,6 @@
 use Rattle.std.proofs.Common.{◌⊎◌, inl, inr}
 use Rattle.growing_sets.specs.Spans.{IsOn}
-use Rattle.early_verdict.proofs.SetsTell.{was_said, none_before}
+use Rattle.early_verdict.proofs.SetsTell.{was_said, none_before, stepped_by}
 use Rattle.early_verdict.proofs.connectives.step_implication.Goals as goal
 
 pub returns-clause-fits : goal.returns-clause-fits
@@ -12,3 +12,15 @@ returns-clause-fits c = λ old tr p q h k w.
       yes = c.in_ok-either.ensures.tells p.no q.yes h.no.gains k.yes.gains was.yes;
       no = c.in_ok-both.ensures.tells p.yes q.no h.yes.gains k.no.gains was.no;
     }
+
+pub either-requires : goal.either-requires
+either-requires c = c.requires.own.yes
+
+pub both-requires : goal.both-requires
+both-requires c = record { own = c.requires.own.no; first = c.requires.first.yes; second = c.requires.second.no }
+
+pub returns-clause-stepped : goal.returns-clause-stepped
+returns-clause-stepped c =
+    let y = c.in_ok-either.ensures in
+    let n = c.in_ok-both.ensures in
+    stepped_by c.args.own.now c.either.new.self c.both.new.self c.requires.own (y.tidy, y.bounds, y.gains) (n.tidy, n.bounds, n.gains)

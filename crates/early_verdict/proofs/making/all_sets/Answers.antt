@@ -28,7 +28,7 @@ loop-i-preserved c =
     (subst (λ t. IsMade from t n all more) top
     (subst (λ xs. IsMade from c.index.result.now n xs more) c.deref.ensures.value
     (c.make_at-sets.ensures n (subst (λ k. slice_get nodes k ≡ Some n) count e)))) in
-    let pushed : c.push.new.self.items ≡ all ++ more ∷ [] = c.in-Ok.ensures.items in
+    let pushed : c.add_sets.new.all.items ≡ all ++ more ∷ [] = c.in_ok-add_sets.ensures in
     record {
       count = subst (λ xs. length xs ≡ c.loop-i.i + 1) (sym pushed) (length-append all (more ∷ []) ∙ ap (λ k. k + 1) count);
       made = subst (λ (xs : List Sets). (j : ℕ) (n : Node) (s : Sets) → slice_get nodes j ≡ Some n → slice_get xs j ≡ Some s

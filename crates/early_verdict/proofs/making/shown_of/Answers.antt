@@ -21,7 +21,7 @@ loop-own-preserved c =
     let all = c.loop-own.all.items in
     let more = c.new.result in
     let own = c.own-item.result in
-    let pushed : c.push.new.self.items ≡ all ++ more ∷ [] = c.in-Ok.ensures.items in
+    let pushed : c.add_sets.new.all.items ≡ all ++ more ∷ [] = c.in_ok-add_sets.ensures in
     let read = slice_get_read c.args.live.now (length c.args.live.now) c.loop-own.own-index own refl c.loop-own-test.true c.own-item.is in
     record {
       count = subst (λ xs. length xs ≡ c.loop-own.own-index + 1) (sym pushed) (length-append all (more ∷ []) ∙ ap (λ k. k + 1) c.loop-own.invariant.count);

@@ -3,22 +3,16 @@ use Rattle.stl_syntax.specs.Formula.{HasChildrenBelow}
 use Rattle.early_verdict.proofs.Splitting.{at_split, changes_at, front_tidy, length_front}
 use Rattle.early_verdict.proofs.net.step_at.Goals as goal
 
-pub step_operator-requires-clause-own : goal.step_operator-requires-clause-own
-step_operator-requires-clause-own c =
+pub step_operator-requires : goal.step_operator-requires
+step_operator-requires c =
     let f = c.split_at_mut-from in
-    c.requires.tidy _ (at_split c.args.live.now f.result.1.now c.args.i c.index-from-0.result f.ensures.back c.requires.within)
-
-pub step_operator-requires-clause-below : goal.step_operator-requires-clause-below
-step_operator-requires-clause-below c = front_tidy c.args.shown.now (take c.args.i c.args.shown.now) c.args.i refl c.requires.shown_tidy
-
-pub step_operator-requires-clause-children : goal.step_operator-requires-clause-children
-step_operator-requires-clause-children c = subst (λ k. HasChildrenBelow k c.args.node.now)
-    (sym (length_front c.args.shown.now c.args.i c.requires.shown_within)) c.requires.children
-
-pub step_operator-requires-clause-none : goal.step_operator-requires-clause-none
-step_operator-requires-clause-none c = λ first.
-    let f = c.split_at_mut-from in
-    c.requires.none first _ (at_split c.args.live.now f.result.1.now c.args.i c.index-from-0.result f.ensures.back c.requires.within)
+    let at = at_split c.args.live.now f.result.1.now c.args.i c.index-from-0.result f.ensures.back c.requires.within in
+    record {
+      own = record { tidy = c.requires.tidy _ at; entry = c.requires.entry; none = λ first. c.requires.none first _ at };
+      below = front_tidy c.args.shown.now (take c.args.i c.args.shown.now) c.args.i refl c.requires.shown_tidy;
+      children = subst (λ k. HasChildrenBelow k c.args.node.now) (sym (length_front c.args.shown.now c.args.i c.requires.shown_within)) c.requires.children;
+      operator = c.requires.operator;
+    }
 
 pub returns : goal.returns
 returns c =

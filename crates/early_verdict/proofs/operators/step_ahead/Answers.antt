@@ -34,7 +34,7 @@ at-requires c = record {
 }
 
 pub step_eventually-requires : goal.step_eventually-requires
-step_eventually-requires c = record { own = c.requires.own; operand = c.at.ensures.tidy; entry = c.requires.entry; none = c.requires.none }
+step_eventually-requires c = record { own = c.requires.own; operand = c.at.ensures.tidy }
 
 pub at-requires-in-Always : goal.at-requires-in-Always
 at-requires-in-Always c = record {
@@ -43,4 +43,4 @@ at-requires-in-Always c = record {
 }
 
 pub step_always-requires : goal.step_always-requires
-step_always-requires c = record { own = c.requires.own; operand = c.at-in-Always.ensures.tidy; entry = c.requires.entry; none = c.requires.none }
+step_always-requires c = record { own = c.requires.own; operand = c.at-in-Always.ensures.tidy }

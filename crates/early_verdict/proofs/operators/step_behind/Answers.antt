@@ -32,7 +32,7 @@ at-requires c = record {
 }
 
 pub step_once-requires : goal.step_once-requires
-step_once-requires c = record { own = c.requires.own; operand = c.at.ensures.tidy; entry = c.requires.entry; none = c.requires.none }
+step_once-requires c = record { own = c.requires.own; operand = c.at.ensures.tidy }
 
 pub at-requires-in-Historically : goal.at-requires-in-Historically
 at-requires-in-Historically c = record {
@@ -41,4 +41,4 @@ at-requires-in-Historically c = record {
 }
 
 pub step_historically-requires : goal.step_historically-requires
-step_historically-requires c = record { own = c.requires.own; operand = c.at-in-Historically.ensures.tidy; entry = c.requires.entry; none = c.requires.none }
+step_historically-requires c = record { own = c.requires.own; operand = c.at-in-Historically.ensures.tidy }

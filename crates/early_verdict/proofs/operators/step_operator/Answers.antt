@@ -130,24 +130,22 @@ at-requires-in-Since-2 c =
     record { within = k.1; tidy = c.requires.below }
 
 pub step_negation-requires : goal.step_negation-requires
-step_negation-requires c = c.requires.own
+step_negation-requires c = c.requires.own.tidy
 
 pub step_conjunction-requires : goal.step_conjunction-requires
-step_conjunction-requires c = record { own = c.requires.own; first = c.at-in-And.ensures.tidy; second = c.at-in-And-2.ensures.tidy }
+step_conjunction-requires c = record { own = c.requires.own.tidy; first = c.at-in-And.ensures.tidy; second = c.at-in-And-2.ensures.tidy }
 
 pub step_disjunction-requires : goal.step_disjunction-requires
-step_disjunction-requires c = record { own = c.requires.own; first = c.at-in-Or.ensures.tidy; second = c.at-in-Or-2.ensures.tidy }
+step_disjunction-requires c = record { own = c.requires.own.tidy; first = c.at-in-Or.ensures.tidy; second = c.at-in-Or-2.ensures.tidy }
 
 pub step_implication-requires : goal.step_implication-requires
-step_implication-requires c = record { own = c.requires.own; first = c.at-in-Implies.ensures.tidy; second = c.at-in-Implies-2.ensures.tidy }
+step_implication-requires c = record { own = c.requires.own.tidy; first = c.at-in-Implies.ensures.tidy; second = c.at-in-Implies-2.ensures.tidy }
 
 pub step_until-requires : goal.step_until-requires
 step_until-requires c = record {
   own = c.requires.own;
   left = c.at-in-Until.ensures.tidy;
   right = c.at-in-Until-2.ensures.tidy;
-  entry = c.requires.entry;
-  none = c.requires.none;
 }
 
 pub step_since-requires : goal.step_since-requires
@@ -155,6 +153,25 @@ step_since-requires c = record {
   own = c.requires.own;
   left = c.at-in-Since.ensures.tidy;
   right = c.at-in-Since-2.ensures.tidy;
-  entry = c.requires.entry;
-  none = c.requires.none;
 }
+
+pub step_constant-requires : goal.step_constant-requires
+step_constant-requires c = c.requires.own.tidy
+
+pub step_ahead-requires-clause-own : goal.step_ahead-requires-clause-own
+step_ahead-requires-clause-own c = c.requires.own
+
+pub step_ahead-requires-clause-below : goal.step_ahead-requires-clause-below
+step_ahead-requires-clause-below c = c.requires.below
+
+pub step_ahead-requires-clause-children : goal.step_ahead-requires-clause-children
+step_ahead-requires-clause-children c = c.requires.children
+
+pub step_behind-requires-clause-own : goal.step_behind-requires-clause-own
+step_behind-requires-clause-own c = c.requires.own
+
+pub step_behind-requires-clause-below : goal.step_behind-requires-clause-below
+step_behind-requires-clause-below c = c.requires.below
+
+pub step_behind-requires-clause-children : goal.step_behind-requires-clause-children
+step_behind-requires-clause-children c = c.requires.children

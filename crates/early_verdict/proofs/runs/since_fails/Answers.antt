@@ -27,3 +27,18 @@ returns-clause-fits c = λ old tr p q a b is is_down h hp hq same_fail same_stop
             from = λ u l. hp.no.from u (subst (λ s. Lies s u) (c.in_ok-reach_back.ensures.bounds ∙ same_stop) l);
           }) had.broken (c.in_ok-some.ensures.tells x.stop.spans.items c.in_ok-reach_back.ensures.gains);
     }
+
+pub either-requires : goal.either-requires
+either-requires c = c.requires.own.tidy.fail
+
+pub reach_back-requires : goal.reach_back-requires
+reach_back-requires c = record { own = c.requires.own.tidy.stop; runs = c.in_ok-either.ensures.tidy; input = c.requires.left.no }
+
+pub each_open-requires : goal.each_open-requires
+each_open-requires c = record {
+  own = record { tidy = c.requires.own.tidy.never; entry = c.requires.own.entry; none = λ f. (c.requires.own.none f).never };
+  input = c.requires.right.no;
+}
+
+pub some-requires : goal.some-requires
+some-requires c = c.requires.own.tidy.broken

@@ -18,3 +18,18 @@ returns-clause-fits c = λ old tr p q a b is is_down h hp hq was.
           x.each c.each_open.new.own had.each
           (c.in_ok-each_open.ensures.tells old tr x.run.spans.items h c.in_ok-reach_back.ensures.gains had.no_run);
     }
+
+pub both-requires : goal.both-requires
+both-requires c = record { own = c.requires.own.tidy.both; first = c.requires.left.yes; second = c.requires.right.yes }
+
+pub reach_back-requires : goal.reach_back-requires
+reach_back-requires c = record { own = c.requires.own.tidy.run; runs = c.requires.left.yes; input = c.in_ok-both.ensures.tidy }
+
+pub some-requires : goal.some-requires
+some-requires c = c.requires.own.tidy.some
+
+pub each_open-requires : goal.each_open-requires
+each_open-requires c = record {
+  own = record { tidy = c.requires.own.tidy.each; entry = c.requires.own.entry; none = λ f. (c.requires.own.none f).each };
+  input = c.in_ok-reach_back.ensures.tidy;
+}

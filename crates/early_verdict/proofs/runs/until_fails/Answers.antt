@@ -26,3 +26,18 @@ returns-clause-fits c = λ old tr p q a b is is_up h hp hq same_fail same_stop w
           (broken_is up_to a is_up tr c.reach.new.self.spans.items (λ v o. from v (subst (λ s. Lies s v) c.in_ok-reach.ensures.bounds (stop.only v o).0)))
           (c.in_ok-some.ensures.tells x.stop.spans.items c.in_ok-reach.ensures.gains had.broken);
     }
+
+pub either-requires : goal.either-requires
+either-requires c = c.requires.own.tidy.fail
+
+pub reach-requires : goal.reach-requires
+reach-requires c = record { own = c.requires.own.tidy.stop; runs = c.in_ok-either.ensures.tidy; input = c.requires.left.no }
+
+pub each_ahead-requires : goal.each_ahead-requires
+each_ahead-requires c = record {
+  own = record { tidy = c.requires.own.tidy.never; entry = c.requires.own.entry; none = λ f. (c.requires.own.none f).never };
+  input = c.requires.right.no;
+}
+
+pub some-requires : goal.some-requires
+some-requires c = c.requires.own.tidy.broken

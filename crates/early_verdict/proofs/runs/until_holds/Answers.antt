@@ -22,3 +22,23 @@ returns-clause-fits c = λ old tr p q a b is is_up h hp hq was.
           x.each c.each_open.new.own had.each
           (c.in_ok-each_open.ensures.tells old tr x.run.spans.items h c.in_ok-reach_sure.ensures.gains had.no_run);
     }
+
+pub both-requires : goal.both-requires
+both-requires c = record { own = c.requires.own.tidy.both; first = c.requires.left.yes; second = c.requires.right.yes }
+
+pub reach_sure-requires : goal.reach_sure-requires
+reach_sure-requires c = record {
+  own = c.requires.own.tidy.run;
+  runs = c.requires.left.yes;
+  input = c.in_ok-both.ensures.tidy;
+  order = c.requires.own.entry.order;
+}
+
+pub some_sure-requires : goal.some_sure-requires
+some_sure-requires c = record { own = c.requires.own.tidy.some; input = c.requires.right.yes; order = c.requires.own.entry.order }
+
+pub each_open-requires : goal.each_open-requires
+each_open-requires c = record {
+  own = record { tidy = c.requires.own.tidy.each; entry = c.requires.own.entry; none = λ f. (c.requires.own.none f).each };
+  input = c.in_ok-reach_sure.ensures.tidy;
+}

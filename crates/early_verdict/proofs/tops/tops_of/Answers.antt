@@ -1,9 +1,25 @@
-use Rattle.std.proofs.Common.{rules, ◌≡◌, ◌-◌, ◌+◌, ◌++◌, sym, subst, ℕ, List, length, take, drop, arith}
+use Rattle.std.proofs.Common.{rules, ◌≡◌, ◌≤◌, ◌-◌, ◌+◌, ◌++◌, ◌∙◌, ap, sym, subst, ℕ, List, length, take, drop, arith}
+use Rattle.std.proofs.lemmas.List.{length-replicate}
 use Rattle.early_verdict.specs.Standing.{AsksBelow, top_at}
 use Rattle.early_verdict.specs.Tops.{AreUpTo, rest_reach}
 use Rattle.early_verdict.proofs.Places.{written}
-use Rattle.early_verdict.proofs.TopsLemmas.{raised}
+use Rattle.std.proofs.lemmas.Option.{slice_get_within}
+use Rattle.early_verdict.proofs.TopsLemmas.{raised, zeros_at}
 use Rattle.early_verdict.proofs.tops.tops_of.Goals as goal
+
+pub loop-i-init : goal.loop-i-init
+loop-i-init c =
+    let nodes = c.args.formula.now.nodes in
+    let count = c.len-count.ensures.count in
+    let e = c.in_ok-tops.ensures in
+    let long : length c.in_ok-tops.tops.items ≡ length nodes = ap length e ∙ length-replicate c.len-count.result 0 ∙ count in
+    record {
+      within = omega (arith, count);
+      count = long;
+      asks = λ j n above at. let h = slice_get_within nodes j n at in absurd (omega (arith, h, above, count));
+      most = λ j. subst (λ (xs : List ℕ). top_at xs j ≤ rest_reach nodes c.len-count.result) (sym e)
+          (let z = zeros_at c.len-count.result j in omega (arith, z));
+    }
 
 pub loop-i-preserved : goal.loop-i-preserved
 loop-i-preserved c =

@@ -1,5 +1,9 @@
-use Rattle.std.proofs.Common.{◌++◌, ◌∷◌, [], sym, ap, ◌∙◌, arith}
+use Rattle.std.proofs.Common.{◌++◌, ◌∷◌, [], sym, ap, subst, ◌∙◌, arith}
+use Rattle.std.proofs.lemmas.List.{take_all}
 use Rattle.frac128.specs.Value.{value}
+use Rattle.stl_syntax.specs.Cells.{cells}
+use Rattle.stl_syntax.specs.Kept.{ItemsOn}
+use Rattle.implicants.specs.Cuts.{times_of}
 use Rattle.implicants.proofs.Handing.{rise_of}
 use Rattle.implicants.proofs.Listing.{listed_first, listed_on, step_of, step_up_to, step_within}
 use Rattle.implicants.proofs.cells.add_cells.Goals as goal
@@ -73,3 +77,33 @@ loop-k-preserved c =
       point_is = record { node = q.2; on_is = q.3 ∙ c.instant-in-loop-k.ensures; holds = q.4 ∙ sym here.1 };
       grew = q.1 ∙ ap (λ xs. xs ++ q.0 ∷ []) p.1;
     })
+
+pub bounds-times-0 : goal.bounds-times-0
+bounds-times-0 c = c.requires.many
+
+pub bounds-times-k : goal.bounds-times-k
+bounds-times-k c = let t = c.loop-k-test.true in omega (arith, t)
+
+pub bounds-times-k-in-loop-k : goal.bounds-times-k-in-loop-k
+bounds-times-k-in-loop-k c = c.loop-k-test.true
+
+pub knot-requires-in-loop-k : goal.knot-requires-in-loop-k
+knot-requires-in-loop-k c = c.loop-k.invariant.inside
+
+pub place_at-place-requires-clause-inside : goal.place_at-place-requires-clause-inside
+place_at-place-requires-clause-inside c = c.loop-k.invariant.inside
+
+pub truth_at-here-requires-clause-inside : goal.truth_at-here-requires-clause-inside
+truth_at-here-requires-clause-inside c = c.place_at-place.ensures.inside
+
+pub truth_at-here-requires-clause-place : goal.truth_at-here-requires-clause-place
+truth_at-here-requires-clause-place c = c.place_at-place.ensures.place
+
+pub returns : goal.returns
+returns c =
+    let listed = c.loop-k.invariant in (
+      listed.here,
+      listed.all,
+      subst (λ ts. ItemsOn c.args.formula.now.nodes c.args.trace.now c.args.node (cells (times_of ts)) listed.here)
+          (take_all c.loop-k.k c.args.times.now c.loop-k-test.false) listed.cells_are,
+    )

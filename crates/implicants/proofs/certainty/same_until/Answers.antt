@@ -1,5 +1,5 @@
-use Rattle.std.proofs.Common.{◌≡◌, ◌+◌, ◌<◌, ◌≤◌, ◌⊎◌, inl, inr, ℕ, zero, suc, refl, sym, subst, arith}
-use Rattle.implicants.specs.SameCells.{IsSameUntil, SaysSame}
+use Rattle.std.proofs.Common.{◌≡◌, ◌+◌, ◌<◌, ◌≤◌, ◌⊎◌, inl, inr, ℕ, suc, sym, subst, arith}
+use Rattle.implicants.specs.SameCells.{SaysSame}
 use Rattle.implicants.proofs.certainty.same_until.Goals as goal
 
 -- below two places more is below the first, or one of the two

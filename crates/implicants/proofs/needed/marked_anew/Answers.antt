@@ -5,15 +5,21 @@ use Rattle.implicants.specs.Keeping.{remaining}
 use Rattle.implicants.specs.Needs.{AreToldOfMore, MarksNeeded}
 use Rattle.implicants.proofs.needed.marked_anew.Goals as goal
 
-pub mark_upward-requires-clause-marks : goal.mark_upward-requires-clause-marks
-mark_upward-requires-clause-marks c = ap length c.in_ok-marks.ensures ∙ c.requires.kept
-
-pub mark_upward-requires-clause-told : goal.mark_upward-requires-clause-told
-mark_upward-requires-clause-told c =
+pub mark_upward-requires : goal.mark_upward-requires
+mark_upward-requires c =
     let nodes = c.args.formula.now.nodes in
     let tr = c.args.trace.now in
     let all = c.args.cells.now.all.items in
-    subst (λ ms. IfSome c.args.nodes.now (AreToldOfMore kleene_shape nodes tr (remaining c.args.left ms all))) (sym c.in_ok-marks.ensures) c.requires.told
+    record {
+      given = record {
+        some = c.requires.given.some;
+        cells = c.requires.given.cells;
+        count = ap length c.in_ok-marks.ensures ∙ c.requires.given.count;
+      };
+      left = c.requires.left;
+      told = subst (λ ms. IfSome c.args.nodes.now (AreToldOfMore kleene_shape nodes tr (remaining c.args.left ms all))) (sym c.in_ok-marks.ensures)
+          c.requires.told;
+    }
 
 pub returns-clause-count : goal.returns-clause-count
 returns-clause-count c = c.in_ok-mark_upward.ensures.count ∙ ap length c.in_ok-marks.ensures

@@ -1,4 +1,4 @@
-use Rattle.std.proofs.Common.{◌≡◌, ◌<◌, ◌^◌, ◌∷◌, [], Some, ap, arith, length, length-append, subst, sym, refl}
+use Rattle.std.proofs.Common.{◌≡◌, ◌∷◌, [], Some, ap, arith, length, length-append, subst, sym, refl}
 use Rattle.std.specs.Prelude.{slice_get}
 use Rattle.value_laws.specs.Kinds.{kleene_shape}
 use Rattle.implicants.specs.Signs.{sign_at}

@@ -1,4 +1,4 @@
-use Rattle.std.proofs.Common.{◌≡◌, ◌∷◌, [], Some, ap, arith, length, length-append, subst, sym}
+use Rattle.std.proofs.Common.{◌≡◌, ◌≤◌, ◌∷◌, [], Some, ap, arith, length, length-append, subst, sym}
 use Rattle.std.specs.Prelude.{slice_get}
 use Rattle.value_laws.specs.Kinds.{kleene_shape}
 use Rattle.implicants.specs.Upward.{AreWhole}
@@ -12,11 +12,8 @@ loop-k-init c = record {
   whole = λ k x at. absurd (no_run k x (subst (λ l. slice_get l k ≡ Some x) c.new-done.ensures.items at));
 }
 
-pub few-requires-clause-order : goal.few-requires-clause-order
-few-requires-clause-order c = let e = c.first-from.ensures in let f = c.last-to.ensures.later in omega (arith, e, f)
-
-pub few-requires-clause-late : goal.few-requires-clause-late
-few-requires-clause-late c = c.last-to.type_inv
+pub few-requires : goal.few-requires
+few-requires c = record { order = subst (λ n. n ≤ c.last-to.result) (sym c.first-from.ensures) c.last-to.ensures.later; late = c.last-to.type_inv }
 
 pub loop-k-preserved : goal.loop-k-preserved
 loop-k-preserved c =
@@ -30,5 +27,13 @@ loop-k-preserved c =
           (whole_push tr xs x (whole_view tr _ _ x c.first-from.ensures c.last-to.ensures.last c.in_ok-chain.ensures) c.loop-k.invariant.whole);
     }
 
-pub returns-clause-whole : goal.returns-clause-whole
-returns-clause-whole c = c.loop-k.invariant.whole
+pub returns : goal.returns
+returns c = record {
+  count =
+      let t = c.loop-k-test.false in
+      let e = c.loop-k.auto.k-end in
+      let n = c.len-k-end.ensures.count in
+      let k = c.loop-k.invariant.count in
+      omega (arith, t, e, n, k);
+  whole = c.loop-k.invariant.whole;
+}

@@ -1,9 +1,12 @@
-use Rattle.std.proofs.Common.{ℕ, Bool, List, subst}
+use Rattle.std.proofs.Common.{◌≡◌, ◌<◌, ℕ, Bool, List, Some, length, subst, sym}
 use Rattle.std.proofs.lemmas.Result.{IfOk-weaker, on_ok_weaker}
-use Rattle.std.specs.Prelude.{IfSome}
+use Rattle.std.specs.Prelude.{IfSome, slice_get}
+use Rattle.std.proofs.lemmas.Option.{slice_get_within}
 use Rattle.value_laws.specs.Kinds.{kleene_shape}
 use Rattle.stl_syntax.specs.declared.items.Item.{Item}
+use Rattle.stl_syntax.specs.declared.atom.Atom.{Atom}
 use Rattle.stl_syntax.specs.declared.node.Node.{Node}
+use Rattle.stl_syntax.specs.declared.node.Node.TheVariants.{Atom as Leaf}
 use Rattle.implicants.specs.Upward.{AreLostEach, HasBest, HasBestIn}
 use Rattle.implicants.proofs.upward.is_needed.Goals as goal
 use Rattle.implicants.proofs.upward.is_needed.Goals.{After-put_lost, In-Some}
@@ -12,7 +15,7 @@ made_best : (c : After-put_lost) → HasBest kleene_shape c.args.formula.now.nod
     c.args.ground.now.signs.items c.cell_at-cell.result.node c.in_ok-made.made
 made_best c =
     let leaf = c.is_leaf.ensures c.if-not-is_leaf.false in
-    c.in_ok-made.ensures.best c.args.formula.now.nodes c.args.ground.now.signs.items leaf.0 c.requires.cells leaf.1 c.sign_of-best.ensures
+    c.in_ok-made.ensures.best c.args.formula.now.nodes c.args.ground.now.signs.items leaf.0 c.requires.given.cells leaf.1 c.sign_of-best.ensures
 
 begun : (c : In-Some) → HasBest kleene_shape c.args.formula.now.nodes c.args.trace.now c.args.cells.now.all.items c.args.marks.now c.args.c
     c.args.ground.now.signs.items c.cell_at-cell.result.node c.in_ok-made.made
@@ -46,3 +49,41 @@ pub returns-in_default-clause-gained : goal.returns-in_default-clause-gained
 returns-in_default-clause-gained c =
     let best = made_best (goal.at.returns-in_default-clause-gained c).After-put_lost in
     c.in_ok-region.ensures.gained c.args.formula.now.nodes c.args.cells.now.all.items c.args.marks.now c.args.c c.requires.lost best c.requires.gained
+
+pub cell_at-cell-requires : goal.cell_at-cell-requires
+cell_at-cell-requires c = c.requires.inside
+
+-- the cell's node is one of the formula's
+leaf_within : (nodes : List Node) (i : ℕ) → (a : Atom) × (slice_get nodes i ≡ Some (Leaf a)) → i < length nodes
+leaf_within nodes i (a, at) = slice_get_within nodes i (Leaf a) at
+
+pub sign_of-best-requires : goal.sign_of-best-requires
+sign_of-best-requires c =
+    subst (λ n. c.cell_at-cell.result.node < n) (sym c.requires.signs.count)
+    (leaf_within c.args.formula.now.nodes c.cell_at-cell.result.node (c.is_leaf.ensures c.if-not-is_leaf.false))
+
+pub chain_without-requires : goal.chain_without-requires
+chain_without-requires c = record { some = c.requires.given.some; inside = c.requires.inside; marks = c.requires.given.count }
+
+pub put_lost-requires : goal.put_lost-requires
+put_lost-requires c = record {
+  some = c.requires.given.some;
+  inside = leaf_within c.args.formula.now.nodes c.cell_at-cell.result.node (c.is_leaf.ensures c.if-not-is_leaf.false);
+  runs = record { count = c.requires.signs.count; lists = c.requires.runs };
+  made = c.in_ok-made.ensures.whole;
+  chains = c.requires.chains;
+}
+
+pub loses_root-requires : goal.loses_root-requires
+loses_root-requires c = record {
+  some = c.requires.given.some;
+  inside = leaf_within c.args.formula.now.nodes c.cell_at-cell.result.node (c.is_leaf.ensures c.if-not-is_leaf.false);
+  runs = record { count = c.requires.signs.count; lists = c.requires.runs };
+  chains = c.put_lost.ensures.chains;
+}
+
+pub returns-clause-chains : goal.returns-clause-chains
+returns-clause-chains c = c.loses_root.ensures.chains
+
+pub returns-in_default-clause-chains : goal.returns-in_default-clause-chains
+returns-in_default-clause-chains c = c.put_lost.ensures.chains

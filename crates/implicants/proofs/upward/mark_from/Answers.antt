@@ -10,8 +10,7 @@ loop-c-init c = record {
   put = puts_from_none c.args.formula.now.nodes c.args.trace.now c.args.cells.now.all.items c.args.left c.args.marks.now.items;
   runs = c.requires.runs;
   lost = c.requires.lost;
-  chains = c.in_ok-done.ensures.count;
-  whole = c.in_ok-done.ensures.whole;
+  chains = c.in_ok-done.ensures;
 }
 
 pub loop-c-preserved : goal.loop-c-preserved
@@ -32,30 +31,26 @@ loop-c-preserved c =
           (let e : c.loop-c.c ≡ suc (c.loop-c.c - 1) = omega (arith, t) in e) before.put) put;
       runs = c.mark_lost.ensures.runs ∙ before.runs;
       lost = c.in_ok-mark_lost.ensures.lost;
-      chains = c.mark_lost.ensures.count ∙ before.chains;
-      whole = c.mark_lost.ensures.whole;
+      chains = c.mark_lost.ensures.chains;
     }
 
-pub mark_lost-requires-clause-inside : goal.mark_lost-requires-clause-inside
-mark_lost-requires-clause-inside c = let t = c.loop-c-test.true in let w = c.loop-c.invariant.within in let r = c.requires.left in omega (arith, t, w, r)
+pub blank-requires : goal.blank-requires
+blank-requires c = c.requires.given.some
 
-pub mark_lost-requires-clause-marks : goal.mark_lost-requires-clause-marks
-mark_lost-requires-clause-marks c = c.loop-c.invariant.count ∙ c.requires.marks
-
-pub mark_lost-requires-clause-runs : goal.mark_lost-requires-clause-runs
-mark_lost-requires-clause-runs c = c.loop-c.invariant.runs
-
-pub mark_lost-requires-clause-lost : goal.mark_lost-requires-clause-lost
-mark_lost-requires-clause-lost c =
+pub mark_lost-requires : goal.mark_lost-requires
+mark_lost-requires c =
     let t = c.loop-c-test.true in
-    subst (λ k. AreLostFrom c.args.formula.now.nodes c.args.trace.now c.args.cells.now.all.items c.loop-c.marks.items k c.args.ground.now.signs.items
-    c.loop-c.runs.items) (let e : c.loop-c.c ≡ c.loop-c.c - 1 + 1 = omega (arith, t) in e) c.loop-c.invariant.lost
-
-pub mark_lost-requires-clause-count : goal.mark_lost-requires-clause-count
-mark_lost-requires-clause-count c = c.loop-c.invariant.chains
-
-pub mark_lost-requires-clause-whole : goal.mark_lost-requires-clause-whole
-mark_lost-requires-clause-whole c = c.loop-c.invariant.whole
+    let w = c.loop-c.invariant.within in
+    let r = c.requires.left in
+    record {
+      given = record { some = c.requires.given.some; cells = c.requires.given.cells; count = c.loop-c.invariant.count ∙ c.requires.given.count };
+      inside = omega (arith, t, w, r);
+      signs = c.requires.signs;
+      runs = c.loop-c.invariant.runs;
+      lost = subst (λ k. AreLostFrom c.args.formula.now.nodes c.args.trace.now c.args.cells.now.all.items c.loop-c.marks.items k
+          c.args.ground.now.signs.items c.loop-c.runs.items) (let e : c.loop-c.c ≡ c.loop-c.c - 1 + 1 = omega (arith, t) in e) c.loop-c.invariant.lost;
+      chains = c.loop-c.invariant.chains;
+    }
 
 pub returns-clause-count : goal.returns-clause-count
 returns-clause-count c = c.loop-c.invariant.count

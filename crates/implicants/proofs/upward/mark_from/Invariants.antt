@@ -1,6 +1,6 @@
 use Rattle.std.proofs.Common.{◌≡◌, ◌≤◌, length}
 use Rattle.value_laws.specs.Kinds.{kleene_shape}
-use Rattle.implicants.specs.Upward.{AreLostFrom, AreWhole}
+use Rattle.implicants.specs.Upward.{AreLostFrom, HasChains}
 use Rattle.implicants.proofs.Losing.{PutsFrom}
 use Rattle.implicants.proofs.upward.mark_from.Given as goal
 
@@ -11,8 +11,7 @@ invariant-loop-c l = record {
   put : PutsFrom l.formula.nodes l.trace l.cells.all.items l.left l.c l.fn.marks.items l.marks.items;
   runs : length l.runs.items ≡ length l.formula.nodes;
   lost : AreLostFrom l.formula.nodes l.trace l.cells.all.items l.marks.items l.c l.ground.signs.items l.runs.items;
-  chains : length l.done.items ≡ length l.formula.nodes;
-  whole : AreWhole kleene_shape l.trace l.done.items;
+  chains : HasChains kleene_shape l.formula.nodes l.trace l.done.items;
 }
 
 abbrev pub decreases-loop-c : goal.decreases-loop-c

@@ -14,26 +14,29 @@ returns-then-index-clause-lost c = lost_next c.args.formula.now.nodes c.args.tra
 pub returns-then-index-clause-put : goal.returns-then-index-clause-put
 returns-then-index-clause-put c = inl refl
 
-pub is_needed-requires-clause-marks : goal.is_needed-requires-clause-marks
-is_needed-requires-clause-marks c = ap length c.deref-2.ensures.value ∙ c.requires.marks
-
-pub is_needed-requires-clause-runs : goal.is_needed-requires-clause-runs
-is_needed-requires-clause-runs c = ap length c.deref.ensures.value ∙ c.requires.runs
-
-pub is_needed-requires-clause-lost : goal.is_needed-requires-clause-lost
-is_needed-requires-clause-lost c =
+pub is_needed-requires : goal.is_needed-requires
+is_needed-requires c =
     let nodes = c.args.formula.now.nodes in
     let tr = c.args.trace.now in
     let all = c.args.cells.now.all.items in
     let marks = c.args.marks.now.items in
     let signs = c.args.ground.now.signs.items in
     let each = c.args.runs.now.items in
-    subst (λ ms. AreLostEach nodes tr all ms c.args.c signs c.deref.result.now) (sym c.deref-2.ensures.value)
-    (subst (λ es. AreLostEach nodes tr all marks c.args.c signs es) (sym c.deref.ensures.value)
-    (lost_without nodes tr all marks c.args.c signs each c.requires.lost))
-
-pub is_needed-requires-clause-gained : goal.is_needed-requires-clause-gained
-is_needed-requires-clause-gained c some within j r at = absurd (no_run j r (subst (λ l. slice_get l j ≡ Some r) c.new-gained.ensures.items at))
+    record {
+      given = record {
+        some = c.requires.given.some;
+        cells = c.requires.given.cells;
+        count = ap length c.deref-2.ensures.value ∙ c.requires.given.count;
+      };
+      inside = c.requires.inside;
+      signs = c.requires.signs;
+      runs = ap length c.deref.ensures.value ∙ c.requires.runs;
+      lost = subst (λ ms. AreLostEach nodes tr all ms c.args.c signs c.deref.result.now) (sym c.deref-2.ensures.value)
+          (subst (λ es. AreLostEach nodes tr all marks c.args.c signs es) (sym c.deref.ensures.value)
+          (lost_without nodes tr all marks c.args.c signs each c.requires.lost));
+      gained = λ some within j r at. absurd (no_run j r (subst (λ l. slice_get l j ≡ Some r) c.new-gained.ensures.items at));
+      chains = c.requires.chains;
+    }
 
 pub returns-then-needed-clause-put : goal.returns-then-needed-clause-put
 returns-then-needed-clause-put c = inr (
@@ -65,3 +68,12 @@ returns-clause-lost c = on_ok_weaker c.settle.result (λ settles.
     (subst (λ ms. AreLost nodes tr all ms c.args.c signs gained) c.deref-2.ensures.value c.in_ok-needed.ensures.gained)
     (sym (subst (λ b. b ≡ slice_index_or marks c.args.c b) c.if-index.false c.index.ensures))
     (subst (λ g. Settles g each c.settle.new.runs.items) c.deref-3.ensures.value settles)) c.settle.ensures.settles
+
+pub returns-then-index-clause-chains : goal.returns-then-index-clause-chains
+returns-then-index-clause-chains c = c.requires.chains
+
+pub returns-then-needed-clause-chains : goal.returns-then-needed-clause-chains
+returns-then-needed-clause-chains c = c.is_needed.ensures.chains
+
+pub returns-clause-chains : goal.returns-clause-chains
+returns-clause-chains c = c.is_needed.ensures.chains

@@ -12,55 +12,54 @@ use Rattle.implicants.proofs.upward.mark_upward.Goals as goal
 pub returns-in_default-clause-needed : goal.returns-in_default-clause-needed
 returns-in_default-clause-needed c = no_more_needed c.args.formula.now.nodes c.args.trace.now c.args.cells.now.all.items c.args.left c.args.marks.now.items
 
-pub runs_of-requires-clause-nodes : goal.runs_of-requires-clause-nodes
-runs_of-requires-clause-nodes c = (subst (λ o. IfSome o (AreToldOfMore kleene_shape c.args.formula.now.nodes c.args.trace.now
-    (remaining c.args.left c.args.marks.now.items c.args.cells.now.all.items))) c.in-Some-nodes.is c.requires.told).told.count
+pub runs_of-requires : goal.runs_of-requires
+runs_of-requires c = record {
+  nodes = (subst (λ o. IfSome o (AreToldOfMore kleene_shape c.args.formula.now.nodes c.args.trace.now
+      (remaining c.args.left c.args.marks.now.items c.args.cells.now.all.items))) c.in-Some-nodes.is c.requires.told).told.count;
+  signs = ap length c.deref.ensures.value
+      ∙ (subst (λ o. IfSome o (λ g. AreSigns c.args.formula.now.nodes g.signs.items)) c.in-Some.is c.in_ok-ground.ensures).count;
+}
 
-pub runs_of-requires-clause-signs : goal.runs_of-requires-clause-signs
-runs_of-requires-clause-signs c =
-    ap length c.deref.ensures.value
-    ∙ (subst (λ o. IfSome o (λ g. AreSigns c.args.formula.now.nodes g.signs.items)) c.in-Some.is c.in_ok-ground.ensures).count
-
-pub mark_from-requires-clause-signs : goal.mark_from-requires-clause-signs
-mark_from-requires-clause-signs c = subst (λ o. IfSome o (λ g. AreSigns c.args.formula.now.nodes g.signs.items)) c.in-Some.is c.in_ok-ground.ensures
-
-pub mark_from-requires-clause-runs : goal.mark_from-requires-clause-runs
-mark_from-requires-clause-runs c = c.in_ok-runs-in-Some-nodes.ensures.count
-
-pub mark_from-requires-clause-lost : goal.mark_from-requires-clause-lost
-mark_from-requires-clause-lost c =
+pub mark_from-requires : goal.mark_from-requires
+mark_from-requires c =
     let nodes = c.args.formula.now.nodes in
     let tr = c.args.trace.now in
     let all = c.args.cells.now.all.items in
     let marks = c.args.marks.now.items in
     let told = subst (λ o. IfSome o (AreToldOfMore kleene_shape nodes tr (remaining c.args.left marks all))) c.in-Some-nodes.is c.requires.told in
-    lost_told nodes tr all marks c.args.left c.in-Some.ground.signs.items c.in-Some-nodes.nodes c.in_ok-runs-in-Some-nodes.runs.items told
-    (subst (λ ss. AreShortEach kleene_shape ss c.in-Some-nodes.nodes c.in_ok-runs-in-Some-nodes.runs.items)
-    c.deref.ensures.value c.in_ok-runs-in-Some-nodes.ensures.short)
+    record {
+      given = c.requires.given;
+      left = c.requires.left;
+      signs = subst (λ o. IfSome o (λ g. AreSigns nodes g.signs.items)) c.in-Some.is c.in_ok-ground.ensures;
+      runs = c.in_ok-runs-in-Some-nodes.ensures.count;
+      lost = lost_told nodes tr all marks c.args.left c.in-Some.ground.signs.items c.in-Some-nodes.nodes c.in_ok-runs-in-Some-nodes.runs.items told
+          (subst (λ ss. AreShortEach kleene_shape ss c.in-Some-nodes.nodes c.in_ok-runs-in-Some-nodes.runs.items)
+          c.deref.ensures.value c.in_ok-runs-in-Some-nodes.ensures.short);
+    }
 
-pub runs_of_cells-requires-clause-marks : goal.runs_of_cells-requires-clause-marks
-runs_of_cells-requires-clause-marks c = ap length c.deref-in-None.ensures.value ∙ c.requires.marks
+pub runs_of_cells-requires : goal.runs_of_cells-requires
+runs_of_cells-requires c = record {
+  cells = c.requires.given.cells;
+  marks = ap length c.deref-in-None.ensures.value ∙ c.requires.given.count;
+  signs = ap length c.deref-in-None-2.ensures.value
+      ∙ (subst (λ o. IfSome o (λ g. AreSigns c.args.formula.now.nodes g.signs.items)) c.in-Some.is c.in_ok-ground.ensures).count;
+}
 
-pub runs_of_cells-requires-clause-signs : goal.runs_of_cells-requires-clause-signs
-runs_of_cells-requires-clause-signs c =
-    ap length c.deref-in-None-2.ensures.value
-    ∙ (subst (λ o. IfSome o (λ g. AreSigns c.args.formula.now.nodes g.signs.items)) c.in-Some.is c.in_ok-ground.ensures).count
-
-pub mark_from-requires-in-None-clause-signs : goal.mark_from-requires-in-None-clause-signs
-mark_from-requires-in-None-clause-signs c =
-    subst (λ o. IfSome o (λ g. AreSigns c.args.formula.now.nodes g.signs.items)) c.in-Some.is c.in_ok-ground.ensures
-
-pub mark_from-requires-in-None-clause-runs : goal.mark_from-requires-in-None-clause-runs
-mark_from-requires-in-None-clause-runs c = c.in_ok-runs-in-None.ensures.count
-
-pub mark_from-requires-in-None-clause-lost : goal.mark_from-requires-in-None-clause-lost
-mark_from-requires-in-None-clause-lost c =
+pub mark_from-requires-in-None : goal.mark_from-requires-in-None
+mark_from-requires-in-None c =
     let nodes = c.args.formula.now.nodes in
     let tr = c.args.trace.now in
     let all = c.args.cells.now.all.items in
     let marks = c.args.marks.now.items in
     let signs = c.in-Some.ground.signs.items in
     let each = c.in_ok-runs-in-None.runs.items in
-    lost_of_all nodes tr all marks c.args.left signs each
-    (subst (λ ss. AreLostEach nodes tr all marks (length all) ss each) c.deref-in-None-2.ensures.value
-    (subst (λ ms. AreLostEach nodes tr all ms (length all) c.deref-in-None-2.result.now each) c.deref-in-None.ensures.value c.in_ok-runs-in-None.ensures.lost))
+    record {
+      given = c.requires.given;
+      left = c.requires.left;
+      signs = subst (λ o. IfSome o (λ g. AreSigns nodes g.signs.items)) c.in-Some.is c.in_ok-ground.ensures;
+      runs = c.in_ok-runs-in-None.ensures.count;
+      lost = lost_of_all nodes tr all marks c.args.left signs each
+          (subst (λ ss. AreLostEach nodes tr all marks (length all) ss each) c.deref-in-None-2.ensures.value
+          (subst (λ ms. AreLostEach nodes tr all ms (length all) c.deref-in-None-2.result.now each) c.deref-in-None.ensures.value
+          c.in_ok-runs-in-None.ensures.lost));
+    }

@@ -1,4 +1,4 @@
-use Rattle.std.proofs.Common.{subst, sym, ◌<◌, ◌≤◌, ◌^◌}
+use Rattle.std.proofs.Common.{subst, sym, length-set, ◌∙◌, ◌<◌, ◌≤◌, ◌^◌}
 use Rattle.stl_syntax.specs.Trace.{first_time}
 use Rattle.implicants.specs.Upward.{AreLost}
 use Rattle.implicants.proofs.Gaining.{gained_lost}
@@ -9,21 +9,41 @@ use Rattle.implicants.proofs.upward.put_lost.Goals as goal
 pub best_of-requires : goal.best_of-requires
 best_of-requires c = whole_meet c.args.trace.now c.args.made.now c.in_ok-own.own c.requires.made c.in_ok-own.ensures.whole
 
-pub returns-clause-whole : goal.returns-clause-whole
-returns-clause-whole c =
+pub returns-clause-chains : goal.returns-clause-chains
+returns-clause-chains c =
     let tr = c.args.trace.now in
     let late = subst (λ n. n < 2 ^ 32) c.last.ensures.last c.last.type_inv in
     let order = subst (λ n. first_time tr.rows ≤ n) c.last.ensures.last c.last.ensures.later in
-    whole_set tr c.args.done.now.items c.args.k c.in_ok-both.both
-    (whole_both tr c.sign_of-best.result c.args.made.now c.in_ok-own.own c.in_ok-both.both order late c.requires.made c.in_ok-both.ensures) c.requires.whole
+    record {
+      count = length-set c.args.done.now.items c.args.k c.in_ok-both.both ∙ c.requires.chains.count;
+      whole = whole_set tr c.args.done.now.items c.args.k c.in_ok-both.both
+          (whole_both tr c.sign_of-best.result c.args.made.now c.in_ok-own.own c.in_ok-both.both order late c.requires.made c.in_ok-both.ensures)
+          c.requires.chains.whole;
+    }
+
+pub returns-in_default-clause-chains : goal.returns-in_default-clause-chains
+returns-in_default-clause-chains c = c.requires.chains
+
+pub last-requires : goal.last-requires
+last-requires c = c.requires.some
+
+pub sign_of-best-requires : goal.sign_of-best-requires
+sign_of-best-requires c = subst (λ n. c.args.k < n) (sym c.requires.runs.count) c.requires.inside
+
+pub runs_in-here-requires : goal.runs_in-here-requires
+runs_in-here-requires c = subst (λ n. c.args.k < n) (sym c.requires.runs.lists) c.requires.inside
+
+pub own_at-requires : goal.own_at-requires
+own_at-requires c = record { some = c.requires.some; inside = subst (λ n. c.args.k < n) (sym c.requires.runs.count) c.requires.inside }
 
 pub returns-clause-best : goal.returns-clause-best
 returns-clause-best c nodes all marks i lost made x at =
     let tr = c.args.trace.now in
     let (v, there, same) = c.runs_in-here.ensures in
     let own = subst (AreLost nodes tr all marks i c.args.ground.now.signs.items) (sym same) (lost c.args.k v there) in
+    let place = subst (λ n. c.args.k < n) (sym c.requires.chains.count) c.requires.inside in
     both_best_in nodes tr all marks i c.args.ground.now.signs.items c.args.done.now.items c.args.k c.sign_of-best.result c.args.made.now c.in_ok-own.own
-    c.in_ok-both.both c.requires.place c.sign_of-best.ensures c.in_ok-both.ensures made (c.in_ok-own.ensures.best nodes all marks i own) x at
+    c.in_ok-both.both place c.sign_of-best.ensures c.in_ok-both.ensures made (c.in_ok-own.ensures.best nodes all marks i own) x at
 
 pub returns-clause-gained : goal.returns-clause-gained
 returns-clause-gained c nodes all marks i lost made before =

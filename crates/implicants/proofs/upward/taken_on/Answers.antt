@@ -24,7 +24,7 @@ pub of_node-requires-clause-children : goal.of_node-requires-clause-children
 of_node-requires-clause-children c =
     let inside = c.requires.inside in
     let count = c.put_other.ensures.count in
-    let before = c.requires.count in
+    let before = c.requires.chains.count in
     let same = ap length c.deref.ensures.value in
     below_later c.args.j (length c.deref.result.now) c.node-node.result.now (omega (arith, inside, count, before, same)) c.node-node.ensures.below
 
@@ -43,29 +43,38 @@ unreachable-requires c =
     node_never_wide c.args.trace.now c.put_other.new.done.items from to n c.in-Err-Wide.field-0-0 c.put_other.ensures.whole c.first-from.ensures
     c.last-to.ensures.last (subst (λ xs. FaultOfNode (of_pieces kleene_shape) from to n xs (F.Wide c.in-Err-Wide.field-0-0)) c.deref.ensures.value wide)
 
-pub put_lost-requires-clause-inside : goal.put_lost-requires-clause-inside
-put_lost-requires-clause-inside c = let i = c.requires.inside in let s = c.requires.signs in omega (arith, i, s)
 
-pub put_lost-requires-clause-place : goal.put_lost-requires-clause-place
-put_lost-requires-clause-place c = let i = c.requires.inside in let s = c.requires.count in let p = c.put_other.ensures.count in omega (arith, i, s, p)
 
-pub put_lost-requires-clause-made : goal.put_lost-requires-clause-made
-put_lost-requires-clause-made c =
+
+
+
+pub put_other-requires : goal.put_other-requires
+put_other-requires c = record {
+  some = c.requires.some;
+  signs = c.requires.runs.count ∙ sym c.requires.chains.count;
+  runs = c.requires.runs.lists ∙ sym c.requires.chains.count;
+  whole = c.requires.chains.whole;
+}
+
+pub put_lost-requires : goal.put_lost-requires
+put_lost-requires c =
     let tr = c.args.trace.now in
     let late = subst (λ n. n < 2 ^ 32) c.last-to.ensures.last c.last-to.type_inv in
     let order = subst (λ n. first_time tr.rows ≤ n) c.last-to.ensures.last c.last-to.ensures.later in
-    whole_made tr c.in-Ok.made c.first-from.result c.last-to.result _ c.first-from.ensures c.last-to.ensures.last order late c.len-2.ensures.normal
-    (c.in-Ok.ensures.sound 4294967295 (subst (AreSound (of_pieces kleene_shape) c.first-from.result c.last-to.result 4294967295) (sym c.deref.ensures.value)
-    (whole_sound tr c.put_other.new.done.items c.first-from.result c.last-to.result c.first-from.ensures c.last-to.ensures.last c.put_other.ensures.whole)))
+    let sound = whole_sound tr c.put_other.new.done.items c.first-from.result c.last-to.result c.first-from.ensures c.last-to.ensures.last
+    c.put_other.ensures.whole in
+    record {
+      some = c.requires.some;
+      inside = c.requires.inside;
+      runs = c.requires.runs;
+      made = whole_made tr c.in-Ok.made c.first-from.result c.last-to.result _ c.first-from.ensures c.last-to.ensures.last order late c.len-2.ensures.normal
+          (c.in-Ok.ensures.sound 4294967295
+          (subst (AreSound (of_pieces kleene_shape) c.first-from.result c.last-to.result 4294967295) (sym c.deref.ensures.value) sound));
+      chains = record { count = c.put_other.ensures.count ∙ c.requires.chains.count; whole = c.put_other.ensures.whole };
+    }
 
-pub put_lost-requires-clause-whole : goal.put_lost-requires-clause-whole
-put_lost-requires-clause-whole c = c.put_other.ensures.whole
-
-pub returns-clause-count : goal.returns-clause-count
-returns-clause-count c = c.put_lost.ensures.count ∙ c.put_other.ensures.count
-
-pub returns-clause-whole : goal.returns-clause-whole
-returns-clause-whole c = c.put_lost.ensures.whole
+pub returns-clause-chains : goal.returns-clause-chains
+returns-clause-chains c = c.put_lost.ensures.chains
 
 made_best : (c : After-put_lost) (all : List Item) (marks : List Bool) (i : ℕ)
     → IsGround c.args.formula.now.nodes c.args.trace.now all marks i c.args.ground.now.signs.items c.args.runs.now
@@ -79,7 +88,7 @@ made_best c all marks i ground before =
     let new = c.put_other.new.done.items in
     let operands = c.beside_in-beside.ensures (is_so c.beside_in-beside.result.is_operand c.if-not-beside.false) in
     let inside = c.requires.inside in
-    let count = c.requires.count in
+    let count = c.requires.chains.count in
     let more = c.put_other.ensures.count in
     let kids = kids_best nodes tr all marks i signs n c.args.j c.args.k c.beside_in-beside.result.other c.args.done.now.items new operands
     c.node-node.ensures.below (omega (arith, inside, count)) before c.put_other.ensures.stay

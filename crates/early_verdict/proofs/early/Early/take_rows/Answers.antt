@@ -1,4 +1,4 @@
-use Rattle.std.proofs.Common.{◌≤◌, ◌<◌, ◌-◌, false, List, ◌++◌, length, refl, sym, ap, subst, ◌∙◌, arith, length-append}
+use Rattle.std.proofs.Common.{◌≤◌, ◌<◌, false, List, ◌++◌, length, refl, sym, ap, subst, ◌∙◌, arith, length-append}
 use Rattle.stl_syntax.specs.Trace.{Row, Trace}
 use Rattle.stl_syntax.specs.Formula.{root}
 use Rattle.trace_reader.specs.Taken.{HasTraceSoFar}
