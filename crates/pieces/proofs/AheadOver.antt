@@ -18,7 +18,7 @@ use Rattle.pl_signal.specs.declared.faults.OpFault.{OpFault}
 use Rattle.pl_signal.specs.declared.faults.OpFault.TheVariants as F
 use Rattle.pl_signal.specs.Wide.{HasCause}
 use Rattle.pieces.specs.declared.reach.Reach.{Reach}
-use Rattle.pieces.specs.Chains.{Chain, IsNormal, IsWorth, Tells, stop}
+use Rattle.pieces.specs.Chains.{Chain, IsNormal, IsWorth, Rise, Tells, stop}
 use Rattle.pieces.specs.Over.{BasesAhead, BasesOver, HasCauseOver, InPlay, SeesIn}
 use Rattle.pieces.specs.Windows.{BestOver, InfAhead, Sees, SupAhead}
 use Rattle.pieces.proofs.ChainLemmas.{worth_after, worth_upto}
@@ -58,10 +58,10 @@ module _ (from to : Rational) (a b : ℕ) (a_in b_in : Bool) where
 
 module _ {P : Type 0} (shape : ShapeOf P) (chain : Chain P) where
   -- a chain has its values in its domain
-  pub in_domain : IsNormal shape chain → (u : Rational) (v : Extended) → IsWorth shape chain u v → Within chain.from.at (stop chain).at u
-  in_domain normal u v w = record {
-    above = after_le chain.from u (worth_after shape chain.from chain.pieces u v normal.rising w);
-    below = upto_le (stop chain) u (worth_upto shape chain.from chain.pieces u v normal.rising w);
+  pub in_domain : Rise chain.from chain.pieces → (u : Rational) (v : Extended) → IsWorth shape chain u v → Within chain.from.at (stop chain).at u
+  in_domain rising u v w = record {
+    above = after_le chain.from u (worth_after shape chain.from chain.pieces u v rising w);
+    below = upto_le (stop chain) u (worth_upto shape chain.from chain.pieces u v rising w);
   }
 
   module _ (over : Reach) (Q : Rational → Affine → Type 0)
@@ -136,7 +136,7 @@ module _ {P : Type 0} (shape : ShapeOf P) (chain : Chain P) (normal : IsNormal s
   -- what is seen of the chain lies in the window
   seen_ahead : (i j : Bool) (t u : Rational) (v : Extended) → IsWorth shape chain u v → Sees (ahead_reach a b i j) t u
       → Ahead chain.from.at (stop chain).at a b i j t u
-  seen_ahead i j t u v w m = ahead_of_sees chain.from.at (stop chain).at a b i j t u (in_domain shape chain normal u v w, m)
+  seen_ahead i j t u v w m = ahead_of_sees chain.from.at (stop chain).at a b i j t u (in_domain shape chain normal.rising u v w, m)
 
   ahead_seen : (t u : Rational) (v : Extended) → IsWorth shape chain u v → Ahead chain.from.at (stop chain).at a b a_in b_in t u
       → Sees (ahead_reach a b a_in b_in) t u

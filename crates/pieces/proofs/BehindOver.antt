@@ -172,7 +172,7 @@ module _ {P : Type 0} (shape : ShapeOf P) (chain : Chain P) (first : whole (pos 
     -- what is seen of the chain lies in the window
     seen_behind : (t u : Rational) (v : Extended) → IsWorth shape chain u v → Sees (behind_reach a b a_in b_in) t u
         → Behind chain.from.at (stop chain).at a b a_in b_in t u
-    seen_behind t u v w m = into b t u a_in b_in (in_domain shape chain normal u v w, m)
+    seen_behind t u v w m = into b t u a_in b_in (in_domain shape chain normal.rising u v w, m)
 
     behind_seen : (t u : Rational) (v : Extended) → Upto (stop chain) t → IsWorth shape chain u v
         → Behind chain.from.at (stop chain).at a b a_in b_in t u → Sees (behind_reach a b a_in b_in) t u

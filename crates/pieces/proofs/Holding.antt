@@ -1,27 +1,32 @@
 -- A window that meets a piece: where the piece and what was told lie, and what holds of that end of the piece at which it is best.
-use Rattle.std.proofs.Common.{◌⊎◌, ◌^◌, ℤ, pos, inl, inr, refl}
-use Rattle.rational.specs.Rational.{IsWithin}
+use Rattle.std.proofs.Common.{◌≡◌, ◌^◌, ℤ, pos, inl, inr, refl, sym, subst}
+use Rattle.rational.specs.Rational.{IsWithin, middle}
 use Rattle.rational.specs.Time.{Rational, ◌≤ʳ◌, ◌<ʳ◌, add, whole}
 use Rattle.rational.specs.Extended.{value_at, ◌≈ᵉ◌}
 use Rattle.rational.specs.Affine.{IsBounded}
 use Rattle.rational.specs.Places.{Place, Upto, Before, Same, AtMost}
 use Rattle.rational.proofs.Mixed.{within_between}
-use Rattle.rational.proofs.Order.{le_or_lt, le_trans, lt_of_le_of_lt, not_lt_of_le}
-use Rattle.rational.proofs.Shift.{le_shift}
-use Rattle.rational.proofs.PlaceLemmas.{after_same, before_of_at_most, le_of_at_most}
+use Rattle.rational.proofs.Order.{le_of_lt, le_or_lt, le_refl, le_trans, left_of_middle, lt_of_le_of_lt, not_lt_of_le, right_of_middle}
+use Rattle.rational.proofs.Shift.{le_shift, lt_shift}
+use Rattle.rational.proofs.PlaceLemmas.{after_same, before_of_at_most, le_of_at_most, le_of_before}
+use Rattle.frac128.specs.Value.{value}
 use Rattle.frac128.specs.Cuts.{place}
+use Rattle.frac128.specs.declared.frac.Frac.{Frac}
 use Rattle.value_laws.specs.Members.{ShapeOf, ShapeLaws}
+use Rattle.courses.specs.Courses.{IsValueFault}
+use Rattle.pl_signal.specs.declared.faults.WidePair.{WidePair}
+use Rattle.pl_signal.specs.declared.faults.OpFault.TheVariants as F
 use Rattle.pieces.specs.declared.piece.Piece.{Piece}
 use Rattle.pieces.specs.declared.reach.Reach.{Reach}
 use Rattle.pieces.specs.declared.reach.Way.{Way}
 use Rattle.pieces.specs.declared.sliding.Sliding.{Sliding}
 use Rattle.pieces.specs.Best.{GetsNoBetter, GetsNoWorse}
-use Rattle.pieces.specs.Chains.{Chain, end, stop}
-use Rattle.pieces.specs.Meeting.{GoesPast, HasMet, Holds, Meets}
-use Rattle.pieces.specs.Over.{IsMovedTo, Plays, PlaysBetween}
+use Rattle.pieces.specs.Chains.{Chain, Rise, end, stop}
+use Rattle.pieces.specs.Meeting.{GoesPast, HasMet, HeldBetween, Holds, IsBelow, IsHeldFault, Meets, Passes, Reaches, Rises}
+use Rattle.pieces.specs.Over.{IsMovedTo, Plays}
 use Rattle.pieces.specs.Sliding.{HasTold}
 use Rattle.pieces.specs.Steps.{FallOff}
-use Rattle.pieces.specs.Windows.{CanSlide, HasEntered, IsLeft, IsPieceFrom, IsReached, Keeps, Stands, high_place}
+use Rattle.pieces.specs.Windows.{CanSlide, HasEntered, IsLeft, IsNonEmpty, IsPieceFrom, IsReached, Keeps, Stands, high_place, low_place}
 use Rattle.pieces.proofs.Counted.{best_plays}
 use Rattle.pieces.proofs.Ends.{at_most_of_before, at_most_of_same, at_most_trans, upto_of_lt}
 use Rattle.pieces.proofs.Meeting.{best_begins, best_bounded, best_ends, best_with_rise, best_within, limit_before}
@@ -29,7 +34,7 @@ use Rattle.pieces.proofs.Moving.{falls_off, keeps_further, keeps_told, tells_mor
 use Rattle.pieces.proofs.Played.{plays_told}
 
 -- what is earlier once both are moved is earlier
-lt_of_moved : (a b : Rational) (k : ℤ) → add a (whole k) <ʳ add b (whole k) → a <ʳ b
+pub lt_of_moved : (a b : Rational) (k : ℤ) → add a (whole k) <ʳ add b (whole k) → a <ʳ b
 lt_of_moved a b k h = elim (le_or_lt b a) [ inl l ↦ absurd (not_lt_of_le (le_shift k l) h) | inr l ↦ l ]
 
 module _ {P : Type 0} {shape : ShapeOf P} {chain : Chain P} {c : Place} {p : Piece P} where
@@ -45,16 +50,49 @@ module _ {P : Type 0} {shape : ShapeOf P} {chain : Chain P} {c : Place} {p : Pie
   pub piece_last : {over : Reach} → CanSlide shape chain over → IsPieceFrom shape chain c p → (end p).at ≤ʳ whole (pos (2 ^ 32))
   piece_last can is = le_trans (le_of_at_most (end p) (stop chain) is.ends) can.last
 
--- the place up to which a window does not reach past another lies in a chain that goes past that
-pub reach_within : {P : Type 0} (shape : ShapeOf P) (chain : Chain P) (way : Way) (c e : Place) → GoesPast shape chain way c
-    → IsReached way c e → AtMost e (stop chain)
-reach_within shape chain way c e ahead reached t u = elim ahead [
-  | inl most ↦ most t (reached.upto t u)
-  | inr early ↦ upto_of_lt (stop chain) t (lt_of_moved t (stop chain).at way.over.high (lt_of_le_of_lt most_high early.1))
+-- where a window's high end does not lie behind a place, it is no later
+pub high_upto : (over : Reach) (c : Place) (t : Rational) → ¬ Before c (high_place over.high over.high_in t) → add t (whole over.high) ≤ʳ c.at
+high_upto over c t n = elim (le_or_lt (add t (whole over.high)) c.at) [ inl h ↦ h | inr h ↦ absurd (n (inl h)) ]
+
+-- the place up to which a window does not reach past another is no later than a time from which it reaches as far
+pub reached_narrow : (way : Way) (c e : Place) (out : Rational) → IsReached way c e → c.at ≤ʳ add out (whole way.over.high) → e.at ≤ʳ out
+reached_narrow way c e out reached narrow = elim (le_or_lt e.at out) [
+  | inl h ↦ h
+  | inr h ↦ (let m = middle out e.at in
+      absurd (not_lt_of_le (le_trans (high_upto way.over c m (reached.before m (upto_of_lt e m (right_of_middle h)))) narrow)
+      (lt_shift way.over.high (left_of_middle h))))
 ]
-  where
-    most_high : add t (whole way.over.high) ≤ʳ c.at
-    most_high = elim (le_or_lt (add t (whole way.over.high)) c.at) [ inl h ↦ h | inr h ↦ absurd (reached.before t u (inl h)) ]
+
+module _ {P : Type 0} (shape : ShapeOf P) (chain : Chain P) (way : Way) (c e : Place) (reached : IsReached way c e) where
+  -- the place up to which a window does not reach past another lies in a chain that goes past that
+  pub reach_within : Reaches shape chain way c → AtMost e (stop chain)
+  reach_within ahead t u = elim ahead [
+    | inl most ↦ most t (reached.upto t u)
+    | inr early ↦ upto_of_lt (stop chain) t (lt_of_moved t (stop chain).at way.over.high
+        (lt_of_le_of_lt (high_upto way.over c t (reached.before t u)) early))
+  ]
+
+  -- and lies no later than a time at which the window reaches past that
+  pub reach_below : (limit : Rational) → IsBelow shape chain way limit c.at → e.at ≤ʳ limit
+  reach_below limit below = elim below.1 [
+    | inl h ↦ le_trans (le_of_at_most e (place way.to) reached.upto) h
+    | inr h ↦ le_of_lt (lt_of_moved e.at limit way.over.high (lt_of_le_of_lt (limit_before c.at e.at way.over.high
+        (λ t l. high_upto way.over c t (reached.before t (upto_of_lt e t l)))) h.1))
+  ]
+
+module _ {P : Type 0} (shape : ShapeOf P) (chain : Chain P) (way : Way) where
+  -- a chain that goes past a place goes on to where the window reaches past it
+  pub reaches_past : (c : Place) → GoesPast shape chain way c → Reaches shape chain way c
+  reaches_past c (inl h) = inl h
+  reaches_past c (inr h) = inr h.1
+
+  -- and to a time that is later than its begin
+  pub stop_below : (c : Place) → GoesPast shape chain way c → IsBelow shape chain way (stop chain).at c.at
+  stop_below c past = (le_refl (stop chain).at, elim past [ inl h ↦ inl (le_of_at_most (place way.to) (stop chain) h) | inr h ↦ inr h ])
+
+  -- so it is of what is no later
+  pub below_sooner : (limit a b : Rational) → a ≤ʳ b → IsBelow shape chain way limit b → IsBelow shape chain way limit a
+  below_sooner limit a b order below = (below.0, elim below.1 [ inl h ↦ inl h | inr h ↦ inr (h.0, lt_of_le_of_lt order h.1) ])
 
 module _ {P : Type 0} {shape : ShapeOf P} {chain : Chain P} {way : Way} {met reach left : Place} {s : Sliding P} where
   -- where a window has told up to lies within limits
@@ -74,11 +112,11 @@ module _ {P : Type 0} {shape : ShapeOf P} {chain : Chain P} {way : Way} {c : Pla
     (laws : ShapeLaws shape) (known : Holds shape chain way c p best s) where
   -- the best end does not lie before the piece
   pub held_begins : AtMost c best
-  held_begins = best_begins shape laws chain way known.can.normal c p known.piece best known.is_best
+  held_begins = best_begins shape laws chain way known.can.rising c p known.piece best known.is_best
 
   -- nor behind it
   pub held_ends : AtMost best (end p)
-  held_ends = best_ends shape laws chain way known.can.normal c p known.piece best known.is_best
+  held_ends = best_ends shape laws chain way known.can.rising c p known.piece best known.is_best
 
   -- it lies in the domain
   pub held_after : AtMost chain.from best
@@ -89,35 +127,58 @@ module _ {P : Type 0} {shape : ShapeOf P} {chain : Chain P} {way : Way} {c : Pla
 
   -- and within limits, as does the value there
   pub held_within : IsWithin (2 ^ 34) best.at
-  held_within = best_within shape laws chain way known.can.normal c p known.piece best known.is_best known.can.limited
+  held_within = best_within shape laws chain way known.can.rising c p known.piece best known.is_best known.can.limited
 
   pub held_bounded : IsBounded (2 ^ 31) (value_at (shape.function p.shape) best.at)
-  held_bounded = best_bounded shape laws chain way known.can.normal c p known.piece best known.is_best known.can.limited
+  held_bounded = best_bounded shape laws chain way known.can.rising c p known.piece best known.is_best known.can.limited
 
   -- later what the steps give is no better
   pub held_falls : FallOff shape way.side (stop s.out) s.steps.items
-  held_falls = falls_off shape laws chain way known.can.normal c best c s known.keeps
+  held_falls = falls_off shape laws chain way known.can.rising c best c s known.keeps
       (λ t a u. before_of_at_most c best (high_place way.over.high way.over.high_in t) held_begins (known.entered t a u))
-
-  -- at which the chain does not end, or not before the value counts no more
-  pub held_early : (until : Place) → IsLeft way best until → (until.at ≤ʳ (stop chain).at) ⊎ ((stop s.out).at <ʳ (stop chain).at)
-  held_early until left = elim known.ahead [
-    | inl most ↦ inl (le_of_at_most until (stop chain) (λ t u. most t (left.upto t u).1))
-    | inr early ↦ inr (elim known.keeps.reached [
-      | inl h ↦ lt_of_le_of_lt (le_of_at_most (stop s.out) chain.from h) early.0
-      | inr h ↦ lt_of_moved (stop s.out).at (stop chain).at way.over.high (lt_of_le_of_lt (limit_before best.at (stop s.out).at way.over.high
-          (λ t l. high_most t (h t (upto_of_lt (stop s.out) t l)))) (lt_of_le_of_lt (le_of_at_most best (end p) held_ends) early.1))
-    ])
-  ]
-    where
-      high_most : (t : Rational) → ¬ Before best (high_place way.over.high way.over.high_in t) → add t (whole way.over.high) ≤ʳ best.at
-      high_most t n = elim (le_or_lt (add t (whole way.over.high)) best.at) [ inl h ↦ h | inr h ↦ absurd (n (inl h)) ]
 
   module _ (until : Place) (left : IsLeft way best until) where
     -- meanwhile its constant is in play
-    pub held_plays : PlaysBetween shape chain way.over (stop s.out).at until.at (value_at (shape.function p.shape) best.at)
-    held_plays = best_plays shape chain way.over known.can.normal known.can.small known.some c p known.piece (stop s.out) until known.breaks
-        way.side best known.is_best (λ t a u. known.entered t a (left.upto t u).1) (λ t a u. (left.upto t u).0)
+    pub held_plays : HeldBetween shape chain way.over (stop s.out).at until.at best.at (value_at (shape.function p.shape) best.at)
+    held_plays = best_plays shape chain way.over known.can.rising known.can.small known.some c p known.piece (stop s.out) until
+        way.side best known.breaks known.is_best (λ t a u. known.entered t a (left.upto t u).1) (λ t a u. (left.upto t u).0)
+
+    -- where its value is refused
+    pub held_fault : (time : Frac) → value time ≡ best.at → (stop s.out).at <ʳ until.at → (pair : WidePair P)
+        → IsValueFault shape p.shape time (F.Wide pair) → IsHeldFault shape chain way best.at pair
+    held_fault time at order pair is = record {
+      part = p.shape;
+      time = time;
+      a = (stop s.out).at;
+      b = until.at;
+      begins = le_of_at_most chain.from (stop s.out) known.keeps.on;
+      order = order;
+      early = elim known.keeps.reached [
+        | inl h ↦ inl (le_of_at_most (stop s.out) chain.from h)
+        | inr h ↦ inr (limit_before best.at (stop s.out).at way.over.high
+            (λ t l. high_upto way.over best t (h t (upto_of_lt (stop s.out) t l))))
+      ];
+      upto = le_of_at_most until (place way.to) (λ t u. (left.upto t u).1);
+      seen = λ tau a b. le_of_before (low_place way.over.low way.over.low_in tau) best (left.upto tau (upto_of_lt until tau b)).0;
+      is = is;
+      plays = subst (λ x. HeldBetween shape chain way.over (stop s.out).at until.at best.at (value_at (shape.function p.shape) x)) (sym at) held_plays;
+    }
+
+-- under a piece that it climbs the window tells the best, as far as its high end lies on the piece
+module _ {P : Type 0} (shape : ShapeOf P) (laws : ShapeLaws shape) (chain : Chain P) (way : Way) (rising : Rise chain.from chain.pieces)
+    (some : IsNonEmpty way.over) (c : Place) (p : Piece P) (is : IsPieceFrom shape chain c p) (old : Sliding P)
+    (keeps : Keeps shape chain way c (end p) c old) (entered : HasEntered shape chain way c old)
+    (trend : GetsNoWorse way.side (shape.function p.shape)) where
+  pub keeps_climbed : (gap : P) (new : Sliding P)
+      → ((t : Rational) → value_at (shape.function gap) t ≈ᵉ value_at (shape.function p.shape) (add t (whole way.over.high)))
+      → HasTold shape way.side gap old new → AtMost (stop new.out) (stop chain) → AtMost (stop new.out) (place way.to)
+      → ((t : Rational) → Upto (stop new.out) t → ¬ Before (end p) (high_place way.over.high way.over.high_in t))
+      → Keeps shape chain way c (end p) c new
+  keeps_climbed gap new moved told upto_end upto_way before =
+      keeps_told shape laws chain way rising c (end p) c gap old new keeps told (end p) upto_end
+      (tells_more shape laws chain way rising c (end p) c gap old new keeps told (end p) (λ t a u. before t u)
+      (λ t v a u b. best_with_rise shape laws chain way rising c p is some gap old keeps entered trend moved
+      t v a (upto_way t u) (before t u) b)) (inr before)
 
 -- once it counts the window has met the pieces up to where it ends
 pub met_piece : {P : Type 0} {shape : ShapeOf P} {chain : Chain P} {way : Way} {c : Place} {p : Piece P} {old new : Sliding P}
@@ -127,7 +188,20 @@ met_piece known stands plays = record {
   can = known.can;
   to = known.to;
   within = known.within;
-  ahead = known.ahead;
+  begins = piece_begun known.piece;
+  ends = known.piece.ends;
+  stands = stands;
+  plays = plays;
+}
+
+-- also one that it has climbed
+pub met_climbed : {P : Type 0} {shape : ShapeOf P} {chain : Chain P} {way : Way} {c : Place} {p : Piece P} {old new : Sliding P}
+    → Rises shape chain way c p old → Stands shape chain way (end p) (end p) new → Plays shape chain way.over (place way.to) new
+    → HasMet shape chain way (end p) new
+met_climbed known stands plays = record {
+  can = known.can;
+  to = known.to;
+  within = known.within;
   begins = piece_begun known.piece;
   ends = known.piece.ends;
   stands = stands;
@@ -144,16 +218,32 @@ holds_first trend known = record {
   some = known.some;
   piece = known.piece;
   breaks = known.breaks;
-  ahead = known.ahead;
   is_best = inl (refl, trend);
   keeps = known.stands;
   entered = known.entered;
   plays = known.plays;
 }
 
+-- what comes next may be climbed
+pub passes_rising : {P : Type 0} {shape : ShapeOf P} {chain : Chain P} {way : Way} {c : Place} {p : Piece P} {s : Sliding P} → ShapeLaws shape
+    → Passes shape chain way c p s → Rises shape chain way c p s
+passes_rising {shape = shape} {chain} {way} {c} {p} {s} laws known = record {
+  can = known.meets.can;
+  to = known.meets.to;
+  within = known.meets.within;
+  some = known.meets.some;
+  piece = known.meets.piece;
+  breaks = known.last;
+  ahead = reaches_past shape chain way (end p) known.ahead;
+  keeps = keeps_further shape laws chain way known.meets.can.rising c c (end p) c s (at_most_of_before c (end p) known.meets.piece.order)
+      known.meets.stands;
+  entered = known.meets.entered;
+  plays = known.meets.plays;
+}
+
 -- a piece that gets no worse is held at its end, once the window reaches past that
 module _ {P : Type 0} {shape : ShapeOf P} {chain : Chain P} {way : Way} {c : Place} {p : Piece P} {old : Sliding P} (laws : ShapeLaws shape)
-    (trend : GetsNoWorse way.side (shape.function p.shape)) (known : Meets shape chain way c p old) where
+    (trend : GetsNoWorse way.side (shape.function p.shape)) (known : Rises shape chain way c p old) where
   -- as it may do already
   pub holds_past : HasEntered shape chain way (end p) old → Holds shape chain way c p (end p) old
   holds_past entered = record {
@@ -163,9 +253,8 @@ module _ {P : Type 0} {shape : ShapeOf P} {chain : Chain P} {way : Way} {c : Pla
     some = known.some;
     piece = known.piece;
     breaks = known.breaks;
-    ahead = known.ahead;
     is_best = inr (refl, trend);
-    keeps = keeps_further shape laws chain way known.can.normal c c (end p) c old (at_most_of_before c (end p) known.piece.order) known.stands;
+    keeps = known.keeps;
     entered = entered;
     plays = known.plays;
   }
@@ -178,7 +267,7 @@ module _ {P : Type 0} {shape : ShapeOf P} {chain : Chain P} {way : Way} {c : Pla
     upto_next = at_most_of_same (stop new.out) next ends
 
     upto_end : AtMost (stop new.out) (stop chain)
-    upto_end = at_most_trans (stop new.out) next (stop chain) upto_next (reach_within shape chain way (end p) next known.ahead reached)
+    upto_end = at_most_trans (stop new.out) next (stop chain) upto_next (reach_within shape chain way (end p) next reached known.ahead)
 
     before : (t : Rational) → Upto (stop new.out) t → ¬ Before (end p) (high_place way.over.high way.over.high_in t)
     before t u = reached.before t (upto_next t u)
@@ -195,12 +284,9 @@ module _ {P : Type 0} {shape : ShapeOf P} {chain : Chain P} {way : Way} {c : Pla
       some = known.some;
       piece = known.piece;
       breaks = known.breaks;
-      ahead = known.ahead;
       is_best = inr (refl, trend);
-      keeps = keeps_told shape laws chain way known.can.normal c c c gap old new known.stands told (end p) upto_end
-          (tells_more shape laws chain way known.can.normal c c c gap old new known.stands told (end p) (λ t a u. before t u)
-          (λ t v a u b. best_with_rise shape laws chain way known.can.normal c p known.piece known.some gap old known.stands known.entered trend moved
-          t v a (reached.upto t (upto_next t u)) (before t u) b)) (inr before);
+      keeps = keeps_climbed shape laws chain way known.can.rising known.some c p known.piece old known.keeps known.entered trend gap new moved told
+          upto_end (λ t u. reached.upto t (upto_next t u)) before;
       entered = moved_entered;
       plays = plays_told shape chain way.over (place way.to) way.side old new known.plays gap base told;
     }

@@ -34,7 +34,10 @@ pub mod Counted
 pub mod Trends
 pub mod Meeting
 pub mod Holding
+pub mod Refusals
 pub mod OverWindow
+pub mod Hands
+pub mod Following
 pub mod Stretches
 pub mod PlayAlong
 pub mod SignalChains

@@ -26,9 +26,9 @@ use Rattle.pieces.specs.declared.reach.Way.{Way}
 use Rattle.pieces.specs.declared.sliding.Sliding.{Sliding}
 use Rattle.pieces.specs.Best.{GetsNoWorse, IsNoWorse, RisesFrom, none_of}
 use Rattle.pieces.specs.Steps.{IsLastChoice}
-use Rattle.pieces.specs.Chains.{Chain, end, stop, IsLimited, IsNormal}
+use Rattle.pieces.specs.Chains.{Chain, end, stop, IsLimited, Rise}
 use Rattle.pieces.specs.Sliding.{IsBestWith}
-use Rattle.pieces.specs.Windows.{low_place, high_place, BestTo, HasEntered, IsBestEnd, IsNonEmpty, IsPieceFrom, IsSmall, Stands}
+use Rattle.pieces.specs.Windows.{low_place, high_place, BestTo, HasEntered, IsBestEnd, IsNonEmpty, IsPieceFrom, IsSmall, Keeps}
 use Rattle.pieces.proofs.Bests.{best_value, better_alike, better_is_second, nw_back, nw_same, nw_trans}
 use Rattle.pieces.proofs.Ends.{after_of_lt, at_most_itself, at_most_of_before, here_after, here_upto, upto_le, upto_of_lt, upto_time_same}
 use Rattle.pieces.proofs.Seeing.{BestOf, OfPiece, falling_before, floor, high, low, met_more, none, none_seen, rising_past, rising_within}
@@ -64,10 +64,10 @@ limit_before x a k all = elim (le_or_lt (add a (whole k)) x) [
 ]
 
 -- a time moved by an offset is no earlier, where that is behind nothing, and no later, where it is ahead of nothing
-stays_ahead : (t : Rational) (k : ℤ) → pos 0 ≤ℤ k → t ≤ʳ add t (whole k)
+pub stays_ahead : (t : Rational) (k : ℤ) → pos 0 ≤ℤ k → t ≤ʳ add t (whole k)
 stays_ahead t k h = le_trans (ge_of_same (add_zero t)) (le_shift_by {j = pos 0} {k = k} t h)
 
-stays_behind : (t : Rational) (k : ℤ) → k ≤ℤ pos 0 → add t (whole k) ≤ʳ t
+pub stays_behind : (t : Rational) (k : ℤ) → k ≤ℤ pos 0 → add t (whole k) ≤ʳ t
 stays_behind t k h = le_trans (le_shift_by {j = k} {k = pos 0} t h) (le_of_same (add_zero t))
 
 -- a window whose value counts at one time alone has one of its ends there at the place of the value
@@ -164,7 +164,7 @@ module _ {P : Type 0} (shape : ShapeOf P) (laws : ShapeLaws shape) (side : Side)
       by_side Greatest = laws.lowest_bounded
       by_side Least = laws.highest_bounded
 
-module _ {P : Type 0} (shape : ShapeOf P) (laws : ShapeLaws shape) (chain : Chain P) (way : Way) (normal : IsNormal shape chain)
+module _ {P : Type 0} (shape : ShapeOf P) (laws : ShapeLaws shape) (chain : Chain P) (way : Way) (rising : Rise chain.from chain.pieces)
     (c : Place) (p : Piece P) (is : IsPieceFrom shape chain c p) where
   module _ (best : Place) (one : IsBestEnd shape way.side c p best) where
     -- the best end does not lie before the piece
@@ -182,16 +182,16 @@ module _ {P : Type 0} (shape : ShapeOf P) (laws : ShapeLaws shape) (chain : Chai
     ]
 
     -- as long as it is seen, the value there is the best of the piece
-    pub best_there : (some : IsNonEmpty way.over) (t : Rational) → Before best (high shape laws chain way normal t)
-        → Before (low shape laws chain way normal t) best
-        → BestOf shape laws chain way normal (OfPiece shape laws chain way normal some c p is t) (value_at (shape.function p.shape) best.at)
+    pub best_there : (some : IsNonEmpty way.over) (t : Rational) → Before best (high shape laws chain way rising t)
+        → Before (low shape laws chain way rising t) best
+        → BestOf shape laws chain way rising (OfPiece shape laws chain way rising some c p is t) (value_at (shape.function p.shape) best.at)
     best_there some t h l = elim one [
-      | inl (e, falls) ↦ subst (λ b. BestOf shape laws chain way normal (OfPiece shape laws chain way normal some c p is t)
-          (value_at (shape.function p.shape) b.at)) (sym e) (falling_before shape laws chain way normal some c p is t falls
-          (subst (λ b. Before b (high shape laws chain way normal t)) e h) (subst (λ b. Before (low shape laws chain way normal t) b) e l))
-      | inr (e, rises) ↦ subst (λ b. BestOf shape laws chain way normal (OfPiece shape laws chain way normal some c p is t)
-          (value_at (shape.function p.shape) b.at)) (sym e) (rising_past shape laws chain way normal some c p is t rises
-          (subst (λ b. Before (low shape laws chain way normal t) b) e l) (subst (λ b. Before b (high shape laws chain way normal t)) e h))
+      | inl (e, falls) ↦ subst (λ b. BestOf shape laws chain way rising (OfPiece shape laws chain way rising some c p is t)
+          (value_at (shape.function p.shape) b.at)) (sym e) (falling_before shape laws chain way rising some c p is t falls
+          (subst (λ b. Before b (high shape laws chain way rising t)) e h) (subst (λ b. Before (low shape laws chain way rising t) b) e l))
+      | inr (e, rises) ↦ subst (λ b. BestOf shape laws chain way rising (OfPiece shape laws chain way rising some c p is t)
+          (value_at (shape.function p.shape) b.at)) (sym e) (rising_past shape laws chain way rising some c p is t rises
+          (subst (λ b. Before (low shape laws chain way rising t) b) e l) (subst (λ b. Before b (high shape laws chain way rising t)) e h))
     ]
 
     -- the value at the best end is bounded
@@ -211,18 +211,18 @@ module _ {P : Type 0} (shape : ShapeOf P) (laws : ShapeLaws shape) (chain : Chai
         (le_trans (le_of_at_most best (end p) best_ends) (le_of_at_most (end p) (stop chain) is.ends))
 
   -- a piece that gets no worse counts as it is under the high end, while that moves over it
-  pub best_with_rise : (some : IsNonEmpty way.over) (gap : P) (old : Sliding P) → Stands shape chain way c c old
+  pub best_with_rise : (some : IsNonEmpty way.over) (gap : P) (old : Sliding P) → Keeps shape chain way c (end p) c old
       → HasEntered shape chain way c old → GetsNoWorse way.side (shape.function p.shape)
-      → ((t : Rational) → value_at (shape.function gap) t ≈ᵉ value_at (shape.function p.shape) (high shape laws chain way normal t).at)
-      → (t : Rational) (v : Extended) → After (stop old.out) t → Upto (place way.to) t → ¬ Before (end p) (high shape laws chain way normal t)
+      → ((t : Rational) → value_at (shape.function gap) t ≈ᵉ value_at (shape.function p.shape) (high shape laws chain way rising t).at)
+      → (t : Rational) (v : Extended) → After (stop old.out) t → Upto (place way.to) t → ¬ Before (end p) (high shape laws chain way rising t)
       → IsBestWith shape way.side old gap t v → BestTo shape chain way (end p) t v
-  best_with_rise some gap old st entered rises moved t v a u n with_gap = of_best shape laws chain way normal (end p) t v (elim with_gap [
-    | inl (x, g, b) ↦ met_more shape laws chain way normal some c p is t (to_best shape laws chain way normal c t x (st.gives t x g)) part b
-    | inr (past, w) ↦ met_more shape laws chain way normal some c p is t
-        (none_seen shape laws chain way normal c t (λ x y s h. st.none t past u x y s h)) part
-        (better_alike (same_reflᵉ (none shape laws chain way normal)) (same_reflᵉ (value_at (shape.function gap) t)) (symᵉ w)
-        (better_is_second way.side (none shape laws chain way normal) (value_at (shape.function gap) t) (floor shape laws chain way normal gap t)))
+  best_with_rise some gap old st entered rises moved t v a u n with_gap = of_best shape laws chain way rising (end p) t v (elim with_gap [
+    | inl (x, g, b) ↦ met_more shape laws chain way rising some c p is t (to_best shape laws chain way rising c t x (st.gives t x g)) part b
+    | inr (past, w) ↦ met_more shape laws chain way rising some c p is t
+        (none_seen shape laws chain way rising c t (λ x y s h. st.none t past u x y s h)) part
+        (better_alike (same_reflᵉ (none shape laws chain way rising)) (same_reflᵉ (value_at (shape.function gap) t)) (symᵉ w)
+        (better_is_second way.side (none shape laws chain way rising) (value_at (shape.function gap) t) (floor shape laws chain way rising gap t)))
   ])
     where
-      part : BestOf shape laws chain way normal (OfPiece shape laws chain way normal some c p is t) (value_at (shape.function gap) t)
-      part = best_value (symᵉ (moved t)) (rising_within shape laws chain way normal some c p is t rises (entered t a u) n)
+      part : BestOf shape laws chain way rising (OfPiece shape laws chain way rising some c p is t) (value_at (shape.function gap) t)
+      part = best_value (symᵉ (moved t)) (rising_within shape laws chain way rising some c p is t rises (entered t a u) n)

@@ -1,5 +1,5 @@
 -- A window that goes over a whole chain: where it begins, the pieces that it meets, and what it has told once it is behind the last.
-use Rattle.std.proofs.Common.{◌≡◌, ◌⊎◌, inl, inr, ℕ, [], Some, not, false, refl, sym, ap, ◌∙◌, subst}
+use Rattle.std.proofs.Common.{◌≡◌, ◌⊎◌, inl, inr, ℕ, [], Some, not, false, refl, sym, ◌∙◌, subst}
 use Rattle.std.proofs.lemmas.Bool.{false≢true}
 use Rattle.std.specs.Int.Signed.{<ℤ_irrefl}
 use Rattle.std.specs.Prelude.{slice_get, MatchBool, ◌<ℤ◌}
@@ -17,8 +17,8 @@ use Rattle.pieces.specs.declared.reach.Reach.{Reach}
 use Rattle.pieces.specs.declared.reach.Way.{Way}
 use Rattle.pieces.specs.declared.sliding.Sliding.{Sliding}
 use Rattle.pieces.specs.declared.window.Window.{Window}
-use Rattle.pieces.specs.Chains.{Chain, begin_at, end, stop, IsNormal, IsWorth, Tells}
-use Rattle.pieces.specs.Meeting.{CanBegin, GoesPast, HasMet, IsNext, Meets, StandsFor}
+use Rattle.pieces.specs.Chains.{Chain, begin_at, end, stop, IsNormal, IsWorth, Rise, Tells}
+use Rattle.pieces.specs.Meeting.{CanBegin, HasMet, IsNext, Passes, StandsFor}
 use Rattle.pieces.specs.Steps.{AreSteps, StepsGive}
 use Rattle.pieces.specs.Sliding.{HasTold}
 use Rattle.pieces.specs.Windows.{Best, BestTo, IsNonEmpty, IsPieceFrom, Sees, Stands, high_place, low_place}
@@ -41,7 +41,7 @@ sees_nothing over (e, inr f) t u s =
     not_lt_of_le (subst (λ k. add t (whole k) ≤ʳ u) e (after_le (low_place over.low over.low_in t) u s.0))
     (subst (λ b. MatchBool b (u ≤ʳ add t (whole over.high)) (u <ʳ add t (whole over.high))) f s.1)
 
-module _ {P : Type 0} (shape : ShapeOf P) (laws : ShapeLaws shape) (chain : Chain P) (way : Way) (normal : IsNormal shape chain) where
+module _ {P : Type 0} (shape : ShapeOf P) (laws : ShapeLaws shape) (chain : Chain P) (way : Way) (rising : Rise chain.from chain.pieces) where
   -- the best of what is seen is a function of time
   pub best_is_function : IsFunction (Best shape chain way)
   best_is_function = record {
@@ -54,24 +54,24 @@ module _ {P : Type 0} (shape : ShapeOf P) (laws : ShapeLaws shape) (chain : Chai
     where
       seen : (t u : Rational) → t ≈ u → (x : Rational) → Sees way.over t x → Sees way.over u x
       seen t u e x s = (
-        after_same (low shape laws chain way normal t) (low shape laws chain way normal u) x (same_shift way.over.low e, refl) s.0,
-        upto_same (high shape laws chain way normal t) (high shape laws chain way normal u) x (same_shift way.over.high e, refl) s.1,
+        after_same (low shape laws chain way rising t) (low shape laws chain way rising u) x (same_shift way.over.low e, refl) s.0,
+        upto_same (high shape laws chain way rising t) (high shape laws chain way rising u) x (same_shift way.over.high e, refl) s.1,
       )
 
   -- the best of what is seen before the end of the chain is the best of what is seen
-  all_met : (t : Rational) (v : Extended) → BestTo shape chain way (stop chain) t v → Best shape chain way t v
+  pub all_met : (t : Rational) (v : Extended) → BestTo shape chain way (stop chain) t v → Best shape chain way t v
   all_met t v h = best_over way.side shape.lowest shape.highest (Sees way.over t) (IsWorth shape chain) v
-      (best_alike (λ x m. (m.0, m.1.0, m.2)) (λ x m. (m.0, (m.1, worth_upto shape chain.from chain.pieces m.0 x normal.rising m.2), m.2))
-      (to_best shape laws chain way normal (stop chain) t v h))
+      (best_alike (λ x m. (m.0, m.1.0, m.2)) (λ x m. (m.0, (m.1, worth_upto shape chain.from chain.pieces m.0 x rising m.2), m.2))
+      (to_best shape laws chain way rising (stop chain) t v h))
 
   -- a window that has met all tells the rest by its steps, and so the best of what is seen from end to end
-  pub tells_all : (gap : P) (old new : Sliding P) (to : Place) → Stands shape chain way (stop chain) (stop chain) old
+  pub tells_all : (gap : P) (old new : Sliding P) (to : Place) → old.out.from ≡ chain.from → Stands shape chain way (stop chain) (stop chain) old
       → HasTold shape way.side gap old new → Same (stop new.out) to → to ≡ stop chain → AtMost (stop chain) (place way.to)
-      → ((t : Rational) → value_at (shape.function gap) t ≈ᵉ none shape laws chain way normal)
+      → ((t : Rational) → value_at (shape.function gap) t ≈ᵉ none shape laws chain way rising)
       → Tells shape (Best shape chain way) chain.from (stop chain) new.out
-  tells_all gap old new to st told ends at further is = tells shape (Best shape chain way) chain.from (stop chain) new.out best_is_function
+  tells_all gap old new to begins st told ends at further is = tells shape (Best shape chain way) chain.from (stop chain) new.out best_is_function
       (record { normal = told.normal; worth = worth })
-      (subst (λ s. Same s chain.from) (sym (told.begins ∙ st.begins)) (same_place chain.from)) here
+      (subst (λ s. Same s chain.from) (sym (told.begins ∙ begins)) (same_place chain.from)) here
     where
       here : Same (stop new.out) (stop chain)
       here = subst (λ s. Same (stop new.out) s) at ends
@@ -79,7 +79,7 @@ module _ {P : Type 0} (shape : ShapeOf P) (laws : ShapeLaws shape) (chain : Chai
       worth : (t : Rational) (v : Extended) → IsWorth shape new.out t v → Best shape chain way t v
       worth t v w = elim (told.worth t v w) [
         | inl k ↦ st.told t v k
-        | inr (a, u, b) ↦ all_met t v (best_with_none shape laws chain way normal (stop chain) (stop chain) gap old st (at_most_itself (stop chain)) is t v
+        | inr (a, u, b) ↦ all_met t v (best_with_none shape laws chain way rising (stop chain) (stop chain) (stop chain) gap old st (at_most_itself (stop chain)) is t v
             (further t (upto_same (stop new.out) (stop chain) t here u)) b)
       ]
 
@@ -87,14 +87,13 @@ module _ {P : Type 0} (shape : ShapeOf P) (laws : ShapeLaws shape) (chain : Chai
   pub stands_none : (s : Sliding P) → s.out ≡ chain_of chain.from [] → s.steps.items ≡ [] → Stands shape chain way chain.from chain.from s
   stands_none s e nothing = record {
     normal = subst (λ o. IsNormal shape o) (sym e) (record { rising = tt; each = tt });
-    begins = ap (λ o. o.from) e;
     on = subst (λ o. AtMost chain.from (stop o)) (sym e) (at_most_itself chain.from);
-    upto = subst (λ o. AtMost (stop o) (stop chain)) (sym e) (to_stop chain.from chain.pieces normal.rising);
+    upto = subst (λ o. AtMost (stop o) (stop chain)) (sym e) (to_stop chain.from chain.pieces rising);
     told = λ t v w. absurd (subst (λ o. IsWorth shape o t v) e w);
     steps = subst (AreSteps shape way.side (stop s.out)) (sym nothing) tt;
     gives = λ t v g. absurd (subst (λ xs. StepsGive shape way.side (stop s.out) xs t v) nothing g);
     sees = λ t v g. absurd (subst (λ xs. StepsGive shape way.side (stop s.out) xs t v) nothing g);
-    none = λ t a u x y see k w. not_both chain.from x k (worth_after shape chain.from chain.pieces x y normal.rising w);
+    none = λ t a u x y see k w. not_both chain.from x k (worth_after shape chain.from chain.pieces x y rising w);
     reached = inl (subst (λ o. AtMost (stop o) chain.from) (sym e) (at_most_itself chain.from));
   }
 
@@ -103,27 +102,26 @@ module _ {P : Type 0} (shape : ShapeOf P) (laws : ShapeLaws shape) (chain : Chai
       → Stands shape chain way d d s
   stands_blind c d s later blind st = record {
     normal = st.normal;
-    begins = st.begins;
     on = st.on;
     upto = st.upto;
     told = st.told;
     steps = st.steps;
-    gives = λ t v g. of_best shape laws chain way normal d t v (best_alike (λ x m. absurd (blind t m.0 m.1.0)) (λ x m. absurd (blind t m.0 m.1.0))
-        (to_best shape laws chain way normal c t v (st.gives t v g)));
-    sees = λ t v g. let s = st.sees t v g in (before_at_most (low shape laws chain way normal t) c d s.0 later, s.1);
+    gives = λ t v g. of_best shape laws chain way rising d t v (best_alike (λ x m. absurd (blind t m.0 m.1.0)) (λ x m. absurd (blind t m.0 m.1.0))
+        (to_best shape laws chain way rising c t v (st.gives t v g)));
+    sees = λ t v g. let s = st.sees t v g in (before_at_most (low shape laws chain way rising t) c d s.0 later, s.1);
     none = λ t a u x y s k. absurd (blind t x s);
     reached = elim st.reached [
       | inl h ↦ inl h
-      | inr h ↦ inr (λ t u b. h t u (before_of_at_most c d (high shape laws chain way normal t) later b))
+      | inr h ↦ inr (λ t u b. h t u (before_of_at_most c d (high shape laws chain way rising t) later b))
     ];
   }
 
   -- each piece of the chain, from where it begins
   pub piece_from : (i : ℕ) (p : Piece P) → slice_get chain.pieces i ≡ Some p → IsPieceFrom shape chain (begin_at chain.from chain.pieces i) p
   piece_from i p e = record {
-    order = rises_at chain.from chain.pieces i p normal.rising e;
-    begins = begin_most chain.from chain.pieces i normal.rising;
-    ends = end_most chain.from chain.pieces i p normal.rising e;
+    order = rises_at chain.from chain.pieces i p rising e;
+    begins = begin_most chain.from chain.pieces i rising;
+    ends = end_most chain.from chain.pieces i p rising e;
     worth = λ t a u. worth_place shape chain.from chain.pieces i p t e a u;
     has = shape_at chain.pieces i p e;
   }
@@ -142,10 +140,9 @@ module _ {P : Type 0} {shape : ShapeOf P} {chain : Chain P} {way : Way} where
     can = can.can;
     to = can.to;
     within = can.within;
-    ahead = subst (λ c. GoesPast shape chain way c) can.begins can.ahead;
     begins = at_most_itself chain.from;
-    ends = to_stop chain.from chain.pieces can.can.normal.rising;
-    stands = stands_none shape laws chain way can.can.normal s (subst (λ c. s.out ≡ chain_of c []) can.begins none) nothing;
+    ends = to_stop chain.from chain.pieces can.can.rising;
+    stands = stands_none shape laws chain way can.can.rising s (subst (λ c. s.out ≡ chain_of c []) can.begins none) nothing;
     plays = plays_none shape chain way.over (place way.to) s at none nothing;
   })
 
@@ -156,25 +153,27 @@ module _ {P : Type 0} {shape : ShapeOf P} {chain : Chain P} {way : Way} where
     can = known.can;
     to = known.to;
     within = known.within;
-    ahead = next.ahead;
     begins = piece_begun next.piece;
     ends = next.piece.ends;
-    stands = stands_blind shape laws chain way known.can.normal c (end p) s (at_most_of_before c (end p) next.piece.order) blind known.stands;
+    stands = stands_blind shape laws chain way known.can.rising c (end p) s (at_most_of_before c (end p) next.piece.order) blind known.stands;
     plays = known.plays;
   }
 
 -- what comes next may be met
-pub meets_next : {P : Type 0} {shape : ShapeOf P} {chain : Chain P} {c : Place} {w : Window P} {p : Piece P} → IsNonEmpty w.way.over
-    → StandsFor shape chain c w → IsNext shape chain w.way c p → Meets shape chain w.way c p w.sliding
-meets_next some st next = record {
-  can = st.met.can;
-  to = st.met.to;
-  within = st.met.within;
-  some = some;
-  piece = next.piece;
-  breaks = next.breaks;
+pub passes_next : {P : Type 0} {shape : ShapeOf P} {chain : Chain P} {c : Place} {w : Window P} {p : Piece P} → IsNonEmpty w.way.over
+    → StandsFor shape chain c w → IsNext shape chain w.way c p → Passes shape chain w.way c p w.sliding
+passes_next some st next = record {
+  meets = record {
+    can = st.met.can;
+    to = st.met.to;
+    within = st.met.within;
+    some = some;
+    piece = next.piece;
+    breaks = next.breaks.first;
+    stands = st.met.stands;
+    entered = (st.ready some).entered;
+    plays = st.met.plays;
+  };
+  last = next.breaks.last;
   ahead = next.ahead;
-  stands = st.met.stands;
-  entered = (st.ready some).entered;
-  plays = st.met.plays;
 }

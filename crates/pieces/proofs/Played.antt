@@ -19,8 +19,9 @@ use Rattle.pieces.specs.declared.reach.Reach.{Reach}
 use Rattle.pieces.specs.declared.sliding.Sliding.{Sliding}
 use Rattle.pieces.specs.Best.{none_of}
 use Rattle.pieces.specs.Chains.{Chain, HasShape, stop}
-use Rattle.pieces.specs.Over.{InPlay, IsCauseOver, IsMovedTo, Plays}
+use Rattle.pieces.specs.Over.{InPlay, IsMovedTo, Plays}
 use Rattle.pieces.specs.Sliding.{HasTold, IsCrossFault, IsToldFault}
+use Rattle.pieces.specs.Causes.{IsCauseBelow}
 use Rattle.pieces.specs.Steps.{CountsInside, HasCounted, HasSlid, IsOfSteps, steps_end}
 use Rattle.pieces.proofs.BuildingLemmas.{chain_of}
 
@@ -81,22 +82,22 @@ module _ {P : Type 0} (shape : ShapeOf P) (laws : ShapeLaws shape) where
       right (inr e) = absurd (never p q e h.meet)
 
 module _ {P : Type 0} (shape : ShapeOf P) (chain : Chain P) (over : Reach) (last : Place) where
-  -- a crossing of two shapes that are in play is a cause
-  pub cause_of_cross : (Has : Rational → P → Type 0) (from to : Rational) → chain.from.at ≤ʳ from → to ≤ʳ (stop chain).at
+  -- a crossing of two shapes that are in play is a cause at a time below a limit in the domain, where it comes no later
+  pub cause_of_cross : (Has : Rational → P → Type 0) (from to limit : Rational) → chain.from.at ≤ʳ from → to ≤ʳ limit → limit ≤ʳ (stop chain).at
       → ((tau : Rational) (p : P) → from <ʳ tau → tau <ʳ to → Has tau p → InPlay shape chain over tau (shape.function p))
-      → (pair : WidePair P) → IsCrossFault shape Has from to pair → IsCauseOver shape chain over pair
-  cause_of_cross Has from to begins ends plays (Value p at den) h = absurd h
-  cause_of_cross Has from to begins ends plays (Cross p q a b den) h =
+      → (pair : WidePair P) → IsCrossFault shape Has from to pair → IsCauseBelow shape chain over limit pair
+  cause_of_cross Has from to limit begins ends inside plays (Value p at den) h = absurd h
+  cause_of_cross Has from to limit begins ends inside plays (Cross p q a b den) h =
       let after : from <ʳ h.time = lt_of_le_of_lt h.above h.meet.after in
       let before : h.time <ʳ to = lt_of_lt_of_le h.meet.before h.below in
       record {
         tau = h.time;
         after_start = lt_of_le_of_lt begins after;
-        before_stop = lt_of_lt_of_le before ends;
+        before_stop = lt_of_lt_of_le (lt_of_lt_of_le before ends) inside;
         above = h.meet.after;
         below = h.meet.before;
-        first = plays h.time p after before h.first;
-        second = plays h.time q after before h.second;
+        first = (plays h.time p after before h.first, lt_of_lt_of_le before ends);
+        second = (plays h.time q after before h.second, lt_of_lt_of_le before ends);
         meet = h.meet.meet;
         alone = h.meet.alone;
         denominator = h.denominator;
@@ -104,12 +105,12 @@ module _ {P : Type 0} (shape : ShapeOf P) (chain : Chain P) (over : Reach) (last
       }
 
   -- what is refused where a window tells more is a cause, where the shape under which it does is in play
-  pub told_cause : (side : Side) (gap : P) (until : Place) (old : Sliding P) → Plays shape chain over last old
-      → chain.from.at ≤ʳ (stop old.out).at → until.at ≤ʳ (stop chain).at
+  pub told_cause : (side : Side) (gap : P) (until : Place) (limit : Rational) (old : Sliding P) → Plays shape chain over last old
+      → chain.from.at ≤ʳ (stop old.out).at → until.at ≤ʳ limit → limit ≤ʳ (stop chain).at
       → ((tau : Rational) → (stop old.out).at <ʳ tau → tau <ʳ until.at → InPlay shape chain over tau (shape.function gap))
-      → (pair : WidePair P) → IsToldFault shape side gap until old pair → IsCauseOver shape chain over pair
-  told_cause side gap until old plays begins ends of_gap = cause_of_cross
-      (λ tau p. CountsInside (stop old.out) old.steps.items tau p ⊎ (p ≡ gap)) (stop old.out).at until.at begins ends by_part
+      → (pair : WidePair P) → IsToldFault shape side gap until old pair → IsCauseBelow shape chain over limit pair
+  told_cause side gap until limit old plays begins ends inside of_gap = cause_of_cross
+      (λ tau p. CountsInside (stop old.out) old.steps.items tau p ⊎ (p ≡ gap)) (stop old.out).at until.at limit begins ends inside by_part
     where
       by_part : (tau : Rational) (p : P) → (stop old.out).at <ʳ tau → tau <ʳ until.at
           → CountsInside (stop old.out) old.steps.items tau p ⊎ (p ≡ gap) → InPlay shape chain over tau (shape.function p)
@@ -117,12 +118,13 @@ module _ {P : Type 0} (shape : ShapeOf P) (chain : Chain P) (over : Reach) (last
       by_part tau p a b (inr e) = subst (λ p. InPlay shape chain over tau (shape.function p)) (sym e) (of_gap tau a b)
 
   -- what is refused where it tells more under the value of no values is a cause
-  pub told_cause_none : ShapeLaws shape → (side : Side) (none : P) (until : Place) (old : Sliding P)
+  pub told_cause_none : ShapeLaws shape → (side : Side) (none : P) (until : Place) (limit : Rational) (old : Sliding P)
       → ((t : Rational) → value_at (shape.function none) t ≈ᵉ none_of side shape.lowest shape.highest) → Plays shape chain over last old
-      → chain.from.at ≤ʳ (stop old.out).at → until.at ≤ʳ (stop chain).at
-      → (pair : WidePair P) → IsToldFault shape side none until old pair → IsCauseOver shape chain over pair
-  told_cause_none laws side none until old is plays begins ends pair h = cause_of_cross
-      (λ tau p. CountsInside (stop old.out) old.steps.items tau p) (stop old.out).at until.at begins ends (λ tau p a b k. plays.in_play tau p k) pair
+      → chain.from.at ≤ʳ (stop old.out).at → until.at ≤ʳ limit → limit ≤ʳ (stop chain).at
+      → (pair : WidePair P) → IsToldFault shape side none until old pair → IsCauseBelow shape chain over limit pair
+  told_cause_none laws side none until limit old is plays begins ends inside pair h = cause_of_cross
+      (λ tau p. CountsInside (stop old.out) old.steps.items tau p) (stop old.out).at until.at limit begins ends inside
+      (λ tau p a b k. plays.in_play tau p k) pair
       (cross_of_others shape laws side none is (λ tau p. CountsInside (stop old.out) old.steps.items tau p) (stop old.out).at until.at pair h)
 
   -- a window that has told nothing has no shapes

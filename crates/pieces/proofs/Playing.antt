@@ -5,7 +5,7 @@ use Rattle.rational.specs.Time.{Rational, Within, shifted, ◌≤ʳ◌, ◌<ʳ�
 use Rattle.rational.specs.Extended.{Affine, value_at, ◌≈ᵉ◌}
 use Rattle.rational.specs.Affine.{IsSteady}
 use Rattle.rational.specs.Places.{Place, Before}
-use Rattle.rational.specs.InPlay.{HasTime, IsConstant, IsLineOn}
+use Rattle.rational.specs.InPlay.{HasTime, IsBreakpoint, IsConstant, IsLineOn}
 use Rattle.rational.proofs.Order.{le_refl, le_of_lt, le_of_same, ge_of_same, le_trans, lt_of_le_of_lt, lt_of_lt_of_le, left_of_middle, right_of_middle}
 use Rattle.rational.proofs.Order.{le_or_lt, same_sym}
 use Rattle.rational.proofs.Shift.{lt_shift, le_shift_by}
@@ -16,8 +16,9 @@ use Rattle.rational.proofs.PlaceLemmas.{at_most_of_not_before, between, le_of_at
 use Rattle.value_laws.specs.Members.{ShapeOf}
 use Rattle.pieces.specs.declared.piece.Piece.{Piece}
 use Rattle.pieces.specs.declared.reach.Reach.{Reach}
-use Rattle.pieces.specs.Chains.{Chain, end, stop, IsNormal, IsWorth}
-use Rattle.pieces.specs.Over.{HasBreaks, InPlay, SeesIn}
+use Rattle.pieces.specs.Chains.{Chain, end, stop, IsWorth, Rise}
+use Rattle.pieces.specs.Over.{InPlay, SeesIn}
+use Rattle.pieces.specs.Causes.{IsHeldAt}
 use Rattle.pieces.specs.Windows.{IsNonEmpty, IsPieceFrom, IsSmall, high_place, low_place}
 use Rattle.pieces.proofs.AheadOver.{in_domain}
 use Rattle.pieces.proofs.Ends.{after_of_lt, after_time_same, here_after, here_upto, upto_of_lt, upto_time_same}
@@ -58,7 +59,13 @@ module _ (over : Reach) where
       lt_of_lt_of_le (lt_shift over.low (left_of_middle h))
       (le_of_before (low_place over.low over.low_in m) c (f m (left_of_middle h) (right_of_middle h)))
 
-module _ {P : Type 0} (shape : ShapeOf P) (chain : Chain P) (over : Reach) (normal : IsNormal shape chain) (small : IsSmall over)
+-- a constant that is held is in play
+pub held_in_play : {P : Type 0} (shape : ShapeOf P) (chain : Chain P) (over : Reach) (last tau : Rational) (line : Affine)
+    → IsHeldAt shape chain over last tau line → InPlay shape chain over tau line
+held_in_play shape chain over last tau line (seen, inl (u, breaks, m, v, w, constant)) = (seen, inr (inl (u, breaks, m.0, v, w, constant)))
+held_in_play shape chain over last tau line (seen, inr (u, breaks, m, v, l, constant)) = (seen, inr (inr (u, breaks, m.0, v, l, constant)))
+
+module _ {P : Type 0} (shape : ShapeOf P) (chain : Chain P) (over : Reach) (rising : Rise chain.from chain.pieces) (small : IsSmall over)
     (some : IsNonEmpty over) (c : Place) (p : Piece P) (is : IsPieceFrom shape chain c p) (tau : Rational) where
   -- the low end is no later than the high one
   low_high : add tau (whole over.low) ≤ʳ add tau (whole over.high)
@@ -73,7 +80,7 @@ module _ {P : Type 0} (shape : ShapeOf P) (chain : Chain P) (over : Reach) (norm
       (earlier.after (low_place over.low over.low_in tau) (inl l) (room_in over.low over.high over.low_in over.high_in tau some))) in
       let x = later.both m.0 m.1 in
       let y = earlier.both m.0 m.2 in
-      (m.0, (in_domain shape chain normal m.0 (value_at (shape.function p.shape) m.0) (is.worth m.0 x.0 y.0), (x.1, y.1)))
+      (m.0, (in_domain shape chain rising m.0 (value_at (shape.function p.shape) m.0) (is.worth m.0 x.0 y.0), (x.1, y.1)))
 
   -- a time of the piece lies in the domain
   inside : (u : Rational) → c.at ≤ʳ u → u ≤ʳ (end p).at → Within chain.from.at (stop chain).at u
@@ -115,33 +122,34 @@ module _ {P : Type 0} (shape : ShapeOf P) (chain : Chain P) (over : Reach) (norm
       → (line : Affine) → ((t : Rational) → value_at line t ≈ᵉ value_at (shape.function p.shape) (add t (whole over.low))) → InPlay shape chain over tau line
   low_in_play h k line moved = end_in_play over.low (inl refl) h k (lt_of_lt_of_le h low_high) k line moved
 
-  module _ (breaks : HasBreaks shape chain c p) where
-    -- the constant with the piece's last value is in play where the window ends no earlier than the piece, and begins before its end
-    pub last_in_play : c.at <ʳ add tau (whole over.high) → add tau (whole over.low) <ʳ (end p).at → (end p).at ≤ʳ add tau (whole over.high)
-        → (line : Affine) → IsConstant line (value_at (shape.function p.shape) (end p).at) → InPlay shape chain over tau line
-    last_in_play h l k line constant = by_order is.order
-      where
-        by_order : Before c (end p) → InPlay shape chain over tau line
-        by_order (inl g) = (
-          has_time h l,
-          inr (inr (
-            (end p).at,
-            breaks.last,
-            (inside (end p).at (le_of_lt g) (le_refl (end p).at), (le_of_lt l, k)),
-            value_at (shape.function p.shape) (end p).at,
-            inl (
-              lt_of_le_of_lt (le_of_at_most chain.from c is.begins) g,
-              lt_of_le_of_lt (le_of_same (shifted-add tau over.low)) l,
-              record { a = c.at; above = g; line = shape.function p.shape; on = on_gap; value = passes (shape.function p.shape) (end p).at },
-            ),
-            constant,
-          )),
-        )
-        by_order (inr (s, x, y)) = (
-          has_time h l,
-          inr (inl (
-            (end p).at,
-            breaks.last,
+  -- the constant with the piece's last value is in play where the window ends no earlier than the piece, and begins before its end
+  pub last_held : IsBreakpoint (IsWorth shape chain) chain.from.at (stop chain).at (end p).at → c.at <ʳ add tau (whole over.high)
+      → add tau (whole over.low) <ʳ (end p).at → (end p).at ≤ʳ add tau (whole over.high)
+      → (line : Affine) → IsConstant line (value_at (shape.function p.shape) (end p).at) → IsHeldAt shape chain over (end p).at tau line
+  last_held breaks h l k line constant = by_order is.order
+    where
+      by_order : Before c (end p) → IsHeldAt shape chain over (end p).at tau line
+      by_order (inl g) = (
+        has_time h l,
+        inr (
+          (end p).at,
+          breaks,
+          ((inside (end p).at (le_of_lt g) (le_refl (end p).at), (le_of_lt l, k)), le_refl (end p).at),
+          value_at (shape.function p.shape) (end p).at,
+          inl (
+            lt_of_le_of_lt (le_of_at_most chain.from c is.begins) g,
+            lt_of_le_of_lt (le_of_same (shifted-add tau over.low)) l,
+            record { a = c.at; above = g; line = shape.function p.shape; on = on_gap; value = passes (shape.function p.shape) (end p).at },
+          ),
+          constant,
+        ),
+      )
+      by_order (inr (s, x, y)) = (
+        has_time h l,
+        inl (
+          (end p).at,
+          breaks,
+          (
             (
               inside (end p).at (le_of_same s) (le_refl (end p).at),
               (
@@ -149,57 +157,65 @@ module _ {P : Type 0} (shape : ShapeOf P) (chain : Chain P) (over : Reach) (norm
                 upto_of_lt (high_place over.high over.high_in tau) (end p).at (lt_of_le_of_lt (ge_of_same s) h),
               ),
             ),
-            value_at (shape.function p.shape) (end p).at,
-            is.worth (end p).at (after_time_same c c.at (end p).at s (here_after c x)) (here_upto (end p) y),
-            constant,
-          )),
-        )
+            le_refl (end p).at,
+          ),
+          value_at (shape.function p.shape) (end p).at,
+          is.worth (end p).at (after_time_same c c.at (end p).at s (here_after c x)) (here_upto (end p) y),
+          constant,
+        ),
+      )
 
-    -- the constant with its first value is in play where the window begins before it, and ends behind that
-    pub first_in_play : c.at <ʳ add tau (whole over.high) → add tau (whole over.low) <ʳ c.at
-        → (line : Affine) → IsConstant line (value_at (shape.function p.shape) c.at) → InPlay shape chain over tau line
-    first_in_play h l line constant = by_order is.order
-      where
-        has : HasTime (SeesIn chain.from.at (stop chain).at over tau)
-        has = has_time h (lt_of_lt_of_le l (le_of_before c (end p) is.order))
-
-        by_order : Before c (end p) → InPlay shape chain over tau line
-        by_order (inl g) = (
-          has,
-          inr (inr (
-            c.at,
-            breaks.first,
-            (inside c.at (le_refl c.at) (le_of_lt g), (le_of_lt l, le_of_lt h)),
-            value_at (shape.function p.shape) c.at,
-            inr (
-              lt_of_lt_of_le g (le_of_at_most (end p) (stop chain) is.ends),
-              lt_of_lt_of_le h (ge_of_same (shifted-add tau over.high)),
-              record { b = (end p).at; below = g; line = shape.function p.shape; on = on_gap; value = passes (shape.function p.shape) c.at },
-            ),
-            constant,
-          )),
-        )
-        by_order (inr (s, x, y)) = (
-          has,
-          inr (inl (
-            c.at,
-            breaks.first,
+  -- the constant with its first value is in play where the window begins no later than it, and ends behind that
+  pub first_held : IsBreakpoint (IsWorth shape chain) chain.from.at (stop chain).at c.at → c.at <ʳ add tau (whole over.high)
+      → add tau (whole over.low) ≤ʳ c.at → add tau (whole over.low) <ʳ (end p).at
+      → (line : Affine) → IsConstant line (value_at (shape.function p.shape) c.at) → IsHeldAt shape chain over c.at tau line
+  first_held breaks h l k line constant = by_order is.order
+    where
+      by_order : Before c (end p) → IsHeldAt shape chain over c.at tau line
+      by_order (inl g) = (
+        has_time h k,
+        inr (
+          c.at,
+          breaks,
+          ((inside c.at (le_refl c.at) (le_of_lt g), (l, le_of_lt h)), le_refl c.at),
+          value_at (shape.function p.shape) c.at,
+          inr (
+            lt_of_lt_of_le g (le_of_at_most (end p) (stop chain) is.ends),
+            lt_of_lt_of_le h (ge_of_same (shifted-add tau over.high)),
+            record { b = (end p).at; below = g; line = shape.function p.shape; on = on_gap; value = passes (shape.function p.shape) c.at },
+          ),
+          constant,
+        ),
+      )
+      by_order (inr (s, x, y)) = (
+        has_time h k,
+        inl (
+          c.at,
+          breaks,
+          (
             (
               inside c.at (le_refl c.at) (le_of_same s),
-              (after_of_lt (low_place over.low over.low_in tau) c.at l, upto_of_lt (high_place over.high over.high_in tau) c.at h),
+              (
+                after_of_lt (low_place over.low over.low_in tau) c.at (lt_of_lt_of_le k (ge_of_same s)),
+                upto_of_lt (high_place over.high over.high_in tau) c.at h,
+              ),
             ),
-            value_at (shape.function p.shape) c.at,
-            is.worth c.at (here_after c x) (upto_time_same (end p) (end p).at c.at (same_sym s) (here_upto (end p) y)),
-            constant,
-          )),
-        )
+            le_refl c.at,
+          ),
+          value_at (shape.function p.shape) c.at,
+          is.worth c.at (here_after c x) (upto_time_same (end p) (end p).at c.at (same_sym s) (here_upto (end p) y)),
+          constant,
+        ),
+      )
 
-    -- a steady piece moved by the high offset is in play where it is seen
-    pub steady_in_play : IsSteady (shape.function p.shape) → c.at <ʳ add tau (whole over.high) → add tau (whole over.low) <ʳ (end p).at
-        → (line : Affine) → ((t : Rational) → value_at line t ≈ᵉ value_at (shape.function p.shape) (add t (whole over.high)))
-        → InPlay shape chain over tau line
-    steady_in_play steady h l line moved = by_order (le_or_lt (end p).at (add tau (whole over.high)))
-      where
-        by_order : ((end p).at ≤ʳ add tau (whole over.high)) ⊎ (add tau (whole over.high) <ʳ (end p).at) → InPlay shape chain over tau line
-        by_order (inr k) = high_in_play h k line moved
-        by_order (inl k) = last_in_play h l k line (λ t. symᵉ (transᵉ (moved t) (steady (add t (whole over.high)) (end p).at)))
+  -- a steady piece moved by the high offset is in play where it is seen
+  pub steady_in_play : IsBreakpoint (IsWorth shape chain) chain.from.at (stop chain).at c.at → IsSteady (shape.function p.shape)
+      → c.at <ʳ add tau (whole over.high) → add tau (whole over.low) <ʳ (end p).at
+      → (line : Affine) → ((t : Rational) → value_at line t ≈ᵉ value_at (shape.function p.shape) (add t (whole over.high)))
+      → InPlay shape chain over tau line
+  steady_in_play breaks steady h l line moved = by_order (le_or_lt (add tau (whole over.low)) c.at)
+    where
+      by_order : (add tau (whole over.low) ≤ʳ c.at) ⊎ (c.at <ʳ add tau (whole over.low)) → InPlay shape chain over tau line
+      by_order (inl k) = held_in_play shape chain over c.at tau line
+          (first_held breaks h k l line (λ t. symᵉ (transᵉ (moved t) (steady (add t (whole over.high)) c.at))))
+      by_order (inr k) = low_in_play k l line (λ t. transᵉ (moved t) (steady (add t (whole over.high)) (add t (whole over.low))))

@@ -14,10 +14,10 @@ use Rattle.pieces.proofs.WindowEnds.{room_in}
 use Rattle.pieces.specs.declared.piece.Piece.{Piece}
 use Rattle.pieces.specs.declared.reach.Way.{Way}
 use Rattle.pieces.specs.Best.{IsNoWorse, IsBetter, none_of, GetsNoWorse, GetsNoBetter}
-use Rattle.pieces.specs.Chains.{Chain, end, IsNormal, IsWorth}
+use Rattle.pieces.specs.Chains.{Chain, end, IsWorth, Rise}
 use Rattle.pieces.specs.Windows.{low_place, high_place, Sees, IsNonEmpty, IsPieceFrom, Best, BestTo}
 use Rattle.pieces.proofs.Bests.{IsBest, Values, nw_same, best_alike, best_value, best_union, best_at_end, best_at_begin, best_none, best_over, over_best}
-use Rattle.pieces.proofs.Telling.{worth_is_function}
+use Rattle.pieces.proofs.Telling.{rising_is_function}
 
 -- the later of two places
 pub record IsLaterOf (c d b : Place) : Type 0 where
@@ -55,7 +55,7 @@ earlier_place c d = elim (place_order c d) as (λ o. (e : Place) × IsEarlierOf 
   ]
 ]
 
-module _ {P : Type 0} (shape : ShapeOf P) (laws : ShapeLaws shape) (chain : Chain P) (way : Way) (normal : IsNormal shape chain) where
+module _ {P : Type 0} (shape : ShapeOf P) (laws : ShapeLaws shape) (chain : Chain P) (way : Way) (rising : Rise chain.from chain.pieces) where
   -- where the window begins and ends from a time
   abbrev pub low : Rational → Place
   low t = low_place way.over.low way.over.low_in t
@@ -88,7 +88,7 @@ module _ {P : Type 0} (shape : ShapeOf P) (laws : ShapeLaws shape) (chain : Chai
     low_high = room_in way.over.low way.over.high way.over.low_in way.over.high_in t some
 
     worth_of : (u : Rational) (v : Extended) → OfPiece u → IsWorth shape chain u v → Passes (shape.function p.shape) u v
-    worth_of u v m w = (worth_is_function shape chain normal).one u v (value_at (shape.function p.shape) u) w (is.worth u m.1 m.2)
+    worth_of u v m w = (rising_is_function shape chain rising).one u v (value_at (shape.function p.shape) u) w (is.worth u m.1 m.2)
 
     inner : (u : Rational) → After c u → Upto (end p) u → After (low t) u → Upto (high t) u
         → OfPiece u × IsWorth shape chain u (value_at (shape.function p.shape) u)

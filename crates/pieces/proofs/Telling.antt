@@ -15,7 +15,7 @@ use Rattle.value_laws.specs.Members.{ShapeOf}
 use Rattle.pl_signal.specs.declared.joining.Side.{Side}
 use Rattle.pl_signal.specs.Joining.{IsChosen, ChosenOf}
 use Rattle.pl_signal.proofs.Choices.{chosen_same, chosen_once}
-use Rattle.pieces.specs.Chains.{Chain, stop, IsWorth, IsNormal, Tells}
+use Rattle.pieces.specs.Chains.{Chain, stop, IsWorth, IsNormal, Rise, Tells}
 use Rattle.pieces.specs.Building.{GoesOn}
 use Rattle.pieces.specs.Joining.{Joins}
 use Rattle.pieces.proofs.ChainLemmas.{worth_after, worth_upto, every_time, one_value, worth_same}
@@ -32,11 +32,14 @@ chosen_is_function side A B f g = record {
 
 module _ {P : Type 0} (shape : ShapeOf P) where
   -- what a chain is worth is a function of time
-  pub worth_is_function : (chain : Chain P) → IsNormal shape chain → IsFunction (IsWorth shape chain)
-  worth_is_function chain s = record {
+  pub rising_is_function : (chain : Chain P) → Rise chain.from chain.pieces → IsFunction (IsWorth shape chain)
+  rising_is_function chain rising = record {
     alike = λ t u v w e f h. worth_same shape chain.from chain.pieces v w e f h;
-    one = λ t v w a b. one_value shape chain.from chain.pieces t v w s.rising a b;
+    one = λ t v w a b. one_value shape chain.from chain.pieces t v w rising a b;
   }
+
+  pub worth_is_function : (chain : Chain P) → IsNormal shape chain → IsFunction (IsWorth shape chain)
+  worth_is_function chain s = rising_is_function chain s.rising
 
   -- all that the chain tells so far is what F says
   pub record TellsSoFar (F : Function) (chain : Chain P) : Type 0 where

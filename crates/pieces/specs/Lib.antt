@@ -10,4 +10,7 @@ pub mod Steps
 pub mod Sliding
 pub mod Windows
 pub mod Over
+pub mod Causes
 pub mod Meeting
+pub mod Streaming
+pub mod Hands

@@ -2,10 +2,10 @@
 -- may be refused, and where the bases of its shapes come from.
 use Rattle.std.specs.Prelude.{◌≡◌, ◌⊎◌, ◌^◌, ◌-ℤ◌, ◌+ℤ◌, ℕ, ℤ, pos, neg_ℤ, true, IsTrue, Option, Some, None}
 use Rattle.rational.specs.Time.{Rational, Within, shifted, ◌≤ʳ◌, ◌<ʳ◌}
-use Rattle.rational.specs.Extended.{Affine, Extended}
+use Rattle.rational.specs.Extended.{Affine}
 use Rattle.rational.specs.Places.{Place}
 use Rattle.rational.specs.Windows.{Function, Window}
-use Rattle.rational.specs.InPlay.{HasTime, IsBreakpoint, IsConstant, IsEndPart, IsLimitWithin, IsValueWithin, IsWideCrossing, IsWideValue}
+use Rattle.rational.specs.InPlay.{HasTime, IsBreakpoint, IsEndPart, IsLimitWithin, IsValueWithin, IsWideCrossing, IsWideValue}
 use Rattle.frac128.specs.Value.{value}
 use Rattle.value_laws.specs.Members.{ShapeOf}
 use Rattle.pl_signal.specs.declared.faults.WidePair.{WidePair}
@@ -88,10 +88,6 @@ module _ {P : Type 0} (shape : ShapeOf P) where
     -- so it is with each shape of the new chain
     abbrev pub BasesOver : Chain P → Type 0
     BasesOver new = (p : P) → HasShape new p → IsMovedOver p
-
-    -- the constant with the value is in play at each time between
-    abbrev pub PlaysBetween : Rational → Rational → Extended → Type 0
-    PlaysBetween a b v = (tau : Rational) (line : Affine) → a <ʳ tau → tau <ʳ b → IsConstant line v → InPlay tau line
 
     -- the shapes that the window has told, and those of its steps up to the last place, have such bases, and each shape that counts inside a
     -- step is in play there

@@ -13,7 +13,7 @@ use Rattle.pieces.specs.declared.reach.Reach.{Reach}
 use Rattle.pieces.specs.declared.reach.Way.{Way}
 use Rattle.pieces.specs.declared.sliding.Sliding.{Sliding}
 use Rattle.pieces.specs.Best.{IsBestOver, GetsNoBetter, GetsNoWorse}
-use Rattle.pieces.specs.Chains.{Chain, end, stop, HasShape, IsLimited, IsNormal, IsWorth}
+use Rattle.pieces.specs.Chains.{Chain, end, stop, HasShape, IsLimited, IsNormal, IsWorth, Rise}
 use Rattle.pieces.specs.Steps.{AreSteps, StepsGive}
 use Rattle.pieces.specs.Sliding.{last_end}
 
@@ -76,7 +76,7 @@ module _ {P : Type 0} (shape : ShapeOf P) where
 
   -- a chain over which a window can move
   pub record CanSlide (chain : Chain P) (over : Reach) : Type 0 where
-    pub normal : IsNormal shape chain
+    pub rising : Rise chain.from chain.pieces
     pub limited : IsLimited shape chain
     pub near : AreNear chain
     pub first : whole (pos 0) ≤ʳ chain.from.at
@@ -118,7 +118,6 @@ module _ {P : Type 0} (shape : ShapeOf P) where
     -- nothing is seen before the place `left`; as far as it has told, its high end has come no further than the place `reach`
     pub record Keeps (met reach left : Place) (s : Sliding P) : Type 0 where
       pub normal : IsNormal shape s.out
-      pub begins : s.out.from ≡ chain.from
       pub on : AtMost chain.from (stop s.out)
       pub upto : AtMost (stop s.out) (stop chain)
       pub told : (t : Rational) (v : Extended) → IsWorth shape s.out t v → Best t v

@@ -66,6 +66,14 @@ impl<P: Shape> Pieces<P> {
         })
     }
 
+    /// It begins anew where it ends, with no piece.
+    pub fn restart(&mut self)
+        ensures { self.new ≡ record { from = stop self.old; pieces = [] } }
+    {
+        self.from = self.until();
+        self.items.clear();
+    }
+
     /// The number of pieces.
     pub fn len(&self) -> usize
         ensures value { result ≡ length self.now.pieces }

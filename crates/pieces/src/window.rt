@@ -4,14 +4,15 @@ ghost use Rattle.rational.specs.Rational.{IsWithin, add, whole};
 ghost use Rattle.rational.specs.Time.{Rational, ◌≤ʳ◌, ◌<ʳ◌, ◌≈◌};
 ghost use Rattle.rational.specs.Extended.{value_at, ◌≈ᵉ◌};
 ghost use Rattle.rational.specs.Affine.{HasBoundedLevel, IsBounded, IsSteady};
-ghost use Rattle.rational.specs.Places.{After, AtMost, Before, Upto};
+ghost use Rattle.rational.specs.Places.{After, AtMost, Before, Place, Upto};
 ghost use Rattle.frac128.specs.Value.{value as value_of};
 ghost use Rattle.frac128.specs.Cuts.{place};
 ghost use Rattle.pl_signal.specs.declared.faults.OpFault.TheVariants as F;
 ghost use Rattle.courses.specs.Courses.{IsFixed, IsValueFault};
 ghost use Rattle.pieces.specs.Best.{GetsNoBetter, GetsNoWorse, IsNoWorse, IsTrendFor, none_of};
 ghost use Rattle.pieces.specs.Chains.{Chain, IsLimited, Tells, end, stop};
-ghost use Rattle.pieces.specs.Meeting.{CanBegin, HasMet, Holds, IsNext, Meets, StandsFor};
+ghost use Rattle.pieces.specs.Meeting.{CanBegin, HasMet, HasToldTo, Holds, IsBelow, IsHeldFault, IsNext, Meets, Passes, Reaches, Rises, StandsFor};
+ghost use Rattle.pieces.specs.Causes.{HasPassed, IsCauseBelow};
 ghost use Rattle.pieces.specs.Over.{BasesOver, HasCauseOver, IsCauseOver, Plays};
 ghost use Rattle.pieces.specs.Sliding.{last_end};
 ghost use Rattle.pieces.specs.Steps.{AreSteps, HideTo};
@@ -219,24 +220,25 @@ fn pass<P: Shape>(
     window: &mut Sliding<P>,
     fault: &mut Option<WidePair<P>>,
 ) -> Result<(), Memory>
-    requires met { (s : Chain P) × Meets P.Shape s way.now (place from.now) piece.now window.old }
+    requires met { (s : Chain P) × Passes P.Shape s way.now (place from.now) piece.now window.old }
     requires gone { IsLeft way.now (place from.now) (place gone.now) }
     requires left { IsLeft way.now (end piece.now) (place until.now) }
     requires none { fault.old ≡ None }
-    ensures met { (s : Chain P) → Meets P.Shape s way.now (place from.now) piece.now window.old
+    ensures met { (s : Chain P) → Passes P.Shape s way.now (place from.now) piece.now window.old
         → OnOk result (HasMet P.Shape s way.now (end piece.now) window.new) }
-    ensures entered { (s : Chain P) → Meets P.Shape s way.now (place from.now) piece.now window.old
+    ensures entered { (s : Chain P) → Passes P.Shape s way.now (place from.now) piece.now window.old
         → OnOk result (HasEntered P.Shape s way.now (end piece.now) window.new) }
+    ensures from { OnOk result (window.new.out.from ≡ window.old.out.from) }
     ensures still { OnOk result (fault.new ≡ None) }
-    ensures wide { (s : Chain P) → Meets P.Shape s way.now (place from.now) piece.now window.old
-        → OnErr result (IfSome fault.new (IsCauseOver P.Shape s way.now.over)) }
+    ensures wide { (s : Chain P) → Passes P.Shape s way.now (place from.now) piece.now window.old
+        → OnErr result (IfSome fault.new (IsCauseBelow P.Shape s way.now.over (stop s).at)) }
 {
     match trend(way.side, &piece.shape) {
         Ordering::Equal => {
-            steady(way, from, piece, until, window)?;
+            steady(way, piece, until, window)?;
             enter(way, &piece.until, window, fault)
         }
-        Ordering::Greater => rising(way, from, piece, until, window, fault),
+        Ordering::Greater => rising(way, piece, until, window, fault),
         Ordering::Less => {
             falling(way, from, gone, piece, until, window, fault)?;
             enter(way, &piece.until, window, fault)
@@ -246,21 +248,24 @@ fn pass<P: Shape>(
 
 /// Tells up to where the window reaches past the place: up to there no more comes into it.
 #[inline(always)]
-fn enter<P: Shape>(
+pub(crate) fn enter<P: Shape>(
     way: &Way,
     met: &Cut,
     window: &mut Sliding<P>,
     fault: &mut Option<WidePair<P>>,
 ) -> Result<(), Memory>
-    requires met { (s : Chain P) × HasMet P.Shape s way.now (place met.now) window.old }
+    requires met { (s : Chain P) × HasMet P.Shape s way.now (place met.now) window.old × Reaches P.Shape s way.now (place met.now) }
     requires none { fault.old ≡ None }
-    ensures met { (s : Chain P) → HasMet P.Shape s way.now (place met.now) window.old
+    ensures met { (s : Chain P) → HasMet P.Shape s way.now (place met.now) window.old → Reaches P.Shape s way.now (place met.now)
         → OnOk result (HasMet P.Shape s way.now (place met.now) window.new) }
-    ensures entered { (s : Chain P) → HasMet P.Shape s way.now (place met.now) window.old
-        → OnOk result (HasEntered P.Shape s way.now (place met.now) window.new) }
+    ensures entered { (s : Chain P) → OnOk result (HasEntered P.Shape s way.now (place met.now) window.new) }
+    ensures from { OnOk result (window.new.out.from ≡ window.old.out.from) }
+    ensures upto { OnOk result (HasToldTo way.now (place met.now) window.old window.new) }
     ensures still { OnOk result (fault.new ≡ None) }
-    ensures wide { (s : Chain P) → HasMet P.Shape s way.now (place met.now) window.old
-        → OnErr result (IfSome fault.new (IsCauseOver P.Shape s way.now.over)) }
+    ensures wide { (s : Chain P) (limit : Rational) → HasMet P.Shape s way.now (place met.now) window.old
+        → IsBelow P.Shape s way.now limit (place met.now).at
+        → OnErr result (IfSome fault.new (IsCauseBelow P.Shape s way.now.over limit)) }
+    ensures narrow { (place met.now).at ≤ʳ add (stop window.old.out).at (whole way.now.over.high) → OnErr result (fault.new ≡ None) }
 {
     let Some(next) = reached(way, met, &window.out.until()) else {
         return Ok(());
@@ -269,21 +274,20 @@ fn enter<P: Shape>(
 }
 
 /// A piece that stays as it is counts until the window has left it.
-fn steady<P: Shape>(
+pub(crate) fn steady<P: Shape>(
     way: &Way,
-    from: &Cut,
     piece: &Piece<P>,
     until: &Cut,
     window: &mut Sliding<P>,
 ) -> Result<(), Memory>
-    requires met { (s : Chain P) × Meets P.Shape s way.now (place from.now) piece.now window.old }
+    requires met { (s : Chain P) × (c : Place) × Meets P.Shape s way.now c piece.now window.old }
     requires trend { IsSteady (P.function piece.now.shape) }
     requires left { IsLeft way.now (end piece.now) (place until.now) }
-    ensures { (s : Chain P) → Meets P.Shape s way.now (place from.now) piece.now window.old
+    ensures met { (s : Chain P) (c : Place) → Meets P.Shape s way.now c piece.now window.old
         → OnOk result (HasMet P.Shape s way.now (end piece.now) window.new) }
+    ensures past { OnOk result (HasPassed way.now (end piece.now) window.new) }
+    ensures out { window.new.out ≡ window.old.out }
 {
-    // For the proof alone: where the piece begins.
-    let _ = from;
     let at = window.out.until();
     if at.precedes(until) {
         let level = at_high(&way.over, &piece.shape);
@@ -293,36 +297,40 @@ fn steady<P: Shape>(
 }
 
 /// A piece that gets better counts as itself while the window's high end moves over it, and then by its last value.
-fn rising<P: Shape>(
+pub(crate) fn rising<P: Shape>(
     way: &Way,
-    from: &Cut,
     piece: &Piece<P>,
     until: &Cut,
     window: &mut Sliding<P>,
     fault: &mut Option<WidePair<P>>,
 ) -> Result<(), Memory>
-    requires met { (s : Chain P) × Meets P.Shape s way.now (place from.now) piece.now window.old }
+    requires met { (s : Chain P) × (c : Place) × Rises P.Shape s way.now c piece.now window.old }
     requires trend { GetsNoWorse way.now.side (P.function piece.now.shape) }
     requires left { IsLeft way.now (end piece.now) (place until.now) }
     requires none { fault.old ≡ None }
-    ensures met { (s : Chain P) → Meets P.Shape s way.now (place from.now) piece.now window.old
+    ensures met { (s : Chain P) (c : Place) → Rises P.Shape s way.now c piece.now window.old
         → OnOk result (HasMet P.Shape s way.now (end piece.now) window.new) }
-    ensures entered { (s : Chain P) → Meets P.Shape s way.now (place from.now) piece.now window.old
-        → OnOk result (HasEntered P.Shape s way.now (end piece.now) window.new) }
+    ensures entered { (s : Chain P) → OnOk result (HasEntered P.Shape s way.now (end piece.now) window.new) }
+    ensures from { OnOk result (window.new.out.from ≡ window.old.out.from) }
+    ensures upto { OnOk result (HasToldTo way.now (end piece.now) window.old window.new) }
     ensures still { OnOk result (fault.new ≡ None) }
-    ensures wide { (s : Chain P) → Meets P.Shape s way.now (place from.now) piece.now window.old
-        → OnErr result (IfSome fault.new (IsCauseOver P.Shape s way.now.over)) }
+    ensures wide { (s : Chain P) (c : Place) (limit : Rational) → Rises P.Shape s way.now c piece.now window.old
+        → IsBelow P.Shape s way.now limit (end piece.now).at
+        → OnErr result (IfSome fault.new (IsCauseBelow P.Shape s way.now.over limit)) }
+    ensures held { (s : Chain P) (c : Place) → Rises P.Shape s way.now c piece.now window.old
+        → (end piece.now).at ≤ʳ add (stop window.old.out).at (whole way.now.over.high)
+        → OnErr result (IfSome fault.new (IsHeldFault P.Shape s way.now (end piece.now).at)) }
 {
     let Some(next) = reached(way, &piece.until, &window.out.until()) else {
-        return hold(way, from, piece, &piece.until, until, window, fault);
+        return hold(way, piece, &piece.until, until, window, fault);
     };
     let gap = at_high(&way.over, &piece.shape);
     window.tell(way.side, &gap, false, &next, fault)?;
-    hold(way, from, piece, &piece.until, until, window, fault)
+    hold(way, piece, &piece.until, until, window, fault)
 }
 
 /// A piece that gets worse counts by its first value, and then as itself while the window's low end moves over it.
-fn falling<P: Shape>(
+pub(crate) fn falling<P: Shape>(
     way: &Way,
     from: &Cut,
     gone: &Cut,
@@ -338,11 +346,13 @@ fn falling<P: Shape>(
     requires none { fault.old ≡ None }
     ensures met { (s : Chain P) → Meets P.Shape s way.now (place from.now) piece.now window.old
         → OnOk result (HasMet P.Shape s way.now (end piece.now) window.new) }
+    ensures past { OnOk result (HasPassed way.now (end piece.now) window.new) }
+    ensures out { window.new.out ≡ window.old.out }
     ensures still { OnOk result (fault.new ≡ None) }
     ensures wide { (s : Chain P) → Meets P.Shape s way.now (place from.now) piece.now window.old
-        → OnErr result (IfSome fault.new (IsCauseOver P.Shape s way.now.over)) }
+        → OnErr result (IfSome fault.new (IsHeldFault P.Shape s way.now (place from.now).at)) }
 {
-    hold(way, from, piece, from, gone, window, fault)?;
+    hold(way, piece, from, gone, window, fault)?;
     let slope = at_low(&way.over, &piece.shape);
     let at = window.out.until();
     slide(way.side, &at, &mut window.steps, &slope, until)
@@ -352,30 +362,26 @@ fn falling<P: Shape>(
 #[inline(always)]
 fn hold<P: Shape>(
     way: &Way,
-    from: &Cut,
     piece: &Piece<P>,
     best: &Cut,
     until: &Cut,
     window: &mut Sliding<P>,
     fault: &mut Option<WidePair<P>>,
 ) -> Result<(), Memory>
-    requires met { (s : Chain P) × Holds P.Shape s way.now (place from.now) piece.now (place best.now) window.old }
+    requires met { (s : Chain P) × (c : Place) × Holds P.Shape s way.now c piece.now (place best.now) window.old }
     requires left { IsLeft way.now (place best.now) (place until.now) }
     requires none { fault.old ≡ None }
-    ensures stands { (s : Chain P) → Holds P.Shape s way.now (place from.now) piece.now (place best.now) window.old
+    ensures stands { (s : Chain P) (c : Place) → Holds P.Shape s way.now c piece.now (place best.now) window.old
         → OnOk result (Stands P.Shape s way.now (end piece.now) (place best.now) window.new) }
-    ensures past { (s : Chain P) → Holds P.Shape s way.now (place from.now) piece.now (place best.now) window.old
-        → OnOk result ((t : Rational) → After (last_end window.new) t → Upto (place way.now.to) t
-        → ¬ Before (low_place way.now.over.low way.now.over.low_in t) (place best.now)) }
+    ensures past { (s : Chain P) (c : Place) → Holds P.Shape s way.now c piece.now (place best.now) window.old
+        → OnOk result (HasPassed way.now (place best.now) window.new) }
     ensures out { window.new.out ≡ window.old.out }
     ensures still { OnOk result (fault.new ≡ None) }
-    ensures plays { (s : Chain P) → Holds P.Shape s way.now (place from.now) piece.now (place best.now) window.old
+    ensures plays { (s : Chain P) (c : Place) → Holds P.Shape s way.now c piece.now (place best.now) window.old
         → OnOk result (Plays P.Shape s way.now.over (place way.now.to) window.new) }
-    ensures wide { (s : Chain P) → Holds P.Shape s way.now (place from.now) piece.now (place best.now) window.old
-        → OnErr result (IfSome fault.new (IsCauseOver P.Shape s way.now.over)) }
+    ensures wide { (s : Chain P) (c : Place) → Holds P.Shape s way.now c piece.now (place best.now) window.old
+        → OnErr result (IfSome fault.new (IsHeldFault P.Shape s way.now (place best.now).at)) }
 {
-    // For the proof alone: where the piece begins.
-    let _ = from;
     let at = window.out.until();
     if !at.precedes(until) {
         return Ok(());
@@ -567,7 +573,7 @@ fn reached(way: &Way, met: &Cut, at: &Cut) -> Option<Cut>
 
 /// The place up to which the window begins before the place, in the domain.
 #[inline(always)]
-fn left(way: &Way, c: &Cut) -> Cut
+pub(crate) fn left(way: &Way, c: &Cut) -> Cut
     requires from { whole (pos 0) ≤ʳ value_of c.now.time }
     requires to { value_of c.now.time ≤ʳ whole (pos (2 ^ 32)) }
     requires small { IsSmall way.now.over }
@@ -578,7 +584,7 @@ fn left(way: &Way, c: &Cut) -> Cut
 }
 
 /// Whether no time lies in the window.
-fn is_empty(over: &Reach) -> bool
+pub(crate) fn is_empty(over: &Reach) -> bool
     requires { over.now.low ≤ℤ over.now.high }
     ensures empty { IsTrue result → (over.now.low ≡ over.now.high) × ((over.now.low_in ≡ false) ⊎ (over.now.high_in ≡ false)) }
     ensures not { result ≡ false → IsNonEmpty over.now }
@@ -587,7 +593,7 @@ fn is_empty(over: &Reach) -> bool
 }
 
 /// What the Sup or the Inf of no values is.
-fn of_none<P: Shape>(side: Side) -> P
+pub(crate) fn of_none<P: Shape>(side: Side) -> P
     ensures value { (t : Rational) → value_at (P.function result) t ≈ᵉ none_of side P.lowest P.highest }
     ensures still { P.moves result ≡ false }
 {
@@ -598,7 +604,7 @@ fn of_none<P: Shape>(side: Side) -> P
 }
 
 /// Whether the values of a shape go from worse to better with time, stay, or go from better to worse.
-fn trend<P: Shape>(side: Side, shape: &P) -> Ordering
+pub(crate) fn trend<P: Shape>(side: Side, shape: &P) -> Ordering
     ensures { IsTrendFor side result (P.function shape.now) }
 {
     match side {

@@ -20,7 +20,7 @@ can g c =
     let end = stop c.args.s.now in
     record {
       can = record {
-        normal = c.until.ensures.normal;
+        rising = c.until.ensures.normal.rising;
         limited = c.requires.limited;
         near = c.requires.near;
         first = c.requires.first;

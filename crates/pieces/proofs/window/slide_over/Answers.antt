@@ -23,9 +23,9 @@ stands g c = subst (λ b. StandsFor g.P.Shape c.args.s.now b c.loop-i.window) (s
 next : (g : Over) (c : After-piece-piece g) → IsNext g.P.Shape c.args.s.now c.loop-i.window.way (place c.loop-i.from) c.piece-piece.result.now
 next g c =
     let s = c.args.s.now in
-    let normal = c.loop-i.invariant.stands.met.can.normal in
+    let normal = c.len-i-end.ensures.normal in
     subst (λ b. IsNext g.P.Shape s c.loop-i.window.way b c.piece-piece.result.now) (sym c.loop-i.invariant.at) (record {
-      piece = piece_from g.P.Shape (assumption g.met.P.Shape) s c.loop-i.window.way normal c.loop-i.i c.piece-piece.result.now c.piece-piece.ensures;
+      piece = piece_from g.P.Shape (assumption g.met.P.Shape) s c.loop-i.window.way normal.rising c.loop-i.i c.piece-piece.result.now c.piece-piece.ensures;
       breaks = breaks_at g.P.Shape s c.loop-i.i c.piece-piece.result.now normal c.piece-piece.ensures;
       ahead = inl (subst (λ e. AtMost (place c.loop-i.window.way.to) e) (ap (λ w. place w.to) c.loop-i.invariant.way ∙ c.requires.ends)
           (at_most_itself (place c.loop-i.window.way.to)));

@@ -1,4 +1,4 @@
-use Rattle.std.proofs.Common.{◌^◌, pos, sym, subst}
+use Rattle.std.proofs.Common.{◌^◌, pos, sym, ap, ◌∙◌, subst}
 use Rattle.rational.specs.Time.{◌≤ʳ◌, whole}
 use Rattle.rational.proofs.Order.{le_trans}
 use Rattle.rational.proofs.PlaceLemmas.{le_of_at_most}
@@ -6,14 +6,18 @@ use Rattle.frac128.specs.Cuts.{place}
 use Rattle.value_laws.specs.Members.{ShapeLaws}
 use Rattle.pieces.specs.Chains.{stop}
 use Rattle.pieces.proofs.ChainLemmas.{to_stop}
+use Rattle.pieces.proofs.Holding.{reaches_past}
 use Rattle.pieces.proofs.OverWindow.{empty_or_some, met_none}
 use Rattle.pieces.proofs.window.Window.begin.Goals as goal
 
 pub enter-requires-clause-met : goal.enter-requires-clause-met
 enter-requires-clause-met g c =
     let laws : ShapeLaws g.P.Shape = assumption g.met.P.Shape in
-    let (s, can) = c.requires.can in
-    (s, met_none laws (place c.args.from.now) _ can c.in_ok-out.ensures c.new.ensures.items)
+    let (s, can) = c.requires.can in (
+      s,
+      met_none laws (place c.args.from.now) _ can c.in_ok-out.ensures c.new.ensures.items,
+      reaches_past g.P.Shape s (record { side = c.args.side; over = c.args.over; to = c.args.to.now }) (place c.args.from.now) can.ahead,
+    )
 
 pub left-requires-clause-from : goal.left-requires-clause-from
 left-requires-clause-from g c =
@@ -24,7 +28,7 @@ pub left-requires-clause-to : goal.left-requires-clause-to
 left-requires-clause-to g c =
     let (s, can) = c.requires.can in
     subst (λ x. x.at ≤ʳ whole (pos (2 ^ 32))) (sym can.begins)
-    (le_trans (le_of_at_most s.from (stop s) (to_stop s.from s.pieces can.can.normal.rising)) can.can.last)
+    (le_trans (le_of_at_most s.from (stop s) (to_stop s.from s.pieces can.can.rising)) can.can.last)
 
 pub left-requires-clause-small : goal.left-requires-clause-small
 left-requires-clause-small g c =
@@ -40,6 +44,7 @@ pub returns-then-is_empty-clause-stands : goal.returns-then-is_empty-clause-stan
 returns-then-is_empty-clause-stands g c s can =
     let laws : ShapeLaws g.P.Shape = assumption g.met.P.Shape in
     record {
+      from = ap (λ o. o.from) c.in_ok-out.ensures ∙ can.begins;
       met = met_none laws (place c.args.from.now) _ can c.in_ok-out.ensures c.new.ensures.items;
       ready = λ some. absurd (empty_or_some c.args.over (c.is_empty.ensures.empty c.if-is_empty.true) some);
     }
@@ -49,8 +54,9 @@ returns-clause-stands g c s can =
     let laws : ShapeLaws g.P.Shape = assumption g.met.P.Shape in
     let begun = met_none laws (place c.args.from.now) _ can c.in_ok-out.ensures c.new.ensures.items in
     record {
-      met = c.in_ok-enter.ensures.met s begun;
-      ready = λ some. record { left = c.left.ensures; entered = c.in_ok-enter.ensures.entered s begun };
+      from = c.in_ok-enter.ensures.from ∙ (ap (λ o. o.from) c.in_ok-out.ensures ∙ can.begins);
+      met = c.in_ok-enter.ensures.met s begun (reaches_past g.P.Shape s (record { side = c.args.side; over = c.args.over; to = c.args.to.now }) (place c.args.from.now) can.ahead);
+      ready = λ some. record { left = c.left.ensures; entered = c.in_ok-enter.ensures.entered s };
     }
 
 pub is_empty-requires : goal.is_empty-requires

@@ -14,6 +14,7 @@ use Rattle.pieces.proofs.Holding.{told_within}
 use Rattle.pieces.proofs.Meeting.{none_last, none_level, none_rises, on_ok_two}
 use Rattle.pieces.proofs.OverWindow.{tells_all}
 use Rattle.pieces.proofs.Played.{plays_told, told_cause_none}
+use Rattle.pieces.proofs.Refusals.{cause_over}
 use Rattle.pieces.proofs.window.Window.end.Goals as goal
 
 pub tell-requires-clause-alone : goal.tell-requires-clause-alone
@@ -52,8 +53,8 @@ returns-clause-told g c s st at_stop =
     let laws : ShapeLaws g.P.Shape = assumption g.met.P.Shape in
     let way = c.args.self.now.way in
     let old = c.args.self.now.sliding in
-    on_ok_two c.tell.result (λ told ends. tells_all g.P.Shape laws s way st.met.can.normal c.of_none.result old c.tell.new.self (place way.to)
-    st.met.stands told ends at_stop st.met.to c.of_none.ensures.value)
+    on_ok_two c.tell.result (λ told ends. tells_all g.P.Shape laws s way st.met.can.rising c.of_none.result old c.tell.new.self (place way.to)
+    st.from st.met.stands told ends at_stop st.met.to c.of_none.ensures.value)
     c.tell.ensures.told c.tell.ensures.ends
 
 pub returns-clause-bases : goal.returns-clause-bases
@@ -67,7 +68,8 @@ pub returns-clause-wide : goal.returns-clause-wide
 returns-clause-wide g c s st at_stop =
     let way = c.args.self.now.way in
     let out = stop c.args.self.now.sliding.out in
-    on_err_weaker c.tell.result (λ some. IfSome_then c.tell.new.fault some (told_cause_none g.P.Shape s way.over (place way.to)
-    (assumption g.met.P.Shape) way.side
-    c.of_none.result (place way.to) c.args.self.now.sliding c.of_none.ensures.value st.met.plays (le_of_at_most s.from out st.met.stands.on)
-    (subst (λ x. (place way.to).at ≤ʳ x.at) at_stop (le_refl (place way.to).at)))) c.tell.ensures.wide
+    on_err_weaker c.tell.result (λ some. IfSome_then c.tell.new.fault some (λ pair x. cause_over g.P.Shape s way.over (stop s).at pair
+    (told_cause_none g.P.Shape s way.over (place way.to) (assumption g.met.P.Shape) way.side
+    c.of_none.result (place way.to) (stop s).at c.args.self.now.sliding c.of_none.ensures.value st.met.plays
+    (le_of_at_most s.from out st.met.stands.on)
+    (subst (λ x. (place way.to).at ≤ʳ x.at) at_stop (le_refl (place way.to).at)) (le_refl (stop s).at) pair x))) c.tell.ensures.wide
