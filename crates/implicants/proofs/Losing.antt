@@ -1,6 +1,8 @@
 -- What is lost without a cell, of its atom and of nodes above.
 use Rattle.std.proofs.Common.{◌≡◌, ℕ, ◌+◌, ◌<◌, ◌≤◌, ◌⊎◌, inl, inr, Bool, true, false, List, [], ◌∷◌, zero}
-use Rattle.std.proofs.Common.{suc, length, set, length-set, Some, refl, sym, ap, ◌∙◌, subst, arith}
+use Rattle.std.proofs.Common.{suc, length, set, length-set, Some, None, refl, sym, ap, ◌∙◌, subst, arith}
+use Rattle.std.proofs.lemmas.Bool.{true≢false}
+use Rattle.std.proofs.lemmas.Option.{same_Some}
 use Rattle.std.specs.Prelude.{slice_get, slice_index, slice_index_or, MatchBool, IsTrue}
 use Rattle.rational.specs.Time.{Rational, Interval, IsIn}
 use Rattle.frac128.specs.Spans.{interval}
@@ -46,13 +48,18 @@ same_offset from f g e = omega (arith, f, g, e)
 still_there : (marks : List Bool) (c j : ℕ) → (j < c) ⊎ ((c < j) × (slice_index_or marks j false ≡ true)) → stays c marks j ≡ true
 still_there marks c j h = stays_one c marks j (elim h [ inl l ↦ inl l | inr l ↦ inr l.1 ])
 
+-- no list has an item where it is empty
+none_there : {e : Item} (k : ℕ) → slice_get [] k ≡ Some e → ⊥
+none_there {e} zero s = let f : None ≡ Some e = s in cc
+none_there {e} (suc k) s = let f : None ≡ Some e = s in cc
+
 -- each cell of a run is so
 so_of : (nodes : List Node) (tr : Trace) (i : ℕ) (spans : List Interval) (here : List Item) (k : ℕ) (e : Item) → ItemsOn nodes tr i spans here
     → slice_get here k ≡ Some e → IsSo nodes tr e
-so_of nodes tr i [] [] k e h at = absurd (elim k as (λ k. slice_get [] k ≡ Some e → ⊥) [ zero ↦ λ s. cc | suc k ↦ λ s. cc ] at)
+so_of nodes tr i [] [] k e h at = absurd (none_there k at)
 so_of nodes tr i [] (f ∷ here) k e h at = absurd h
 so_of nodes tr i (on ∷ spans) [] k e h at = absurd h
-so_of nodes tr i (on ∷ spans) (f ∷ here) zero e h at = let same : f ≡ e = cc in subst (IsSo nodes tr) same h.3
+so_of nodes tr i (on ∷ spans) (f ∷ here) zero e h at = subst (IsSo nodes tr) (same_Some f e at) h.3
 so_of nodes tr i (on ∷ spans) (f ∷ here) (suc k) e h at = so_of nodes tr i spans here k e h.4 at
 
 module _ (nodes : List Node) (tr : Trace) (all : List Item) (ends : List ℕ) (is : AreAllCells nodes tr all ends) (marks : List Bool) (c : ℕ)
@@ -68,7 +75,7 @@ module _ (nodes : List Node) (tr : Trace) (all : List Item) (ends : List ℕ) (i
       by_truth : (h b : Bool) → MatchBool b (IsTrue (holds_at a tr t)) (¬ IsTrue (holds_at a tr t)) → Certain h (atom i a) some tr t → b ≡ h
       by_truth true true m d = refl
       by_truth true false m d = absurd (m d.0)
-      by_truth false true m d = absurd (let f : true ≡ false = sym m ∙ d.0 in cc)
+      by_truth false true m d = absurd (true≢false (sym m ∙ d.0))
       by_truth false false m d = refl
 
   -- and no cell that is gone has a time at which it is

@@ -86,9 +86,7 @@ fn knot_times(alloc: Global, signal: &Signal<Truth>) -> Result<Vec<Frac>, Memory
 {
     let mut times = Vec::new(alloc);
     for k in 0..signal.len() {
-        if times.push(signal.knot(k).time).is_err() {
-            return Err(Memory);
-        }
+        times.push(signal.knot(k).time)?;
     }
     Ok(times)
 }

@@ -45,3 +45,14 @@ returns c =
     c.args.i c.loop-j.j
     (times_of c.args.times.now.items) (times_of c.loop-j.times.items)
     (let t = c.loop-j-test.false in let n = c.len-count.ensures.count in omega (arith, t, n)) c.loop-j.invariant
+
+pub bounds-done-count : goal.bounds-done-count
+bounds-done-count c =
+    let l = c.loop-j-test.true in
+    let first = c.loop-j.auto.j in
+    let all = c.requires.count in
+    let n = c.len-count.ensures.count in
+    omega (arith, l, first, all, n)
+
+pub node-node-requires : goal.node-node-requires
+node-node-requires c = let l = c.loop-j-test.true in let n = c.len-count.ensures.count in omega (arith, l, n)

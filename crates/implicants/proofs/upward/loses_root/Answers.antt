@@ -92,3 +92,7 @@ returns-clause-chains c = c.loop-k.invariant.chains
 
 pub returns-in_default-clause-chains : goal.returns-in_default-clause-chains
 returns-in_default-clause-chains c = c.taken_on.ensures.chains
+
+pub index-requires : goal.index-requires
+index-requires c =
+    let l = c.loop-k.invariant.inside in let n = c.loop-k.invariant.chains.count in let k = c.loop-k.done.ok in omega (arith, l, n, k.0)

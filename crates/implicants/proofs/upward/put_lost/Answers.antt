@@ -1,4 +1,4 @@
-use Rattle.std.proofs.Common.{subst, sym, length-set, ◌∙◌, ◌<◌, ◌≤◌, ◌^◌}
+use Rattle.std.proofs.Common.{arith, subst, sym, length-set, ◌∙◌, ◌<◌, ◌≤◌, ◌^◌}
 use Rattle.stl_syntax.specs.Trace.{first_time}
 use Rattle.implicants.specs.Upward.{AreLost}
 use Rattle.implicants.proofs.Gaining.{gained_lost}
@@ -54,3 +54,7 @@ returns-clause-gained c nodes all marks i lost made before =
     c.add_gained.new.gained.items c.sign_of-best.ensures c.in_ok-add_gained.ensures
     (both_best nodes tr all marks i c.args.ground.now.signs.items c.args.k c.sign_of-best.result c.args.made.now c.in_ok-own.own c.in_ok-both.both
     c.sign_of-best.ensures c.in_ok-both.ensures made (c.in_ok-own.ensures.best nodes all marks i own)) before
+
+pub index_mut-requires : goal.index_mut-requires
+index_mut-requires c =
+    let i = c.requires.inside in let n = c.requires.chains.count in let k = c.args.done.now.ok in omega (arith, i, n, k.0)

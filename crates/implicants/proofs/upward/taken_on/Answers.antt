@@ -43,11 +43,6 @@ unreachable-requires c =
     node_never_wide c.args.trace.now c.put_other.new.done.items from to n c.in-Err-Wide.field-0-0 c.put_other.ensures.whole c.first-from.ensures
     c.last-to.ensures.last (subst (λ xs. FaultOfNode (of_pieces kleene_shape) from to n xs (F.Wide c.in-Err-Wide.field-0-0)) c.deref.ensures.value wide)
 
-
-
-
-
-
 pub put_other-requires : goal.put_other-requires
 put_other-requires c = record {
   some = c.requires.some;
@@ -114,3 +109,12 @@ returns-clause-gained c = on_ok_weaker c.put_lost.result
     (λ has all marks i ground before old. has c.args.formula.now.nodes all marks i ground.lost
     (made_best (goal.at.returns-clause-gained c).After-put_lost all marks i ground before) old)
     c.put_lost.ensures.gained
+
+pub first-from-requires : goal.first-from-requires
+first-from-requires c = c.requires.some
+
+pub last-to-requires : goal.last-to-requires
+last-to-requires c = c.requires.some
+
+pub node-node-requires : goal.node-node-requires
+node-node-requires c = c.requires.inside
