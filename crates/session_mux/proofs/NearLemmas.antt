@@ -1,13 +1,15 @@
 -- The first LF among 32 bytes, by the marks of a vector.
-use Rattle.std.proofs.Common.{◌≡◌, ◌↔◌, inl, inr, ℕ, ◌+◌, ◌<◌, ◌≤◌, List, Bool, true, false, length, take, arith, refl, sym, ap, ◌∙◌}
+use Rattle.std.proofs.Common.{◌≡◌, ◌↔◌, inl, inr, ℕ, ◌+◌, ◌-◌, ◌<◌, ◌≤◌, List, ◌++◌, Bool, true, false, length, take, arith, refl, sym, ap, ◌∙◌}
 use Rattle.std.specs.Prelude.{◌==◌, slice_index, if◌then◌else◌}
 use Rattle.std.specs.Int.{bit_at}
 use Rattle.std.proofs.lemmas.Bool.{eqb-true, eq-eqb, cases_lt}
 use Rattle.std.proofs.lemmas.Grind.{same_number_lists}
-use Rattle.std.proofs.lemmas.List.{get_or_past, get_or-take, length-take-le}
+use Rattle.std.proofs.lemmas.List.{get_or_past, get_or_append_left, get_or-append-add, get_or-take, length-append, length-take-le}
+use Rattle.std.proofs.lemmas.List.Elements.{All-get_or}
 use Rattle.std.proofs.lemmas.Nat.Bits.{bit_at-zero}
 use Rattle.memchr.specs.Find.{is_byte, NoneBefore, Passes}
 use Rattle.memchr.specs.Lanes.{HasLanes}
+use Rattle.trace_reader.specs.Feeds.{HasNoFeed}
 use Rattle.session_mux.specs.Near.{IsNoFeed, IsNextFeed}
 
 -- whether a byte is an LF, by its lane
@@ -47,6 +49,38 @@ module _ (text : List ℕ) (at m : ℕ) (bytes lanes : List ℕ) (loaded : HasLa
         is = by_lane (slice_index text (at + n)) (slice_index lanes n) (lane n near) ((bits n).0 set);
         before = λ k less is. absurd (omega (arith, sym (set_at k (omega (arith, less, near)) is) ∙ below k less));
       }
+
+-- the first LF of a text that is near stands in its end, which has it first too, where none stands before that end
+module _ (text front end : List ℕ) (free : HasNoFeed front) (split : text ≡ front ++ end) (n : ℕ) (h : IsNextFeed text 0 n) (long : 32 ≤ length text) where
+  here : slice_index text n ≡ 10
+  here = let at : n ≡ 0 + n = omega arith in ap (slice_index text) at ∙ h.is
+
+  pub feed_beyond : length front ≤ n
+  feed_beyond = elim (cases_lt n (length front)) [
+    | inl less ↦
+        let fed : slice_index front n ≡ 10 = sym (get_or_append_left front end 0 n less) ∙ ap (λ w. slice_index w n) (sym split) ∙ here in
+        absurd (All-get_or (λ c. c ≡ 10 → ⊥) front n 0 less free fed)
+    | inr far ↦ omega (arith, far)
+  ]
+
+  in_end : (k : ℕ) → slice_index text (length front + k) ≡ slice_index end k
+  in_end k = ap (λ w. slice_index w (length front + k)) split ∙ get_or-append-add front end k 0
+
+  pub feed_in_end : NoneBefore (Passes (is_byte 10) end) 0 (length end) (n - length front) × Passes (is_byte 10) end (n - length front)
+  feed_in_end =
+      let near = h.near in
+      let beyond = feed_beyond in
+      let size = ap length split in
+      let place : length front + (n - length front) ≡ n = omega (arith, beyond) in (
+        record {
+          low = omega arith;
+          high = omega (arith, near, long, beyond, size, length-append front end);
+          before = λ k low less is.
+              let at : 0 + (length front + k) ≡ length front + k = omega arith in
+              h.before (length front + k) (omega (arith, less, beyond)) (ap (slice_index text) at ∙ in_end k ∙ eqb-true (slice_index end k) 10 is);
+        },
+        eq-eqb (slice_index end (n - length front)) 10 (sym (in_end (n - length front)) ∙ ap (slice_index text) place ∙ here),
+      )
 
 -- a text and a room, of which the marks tell where they differ
 module _ (text room : List ℕ) (m : ℕ) (bytes others lanes : List ℕ) (loaded : HasLanes bytes (λ k. slice_index text (0 + k)))

@@ -289,6 +289,10 @@ tag_free t (tag {c = c} {rest = rest} bytes few) = bytes_free (c ∷ rest) bytes
     bytes_free (x ∷ xs) h =
         let both = and_parts (is_tag_byte x) (all is_tag_byte xs) h in All-cons (λ d. d ≢ 10) x xs (byte_no_feed x both.0) (bytes_free xs both.1)
 
+-- nor has it with a space behind it
+pub prefix_free : (t : List ℕ) → IsTag t → HasNoFeed (t ++ 32 ∷ [])
+prefix_free t is = All-append (λ d. d ≢ 10) t (32 ∷ []) (tag_free t is) (All-cons (λ d. d ≢ 10) 32 [] (λ z. omega (arith, z)) (All-nil (λ d. d ≢ 10)))
+
 -- a list is empty, or has a last item
 snoc : (ys : List ℕ) → (ys ≡ []) ⊎ ((w : List ℕ) × (c : ℕ) × (ys ≡ w ++ c ∷ []))
 snoc [] = inl refl

@@ -1,5 +1,5 @@
 -- The lines that are said to a session: words of private contracts.
-use Rattle.std.specs.Prelude.{◌≡◌, ◌⊎◌, ℕ, List, [], ◌++◌, map, flat_map, true, codes}
+use Rattle.std.specs.Prelude.{◌≡◌, ◌⊎◌, ℕ, ◌<◌, List, [], ◌∷◌, ◌++◌, length, map, flat_map, true, codes}
 use Rattle.circular_buffer.specs.Buffer.{Buffer, buffer, keep_last}
 use Rattle.stl_syntax.specs.Texts.{newline}
 use Rattle.trace_reader.specs.TraceText.{Line, lines}
@@ -24,6 +24,22 @@ EndsInFeed text = (text ≡ []) ⊎ ((x : List ℕ) × (text ≡ x ++ newline))
 -- the last eight lines are those of the other text
 abbrev pub HasLastLines : List ℕ → List ℕ → Type 0
 HasLastLines text last = (said : List (List ℕ)) → keep_last 8 (said ++ texts text) ≡ keep_last 8 (said ++ texts last)
+
+-- the first line of a text was put after a tag and a space, behind what was added and what waits; these bytes of the text are left
+pub record HasPutFirst (tag text rest before waiting after waiting_after : List ℕ) : Type 0 where
+  pub line : List ℕ
+  pub is : lines true text ≡ record { bytes = line; whole = true } ∷ lines true rest
+  pub added : after ++ waiting_after ≡ (before ++ waiting) ++ ((tag ++ codes " ") ++ line ++ newline)
+  pub begins : (front : List ℕ) × (after ≡ before ++ front)
+  pub shorter : length rest < length text
+
+-- or a first part of all of them was added
+pub record HasPutInPart (tag text before waiting after : List ℕ) : Type 0 where
+  pub line : List ℕ
+  pub rest : List ℕ
+  pub is : lines true text ≡ record { bytes = line; whole = true } ∷ lines true rest
+  pub cut : (left : List ℕ) × (after ++ left ≡ (before ++ waiting) ++ ((tag ++ codes " ") ++ line ++ newline))
+  pub begins : (front : List ℕ) × (after ≡ before ++ front)
 
 -- the lines of a text were said and kept
 pub record HasSaid (tag text : List ℕ) (old new : Buffer (List ℕ)) (before after : List ℕ) : Type 0 where

@@ -1,8 +1,9 @@
 //! The first LF of a text, which is near in most, the copy of a few bytes before it, and whether a text begins with a short word.
-ghost use Rattle.std.specs.Prelude.{◌≡◌, ◌≢◌, ◌↔◌, ◌==◌, ◌<◌, ◌≤◌, ◌+◌, ℕ, length, take, slice_index, if◌then◌else◌, IsTrue, MatchOption};
+ghost use Rattle.std.specs.Prelude.{◌≡◌, ◌≢◌, ◌↔◌, ◌==◌, ◌<◌, ◌≤◌, ◌+◌, ◌++◌, ℕ, List, length, take, slice_index, if◌then◌else◌, IsTrue, MatchOption};
 ghost use Rattle.std.specs.Int.{bit_at};
 ghost use Rattle.memchr.specs.Find.{is_byte, IsFirstByte};
 ghost use Rattle.memchr.specs.Lanes.{HasLanes};
+ghost use Rattle.trace_reader.specs.Feeds.{HasNoFeed};
 ghost use Rattle.answer_lines.specs.After.{IsAdded};
 ghost use Rattle.session_mux.specs.Near.{IsNoFeed, IsNextFeed};
 
@@ -73,6 +74,17 @@ pub(crate) fn near_feed(text: &[u8], at: usize) -> Option<usize>
     Some(lowest(marks))
 }
 
+/// Where the first LF of a text stands, if it is among its first 32 bytes and the text has as many.
+#[inline(always)]
+pub(crate) fn front_feed(text: &[u8]) -> Option<usize>
+    ensures { MatchOption result (Unit {0}) (λ at. (32 ≤ length text.now) × IsNextFeed text.now 0 at) }
+{
+    if text.len() < NEAR {
+        return None;
+    }
+    near_feed(text, 0)
+}
+
 /// Where the first LF stands.
 #[inline(always)]
 pub(crate) fn first_feed(text: &[u8]) -> Option<usize>
@@ -84,6 +96,29 @@ pub(crate) fn first_feed(text: &[u8]) -> Option<usize>
     match near_feed(text, 0) {
         Some(at) => Some(at),
         None => memchr(b'\n', text),
+    }
+}
+
+/// As `first_feed`, where that is seldom.
+#[inline(never)]
+fn far_feed(text: &[u8]) -> Option<usize>
+    ensures { IsFirstByte (is_byte 10) text.now result }
+{
+    first_feed(text)
+}
+
+/// Where the first LF stands in the end of a text that has none before that end.
+#[inline(always)]
+pub(crate) fn feed_behind(text: &[u8], end: &[u8]) -> Option<usize>
+    requires { (front : List ℕ) × HasNoFeed front × (text.now ≡ front ++ end.now) }
+    ensures { IsFirstByte (is_byte 10) end.now result }
+{
+    if text.len() < NEAR {
+        return far_feed(end);
+    }
+    match near_feed(text, 0) {
+        Some(at) => Some(at - (text.len() - end.len())),
+        None => far_feed(end),
     }
 }
 

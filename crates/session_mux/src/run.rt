@@ -7,7 +7,7 @@ ghost use Rattle.answer_lines.specs.After.{IsAdded};
 ghost use Rattle.session_mux.specs.Taking.{ended_line};
 ghost use Rattle.session_mux.specs.Running.{IsOwnLine, HasGathered};
 
-use crate::near::{NEAR, first_feed, put_front};
+use crate::near::{NEAR, feed_behind, put_front};
 use crate::session::{asks, stops};
 use crate::tag::{LONGEST, Tag, tag_len};
 use answer_lines::add_byte;
@@ -57,7 +57,7 @@ fn own_line<'a>(tag: &Tag, piece: &'a [u8]) -> Option<OwnLine<'a>>
     let Some(rest) = tag.rest(piece) else {
         return None;
     };
-    let Some(at) = first_feed(rest) else {
+    let Some(at) = feed_behind(piece, rest) else {
         return None;
     };
     let end = piece.len() - rest.len() + at;
@@ -118,6 +118,7 @@ fn put_line(room: &mut [u8], at: usize, line: &OwnLine) -> usize
 ///
 /// # Errors
 /// Want of memory.
+#[inline(never)]
 pub(crate) fn gather(room: &mut Vec<u8>, tag: &[u8], piece: &[u8], most: u64) -> Result<Run, Memory>
     requires tag { IsTag tag.now }
     requires front { tag.now ≡ take (length tag.now) piece.now }

@@ -4,9 +4,9 @@ ghost use Rattle.stl_syntax.specs.Texts.{newline};
 ghost use Rattle.trace_reader.specs.TraceText.{lines};
 ghost use Rattle.answer_lines.specs.Appended.{GrewInPart, Is};
 ghost use Rattle.circular_buffer.specs.Buffer.{buffer, keep_last};
-ghost use Rattle.session_mux.specs.Saying.{texts, prefixed_texts, said_lines, HasSaid};
+ghost use Rattle.session_mux.specs.Saying.{texts, prefixed_texts, said_lines, HasPutFirst, HasPutInPart, HasSaid};
 
-use crate::near::first_feed;
+use crate::near::{first_feed, front_feed};
 use crate::recent::{Recent, keep, last_lines};
 use crate::tag::Tag;
 use crate::waiting::Waiting;
@@ -84,6 +84,48 @@ fn put_said(
     Ok(())
 }
 
+/// Says the first line of a text after the tag and a space, and answers the rest of the text. The line may wait.
+///
+/// # Errors
+/// Want of memory. A first part of what waited and of the line was added.
+#[inline(never)]
+fn put_any<'a>(
+    waiting: &mut Waiting,
+    tag: &Tag,
+    text: &'a [u8],
+    out: &mut Text,
+) -> Result<&'a [u8], Memory>
+    requires { 0 < length text.now }
+    ensures { MatchResult result
+        (λ r. HasPutFirst tag.now text.now r.now out.old waiting.old out.new waiting.new)
+        (λ _. HasPutInPart tag.now text.now out.old waiting.old out.new) }
+{
+    let (line, others) = first_line(text);
+    put_said(waiting, tag, line, text, out)?;
+    Ok(others)
+}
+
+/// As `put_any`, at once where the line is short and the text long.
+#[inline(always)]
+fn put_first<'a>(
+    waiting: &mut Waiting,
+    tag: &Tag,
+    text: &'a [u8],
+    out: &mut Text,
+) -> Result<&'a [u8], Memory>
+    requires { 0 < length text.now }
+    ensures { MatchResult result
+        (λ r. HasPutFirst tag.now text.now r.now out.old waiting.old out.new waiting.new)
+        (λ _. HasPutInPart tag.now text.now out.old waiting.old out.new) }
+{
+    let Some(at) = front_feed(text) else {
+        return put_any(waiting, tag, text, out);
+    };
+    waiting.make_room(out)?;
+    waiting.put_near(tag, text, at + 1);
+    Ok(&text[at + 1..])
+}
+
 /// Adds the lines of a text, each after the tag and a space.
 ///
 /// # Errors
@@ -95,9 +137,7 @@ fn put_lines(tag: &Tag, text: &[u8], out: &mut Text) -> Result<(), Memory>
     let mut waiting = Waiting::new();
     let mut rest = text;
     while !rest.is_empty() {
-        let (line, others) = first_line(rest);
-        put_said(&mut waiting, tag, line, rest, out)?;
-        rest = others;
+        rest = put_first(&mut waiting, tag, rest, out)?;
     }
     waiting.hand_over(out)
 }

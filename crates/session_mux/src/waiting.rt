@@ -2,9 +2,9 @@
 ghost use Rattle.std.specs.Prelude.{◌≡◌, ◌≤◌, ◌++◌, ◌∷◌, ℕ, List, [], codes, length, take, OnOk, OnErr};
 ghost use Rattle.stl_syntax.specs.Texts.{newline};
 
-use crate::near::put_front;
+use crate::near::{NEAR, put_front};
 use crate::tag::Tag;
-use answer_lines::add_byte;
+use answer_lines::{add_byte, add_part};
 use frac128::Memory;
 use std::marker::Model;
 use stl_syntax::Text;
@@ -72,6 +72,18 @@ impl Waiting {
             return Ok(());
         }
         self.hand_over(out)
+    }
+
+    /// Puts the first bytes of a text, a few, after the tag and a space.
+    #[inline(always)]
+    pub(crate) fn put_near(&mut self, tag: &Tag, text: &[u8], len: usize)
+        requires few { len ≤ 32 }
+        requires long { 32 ≤ length text.now }
+        requires room { length self.old ≤ 512 }
+        ensures { self.new ≡ self.old ++ ((tag.now ++ codes " ") ++ take len text.now) }
+    {
+        let begin = tag.put(&mut self.bytes, self.used);
+        self.used = add_part(&mut self.bytes, begin, &text[..NEAR], len);
     }
 
     /// Puts a line after the tag and a space. The text, at whose front it stands, may be read behind it.

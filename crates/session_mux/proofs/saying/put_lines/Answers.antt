@@ -8,15 +8,15 @@ use Rattle.session_mux.proofs.saying.put_lines.Goals as goal
 pub loop-rest-init : goal.loop-rest-init
 loop-rest-init c = putting_begins (c.args.tag.now ++ codes " ") c.args.text.now c.args.out.now _ c.new-waiting.ensures
 
-pub returns-in_err-put_said-clause-err : goal.returns-in_err-put_said-clause-err
-returns-in_err-put_said-clause-err c =
-    on_err_anyway _ (putting_cut (c.args.tag.now ++ codes " ") c.args.text.now c.args.out.now _ _ _ c.loop-rest.invariant
-    c.first_line.result.0.now c.first_line.result.1.now c.first_line.ensures.line _ c.in_err-put_said.ensures.err c.put_said.ensures.begins)
+pub returns-in_err-rest-clause-err : goal.returns-in_err-rest-clause-err
+returns-in_err-rest-clause-err c =
+    let h = c.in_err-rest.ensures in
+    on_err_anyway _ (putting_cut (c.args.tag.now ++ codes " ") c.args.text.now c.args.out.now _ _ _ c.loop-rest.invariant h.line h.rest h.is _ h.cut h.begins)
 
 pub loop-rest-preserved : goal.loop-rest-preserved
 loop-rest-preserved c =
-    putting_on (c.args.tag.now ++ codes " ") c.args.text.now c.args.out.now _ _ _ c.loop-rest.invariant
-    c.first_line.result.0.now c.first_line.result.1.now c.first_line.ensures.line _ _ c.in_ok-put_said.ensures.ok c.put_said.ensures.begins
+    let h = c.in_ok-rest.ensures in
+    putting_on (c.args.tag.now ++ codes " ") c.args.text.now c.args.out.now _ _ _ c.loop-rest.invariant h.line _ h.is _ _ h.added h.begins
 
 pub returns-clause-ok : goal.returns-clause-ok
 returns-clause-ok c =
