@@ -5,6 +5,7 @@ pub mod FewTimes
 pub mod AtomTurns
 pub mod FormulaTurns
 pub mod VerdictTurns
+pub mod SteadyFormulas
 pub mod HeldFew
 pub mod EdgesFew
 pub mod RestTimes

@@ -1,4 +1,5 @@
 pub mod Turns
+pub mod Steady
 pub mod Held
 pub mod Rests
 pub mod Books

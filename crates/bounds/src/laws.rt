@@ -3,6 +3,7 @@ ghost use Rattle.bounds.specs.Books.{BooksAreRight, EdgesLetGo};
 ghost use Rattle.bounds.specs.Held.{EdgesAreBounded};
 ghost use Rattle.bounds.specs.Parts.{PlacesHaveFewParts, RowsCostFew};
 ghost use Rattle.bounds.specs.Rests.{EdgesAreFew, GivenAreFew, MovesAreFew};
+ghost use Rattle.bounds.specs.Steady.{SteadyAtomsKeepTruths, SteadyAtomsAnswerOnce};
 ghost use Rattle.bounds.specs.Turns.{TurnsAreFew, VerdictsAreFew};
 
 /// The truth of a formula turns within a stretch of time at most so many times for each row, and once more, that lies within the stretch and
@@ -58,4 +59,16 @@ pub fn rows_cost_few()
 /// The formula at a place has no more operators, atoms and constants than there are nodes up to it.
 pub fn places_have_few_parts()
     ensures { PlacesHaveFewParts }
+{}
+
+/// Where the atoms of a formula do not turn on a stretch of the trace, the formula does not turn there either, but near the begin as far as it looks
+/// back, and near the end as far as its horizon. So what its truth is then needs no evaluation: it is what it was.
+pub fn steady_atoms_keep_truths()
+    ensures { SteadyAtomsKeepTruths }
+{}
+
+/// While no atom turns, and has not for as long as the formula looks back, what a further row answers is one verdict, with the truth at the time that was
+/// answered last.
+pub fn steady_atoms_answer_once()
+    ensures { SteadyAtomsAnswerOnce }
 {}

@@ -8,7 +8,7 @@ use Rattle.std.proofs.lemmas.Option.{same_Some}
 use Rattle.std.proofs.lemmas.List.{append-nil, get_or-set_same, length-set, set-get_or, set-set}
 use Rattle.rational.specs.Rational.{Rational, ◌<ʳ◌, ◌≤ʳ◌, whole}
 use Rattle.rational.specs.Places.{Place, begins, ends, AtMost, Before, Same}
-use Rattle.rational.proofs.Order.{same_refl, same_of_le, le_of_lt, le_refl, le_trans, not_lt_of_le}
+use Rattle.rational.proofs.Order.{same_refl, same_of_le, le_or_lt, le_of_lt, le_refl, le_trans, not_lt_of_le}
 use Rattle.rational.proofs.Shift.{lt_whole, le_whole}
 use Rattle.rational.proofs.PlaceLemmas.{same_places, same_trans_places, same_before, before_trans, before_at_most, before_of_at_most, after_same}
 use Rattle.frac128.specs.Cuts.{place}
@@ -32,7 +32,7 @@ use Rattle.online_nodes.specs.Written.{Lead}
 use Rattle.online_nodes.proofs.GotLemmas.{more_given}
 use Rattle.online_nodes.proofs.Stretches.{some_verdict, stand_again, stand_given, stand_more}
 use Rattle.online_nodes.proofs.Writing.{joined, told_same, same_itself, lead_on, lead_to}
-use Rattle.online_net.specs.Stretches.{after_time, before_time, HasMoreAt, HasPutRun, HasRun, HasTurned, HasPassed, HasGone, HasCome, HasPutStretch, HasPutTwo, StaysOver}
+use Rattle.online_net.specs.Stretches.{after_time, before_time, HasMoreAt, HasPutRun, HasRun, HasTurned, HasPassed, HasGone, HasCome, HasPutStretch, HasPutTwo, StaysOver, CanGoAlong}
 use Rattle.online_net.specs.declared.stretch.Run.{Run}
 use Rattle.online_net.specs.declared.stretch.Along.{Along}
 use Rattle.online_net.proofs.Saying.{is_test}
@@ -366,6 +366,20 @@ steady_put b block i k next v got begin end stays = record {
     ),
   );
 }
+
+-- a way that has one truth to its last gap, on it and at the row behind it
+pub stays_even : (b : Binding) (block : Trace) (i from to : ℕ) (w : Way) (holds : Bool) → CanGoAlong b block from to i holds w → w.row ≡ to
+    → w.passage ≡ Steady holds → w.last ≡ holds → StaysOver b i block from to holds
+stays_even b block i from to w holds can row steady last a tr for has t low high =
+    let v = can.way.tells a tr for has in
+    let before = row_time (row_of block (w.row - 1)) in
+    let there = row_time (row_of block w.row) in
+    let passes = subst (λ p. TellsPassage before there (holds_at a tr) p) steady v.passes in
+    let upto = subst (λ n. t ≤ʳ row_time (row_of block n)) (sym row) high in
+    elim (le_or_lt t before) [
+      | inl x ↦ v.stays t (le_of_lt low) x ∙ can.holds a tr for has
+      | inr x ↦ elim (le_or_lt there t) [ inl y ↦ v.there t (same_of_le upto y) ∙ last | inr y ↦ passes t x y ]
+    ]
 
 -- two verdicts were put where the truth stays on a gap and turns over at the row behind it
 pub two_put : (b : Binding) (block : Trace) (i r : ℕ) (w : Way) (holds : Bool) {old new : Held} → IsWay b i block r w → w.passage ≡ Steady holds

@@ -12,11 +12,12 @@ use Rattle.stl_syntax.specs.Truth.{Truth, holds_at}
 use Rattle.stl_syntax.specs.Verdicts.{Describes}
 use Rattle.stl_syntax.specs.declared.atom.Atom.{Atom}
 use Rattle.stl_syntax.specs.declared.items.Verdict.{Verdict}
-use Rattle.atom_lines.specs.Binding.{Binding, IsFor}
+use Rattle.atom_lines.specs.Binding.{Binding, IsAtomNode, IsFor}
 use Rattle.atom_lines.specs.Growing.{IsReachAt}
-use Rattle.atom_lines.specs.Passages.{HasBlock, TellsPassage, crossing_time}
+use Rattle.atom_lines.specs.Passages.{HasBlock, IsWay, TellsPassage, crossing_time}
 use Rattle.atom_lines.specs.Rows.{row_of}
 use Rattle.atom_lines.specs.declared.passage.Passage.{Passage}
+use Rattle.atom_lines.specs.declared.passage.Way.{Way}
 use Rattle.atom_lines.specs.declared.passage.Passage.TheVariants.{Steady, Turns}
 use Rattle.online_nodes.specs.Held.{Edge, Held, HasMore, Stand, edge_at, with_edge}
 use Rattle.online_nodes.specs.Truths.{AllAre}
@@ -146,6 +147,13 @@ abbrev pub StaysOver : Binding → ℕ → Trace → ℕ → ℕ → Bool → Ty
 StaysOver b i block from to holds =
     (a : Atom) (tr : Trace) → IsFor b i a tr → HasBlock tr block → (t : Rational) → row_time (row_of block from) <ʳ t → t ≤ʳ row_time (row_of block to)
     → holds_at a tr t ≡ holds
+
+-- a way leads from row `from`, where the atom at node i has this truth, to row `to` or one before it
+pub record CanGoAlong (b : Binding) (block : Trace) (from to i : ℕ) (truth : Bool) (w : Way) : Type 0 where
+  pub leaf : IsAtomNode b i
+  pub way : IsWay b i block from w
+  pub last : w.row ≤ to
+  pub holds : (a : Atom) (tr : Trace) → IsFor b i a tr → HasBlock tr block → holds_at a tr (row_time (row_of block from)) ≡ truth
 
 -- the verdicts of the rows behind row `first` up to row `from` were put, and the atom has one truth from there up to row `to`
 pub record CanPutInside (b : Binding) (block : Trace) (first from to i : ℕ) (holds : Bool) (old mid : Held) : Type 0 where

@@ -1,6 +1,6 @@
 //! What the rows of a block put onto the edges of the atoms, a stretch of one truth at a time.
 
-ghost use Rattle.std.specs.Prelude.{◌≡◌, ◌≢◌, ◌+◌, ◌-◌, ◌<◌, ◌≤◌, ℕ, length, slice_get, not, IfOk, IfSome, OnOk, Some, None, pos};
+ghost use Rattle.std.specs.Prelude.{◌≡◌, ◌≢◌, ◌+◌, ◌-◌, ◌<◌, ◌≤◌, ℕ, length, slice_get, not, IfOk, IfSome, IsTrue, OnOk, Some, None, pos};
 ghost use Rattle.rational.specs.Rational.{whole};
 ghost use Rattle.rational.specs.Places.{Place, Before, Same, begins, ends};
 ghost use Rattle.frac128.specs.Cuts.{place};
@@ -8,8 +8,9 @@ ghost use Rattle.frac128.specs.Spans.{interval};
 ghost use Rattle.online_nodes.specs.Held.{Held, edge_at};
 ghost use Rattle.atom_lines.specs.Binding.{IsAtomNode};
 ghost use Rattle.atom_lines.specs.Passages.{TurnsInside, crossing_time};
+ghost use Rattle.atom_lines.specs.Rows.{row_of};
 ghost use Rattle.online_net.specs.Stretches.{after_time, first_truth, HasPutRun, HasTurned, HasPassed, HasGone, HasCome};
-ghost use Rattle.online_net.specs.Stretches.{HasPutStretch, HasPutRows, HaveRows, HasPutTwo, StaysOver, CanPutInside, HasComeTo};
+ghost use Rattle.online_net.specs.Stretches.{HasPutStretch, HasPutRows, HaveRows, HasPutTwo, StaysOver, CanGoAlong, CanPutInside, HasComeTo};
 ghost use Rattle.atom_lines.specs.Binding.{Binding};
 ghost use Rattle.atom_lines.specs.Passages.{IsWay};
 ghost use Rattle.atom_lines.specs.declared.passage.Passage.TheVariants.{Steady};
@@ -211,25 +212,22 @@ fn truth_behind(passage: &Passage, begin: u32, first: u32, holds: bool) -> bool
     truth_at_first(passage)
 }
 
-/// Begins to go along a block at row `from`, with its first way.
+/// Begins to go along a block at row `from`, where the atom is `holds`, with its first way.
 #[inline(never)]
 fn begin_along(
     edges: &mut Edges,
-    bound: &Bound,
     node: u32,
     block: &Trace,
     from: usize,
-    to: usize,
+    holds: bool,
+    way: &Way,
 ) -> Result<Along, Memory>
     requires edge { node < length edges.old.edges }
-    requires atom { IsAtomNode bound.now node }
-    requires columns { length block.now.header.columns ≡ bound.now.width }
-    requires order { from < to }
-    requires within { to < length block.now.rows }
-    ensures { IfOk result (HasCome bound.now block.now from to node edges.old edges.new) }
+    requires within { from < length block.now.rows }
+    requires way { (b : Binding) × IsWay b node block.now from way.now }
+    ensures { (b : Binding) (to : ℕ) → CanGoAlong b block.now from to node holds way.now
+        → IfOk result (HasCome b block.now from to node edges.old edges.new) }
 {
-    let (sum, holds) = standing(bound, node, block, from);
-    let way = way_from(bound, node, block, from, to, sum);
     let begin = block.time(from);
     let first = block.time(way.row - 1);
     let second = block.time(way.row);
@@ -283,7 +281,74 @@ fn go_on(
     Ok(())
 }
 
+/// Whether a way leads to row `to` with this truth all the way: up to its last gap, on it, and at the row behind it.
+#[inline(always)]
+fn is_even(way: &Way, to: usize, holds: bool) -> bool
+    ensures { IsTrue result → (way.now.row ≡ to) × (way.now.passage ≡ Steady holds) × (way.now.last ≡ holds) }
+{
+    if way.row != to || way.last != holds {
+        return false;
+    }
+    match way.passage {
+        Passage::Steady(there) => there == holds,
+        Passage::Turns { .. } => false,
+    }
+}
+
+/// Puts the one verdict of an atom behind row `from` of a block, up to row `to`, where its truth is the same all the way.
+#[inline(always)]
+fn put_even(
+    edges: &mut Edges,
+    node: u32,
+    block: &Trace,
+    from: usize,
+    to: usize,
+    holds: bool,
+) -> Result<(), Memory>
+    requires edge { node < length edges.old.edges }
+    requires order { from < to }
+    requires within { to < length block.now.rows }
+    requires rises { (row_of block.now from).time < (row_of block.now to).time }
+    ensures { (b : Binding) → StaysOver b node block.now from to holds → OnOk result (HasPutStretch b block.now from to node edges.old edges.new) }
+{
+    let first = block.time(from);
+    let second = block.time(to);
+    let on = span_after(first, second);
+    edges.extend(node, Verdict { on, holds })?;
+    Ok(())
+}
+
+/// Puts the verdicts of an atom behind row `from` of a block, where it is `holds`, up to row `to`, onto its edge, from its first way on.
+#[inline(never)]
+fn put_ways(
+    edges: &mut Edges,
+    bound: &Bound,
+    node: u32,
+    block: &Trace,
+    from: usize,
+    to: usize,
+    holds: bool,
+    way: Way,
+) -> Result<(), Memory>
+    requires edge { node < length edges.old.edges }
+    requires atom { IsAtomNode bound.now node }
+    requires columns { length block.now.header.columns ≡ bound.now.width }
+    requires order { from < to }
+    requires within { to < length block.now.rows }
+    requires can { CanGoAlong bound.now block.now from to node holds way }
+    ensures { OnOk result (HasPutStretch bound.now block.now from to node edges.old edges.new) }
+{
+    let mut along = begin_along(edges, node, block, from, holds, &way)?;
+    while along.at < to {
+        go_on(edges, bound, node, block, to, &mut along)?;
+    }
+    let end = tick_cut(block.time(to), true);
+    put_run(edges, node, &along.run, &end)?;
+    Ok(())
+}
+
 /// Puts the verdicts of an atom behind row `from` of a block, up to row `to`, onto its edge.
+#[inline(always)]
 fn put_stretch(
     edges: &mut Edges,
     bound: &Bound,
@@ -299,13 +364,12 @@ fn put_stretch(
     requires within { to < length block.now.rows }
     ensures { OnOk result (HasPutStretch bound.now block.now from to node edges.old edges.new) }
 {
-    let mut along = begin_along(edges, bound, node, block, from, to)?;
-    while along.at < to {
-        go_on(edges, bound, node, block, to, &mut along)?;
+    let (sum, holds) = standing(bound, node, block, from);
+    let way = way_from(bound, node, block, from, to, sum);
+    if is_even(&way, to, holds) {
+        return put_even(edges, node, block, from, to, holds);
     }
-    let end = tick_cut(block.time(to), true);
-    put_run(edges, node, &along.run, &end)?;
-    Ok(())
+    put_ways(edges, bound, node, block, from, to, holds, way)
 }
 
 /// Puts the one verdict of an atom behind row `at` of a block, up to the row `next` right after it, where its truth is the same all the way.

@@ -40,7 +40,7 @@ pub(crate) struct Inputs {
     pub(crate) right: u32,
 }
 
-/// Reads on in both inputs up to the earlier end of their next verdicts. None where both reach beyond the stretch, and then nothing
+/// Reads on in both inputs up to the earlier end of their next verdicts. None where neither ends inside the stretch, and then nothing
 /// changed.
 fn read_first(
     edges: &mut Edges,
@@ -69,14 +69,14 @@ fn read_first(
     let w_end = Cut::end(&w.on);
     let holds = join.of(v.holds, w.holds);
     if w_end.precedes(&v_end) {
-        if out.end().precedes(&w_end) {
+        if !w_end.precedes(&out.end()) {
             return Ok(None);
         }
         let next = out.upto_within(edges, holds, w_end)?;
         let _ = edges.pass(inputs.right);
         return Ok(Some(next));
     }
-    if out.end().precedes(&v_end) {
+    if !v_end.precedes(&out.end()) {
         return Ok(None);
     }
     let next = out.upto_within(edges, holds, v_end)?;
@@ -88,7 +88,7 @@ fn read_first(
     Ok(Some(next))
 }
 
-/// Reads on in both inputs up to the earlier end of their next verdicts. None where one has none, or where both reach beyond the
+/// Reads on in both inputs up to the earlier end of their next verdicts. None where one has none, or where neither ends inside the
 /// stretch, and then nothing changed.
 fn read_both(edges: &mut Edges, join: Join, inputs: Inputs, out: Out) -> Result<Option<Out>, Memory>
     requires left { inputs.left < length edges.old.edges }
@@ -113,7 +113,7 @@ fn read_both(edges: &mut Edges, join: Join, inputs: Inputs, out: Out) -> Result<
     read_first(edges, join, inputs, out, v, w)
 }
 
-/// Tells the rest of the stretch, where both inputs reach beyond it or all is told.
+/// Tells the rest of the stretch, where both inputs reach its end or all is told. What ends there need not be read: it is let go unread.
 fn end_join(edges: &mut Edges, join: Join, inputs: Inputs, out: Out) -> Result<Out, Memory>
     requires left { inputs.left < length edges.old.edges }
     requires right { inputs.right < length edges.old.edges }

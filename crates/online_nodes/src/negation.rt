@@ -11,7 +11,7 @@ use crate::edges::Edges;
 use crate::writer::Out;
 use frac128::{Cut, Memory};
 
-/// Reads the next verdict of the input. None where there is none, or where it reaches beyond the stretch, and then nothing
+/// Reads the next verdict of the input. None where there is none, or where it does not end inside the stretch, and then nothing
 /// changed.
 fn read_next(edges: &mut Edges, of: u32, out: Out) -> Result<Option<Out>, Memory>
     requires input { of < length edges.old.edges }
@@ -28,15 +28,15 @@ fn read_next(edges: &mut Edges, of: u32, out: Out) -> Result<Option<Out>, Memory
         return Ok(None);
     };
     let v_end = Cut::end(&v.on);
-    if out.end().precedes(&v_end) {
+    if !v_end.precedes(&out.end()) {
         return Ok(None);
     }
-    let next = out.upto(edges, !v.holds, v_end)?;
+    let next = out.upto_within(edges, !v.holds, v_end)?;
     let _ = edges.pass(of);
     Ok(Some(next))
 }
 
-/// Tells the rest of the stretch, where the input reaches beyond it or all is told.
+/// Tells the rest of the stretch, where the input reaches its end or all is told. What ends there need not be read: it is let go unread.
 fn end_negation(edges: &mut Edges, of: u32, out: Out) -> Result<Out, Memory>
     requires input { of < length edges.old.edges }
     requires own { out.edge < length edges.old.edges }

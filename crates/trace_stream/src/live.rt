@@ -194,6 +194,9 @@ impl<F: Follow> Live<F> {
         ensures formula { self.new.formula ≡ self.old.formula }
     {
         let rows = take_rows(&mut self.rows, &mut self.follower, piece, &mut self.text)?;
+        if rows == piece.len() {
+            return Ok(rows);
+        }
         let more = self.step(&piece[rows..])?;
         Ok(rows + more)
     }

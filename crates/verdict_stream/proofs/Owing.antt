@@ -1,19 +1,24 @@
 -- Rows whose text is owed: the network takes them without a step. Then a step of every node gives out what all of them answer, and cut row
 -- by row that is their text.
 use Rattle.std.proofs.Common.{◌≡◌, ℕ, ◌+◌, ◌-◌, ◌<◌, ◌≤◌, Bool, true, false, List, [], ◌∷◌, ◌++◌, length, map, take, drop, refl}
-use Rattle.std.proofs.Common.{sym, ap, ◌∙◌, subst, arith, append-nil, append_assoc, length-append, Some, None, pos}
-use Rattle.std.specs.Prelude.{cond, MatchBool}
+use Rattle.std.proofs.Common.{sym, ap, ◌∙◌, subst, arith, append-nil, append_assoc, length-append, Some, None, ℤ, pos, ◌-ℤ◌}
+use Rattle.std.specs.Prelude.{cond, int_lt, MatchBool}
+use Rattle.std.proofs.lemmas.Int.{ints}
 use Rattle.std.proofs.lemmas.List.{length-map, map-append}
 use Rattle.std.proofs.Math.Seq.{drop-append_seam, take-length, take-append_seam}
 use Rattle.rational.specs.Rational.{whole}
 use Rattle.rational.specs.Time.{closed, left_open}
 use Rattle.stl_syntax.specs.Formula.{Formula, horizon, root}
-use Rattle.stl_syntax.specs.Trace.{Header, Row, Trace, AreRows, first_time}
+use Rattle.stl_syntax.specs.Trace.{Header, Row, Trace, AreRows, first_time, last_time}
 use Rattle.stl_syntax.specs.PostOrder.{IsPostOrder}
+use Rattle.stl_syntax.specs.Stream.{IsNewText, IsRowsText}
+use Rattle.stl_syntax.specs.Texts.{AreVerdictLines}
 use Rattle.stl_syntax.specs.Verdicts.{Describes, AreAlike}
 use Rattle.stl_syntax.specs.declared.items.Verdict.{Verdict}
 use Rattle.stl_syntax.specs.declared.node.Node.{Node}
 use Rattle.stl_syntax.specs.declared.scale.Scale.{Scale}
+use Rattle.rational.proofs.Tests.{int_not_below}
+use Rattle.stl_syntax.proofs.RowsLemmas.{last_time-push, row_later}
 use Rattle.stl_syntax.proofs.WellFormedLemmas.{root_some}
 use Rattle.stl_syntax.proofs.VerdictsLaw.{alike_length, alike_sym}
 use Rattle.online_nodes.specs.Network.{Event, row, node_is_atom, initial, after_event}
@@ -23,6 +28,7 @@ use Rattle.online_nodes.specs.Needed.{IsTaken}
 use Rattle.online_nodes.specs.Laws.{answered_to}
 use Rattle.online_nodes.proofs.EmittedLaw.{emitted_last}
 use Rattle.online_nodes.proofs.RisingLaw.{same_is}
+use Rattle.online_nodes.proofs.RunLaw.{none_is_none}
 use Rattle.online_nodes.proofs.RowsLaw.{rows_of as rows_came, AreRowsSoFar}
 use Rattle.online_nodes.proofs.Writing.{same_itself}
 use Rattle.online_net.specs.Nets.{Parts, Stands}
@@ -30,15 +36,15 @@ use Rattle.trace_stream.specs.Streams.{verdicts, StreamText}
 use Rattle.trace_stream.specs.Kept.{with_rows}
 use Rattle.trace_stream.specs.Following.{Follows, IsFollowedOn}
 use Rattle.verdict_stream.specs.Pendings.{IsTextOfRows}
-use Rattle.verdict_stream.specs.Watching.{first_truth, Pass, IsWatched, IsOwing, CanTake, HasGivenAll}
+use Rattle.verdict_stream.specs.Watching.{first_truth, Pass, IsWatched, IsOwing, CanTake, HasGivenAll, HasTakenAll}
 use Rattle.trace_stream.specs.declared.case.Case.{Case}
 use Rattle.verdict_stream.specs.declared.watcher.Network.{Network}
 use Rattle.verdict_stream.specs.declared.watcher.Watcher.{Watcher}
-use Rattle.verdict_stream.proofs.Passes.{state_after, parted, emitted_alike, Gives, AreQuiet, quiet_shown, quiet_gives, pass_gives}
+use Rattle.verdict_stream.proofs.Passes.{state_after, parted, emitted_alike, Gives, AreQuiet, quiet_shown, quiet_gives, pass_gives, text_of_given}
 use Rattle.verdict_stream.proofs.Taking.{first_alike, emitted_takes}
 use Rattle.verdict_stream.proofs.Watched.{no_row, shown_by, rows_others, taken_on, rows_at}
 use Rattle.verdict_stream.proofs.Watched.{driven_at, driven_emptied, none_driven, after_pass, Passing}
-use Rattle.verdict_stream.proofs.Watched.{passing_of, pass_before, front_after, shown_after, rows_told}
+use Rattle.verdict_stream.proofs.Watched.{passing_of, passed_of, pass_before, front_after, front_is, front_push, shown_after, rows_told}
 use Rattle.verdict_stream.proofs.RowsTogether.{HasLast, last_of, rows_of_both, rows_of_more}
 use Rattle.verdict_stream.proofs.Cutting.{Leads, describes_leads, leads_alike}
 use Rattle.verdict_stream.proofs.CutRows.{LeftTo, rows_cut}
@@ -195,22 +201,18 @@ module _ (nodes : List Node) (header : Header) where
       ws (alike_sym ws vs e) l
 
   module _ (order : IsPostOrder nodes) (some : 0 < length nodes) where
-    -- what the pass after the last of some rows gives out is what is left for these rows to answer
-    pub left_of_pass : {before : List Row} {base : List Event} {last : Row} {emitted : List Verdict} (more : List Row) (n : ℕ) (put : List Verdict)
+    -- what the pass after the last of some rows gives out, by what the root shows before and after
+    pub pass_given : {before : List Row} {base : List Event} {last : Row} {emitted : List Verdict} (more : List Row) (n : ℕ)
         (x : Passing nodes header (base ++ rows_of more) (row last ∷ []) emitted) → node_is_atom nodes Top ≡ false → IsDriven nodes header before false base
         → IsDriven nodes header ((before ++ more) ++ last ∷ []) false ((base ++ rows_of more) ++ pass_of (row last) nodes n)
-        → (all : List Row) (are : AreRows (length header.columns) all) → all ≡ (before ++ more) ++ last ∷ [] → AreAlike put x.beyond
-        → LeftTo (root nodes) header all are (front_after (root nodes) before) (front_after (root nodes) all) put
-    left_of_pass {before} {base} {last} more n put x no_atom d d' all are e same =
-        alike_left all are (front_after (root nodes) before) (front_after (root nodes) all) x.beyond put same
-        (left_of_gives all are (front_after (root nodes) before) (front_after (root nodes) all) x.beyond
-        (subst (λ rs. Gives nodes header Top (record { header = header; rows = rs }) (front_after (root nodes) before) (front_after (root nodes) rs)
-        x.beyond) (sym e)
-        (subst (λ o. Gives nodes header Top (record { header = header; rows = (before ++ more) ++ last ∷ [] }) (front_after (root nodes) before) o
+        → Gives nodes header Top (record { header = header; rows = (before ++ more) ++ last ∷ [] }) (front_after (root nodes) before)
+        (front_after (root nodes) ((before ++ more) ++ last ∷ [])) x.beyond
+    pass_given {before} {base} {last} more n x no_atom d d' =
+        subst (λ o. Gives nodes header Top (record { header = header; rows = (before ++ more) ++ last ∷ [] }) (front_after (root nodes) before) o
         x.beyond) new_is
         (subst (λ o. Gives nodes header Top (record { header = header; rows = (before ++ more) ++ last ∷ [] }) o (shown end Top) x.beyond) old_is
         (subst (λ rs. Gives nodes header Top (record { header = header; rows = rs }) (shown s Top) (shown end Top) x.beyond) rows_are
-        (pass_gives nodes header some s (row last) x.beyond (λ n. quiet_row s last opens n) x.gives).gives)))))
+        (pass_gives nodes header some s (row last) x.beyond (λ n. quiet_row s last opens n) x.gives).gives))
       where
         s : State
         s = state_from nodes initial (base ++ rows_of more)
@@ -235,6 +237,45 @@ module _ (nodes : List Node) (header : Header) where
 
         new_is : shown end Top ≡ front_after (root nodes) ((before ++ more) ++ last ∷ [])
         new_is = ap (λ (z : State). shown z Top) (sym (after_pass nodes header (base ++ rows_of more) (row last) n)) ∙ shown_after nodes header order some d'
+
+    -- it is what is left for these rows to answer
+    pub left_of_pass : {before : List Row} {base : List Event} {last : Row} {emitted : List Verdict} (more : List Row) (n : ℕ) (put : List Verdict)
+        (x : Passing nodes header (base ++ rows_of more) (row last ∷ []) emitted) → node_is_atom nodes Top ≡ false → IsDriven nodes header before false base
+        → IsDriven nodes header ((before ++ more) ++ last ∷ []) false ((base ++ rows_of more) ++ pass_of (row last) nodes n)
+        → (all : List Row) (are : AreRows (length header.columns) all) → all ≡ (before ++ more) ++ last ∷ [] → AreAlike put x.beyond
+        → LeftTo (root nodes) header all are (front_after (root nodes) before) (front_after (root nodes) all) put
+    left_of_pass {before} more n put x no_atom d d' all are e same =
+        alike_left all are (front_after (root nodes) before) (front_after (root nodes) all) x.beyond put same
+        (left_of_gives all are (front_after (root nodes) before) (front_after (root nodes) all) x.beyond
+        (subst (λ rs. Gives nodes header Top (record { header = header; rows = rs }) (front_after (root nodes) before) (front_after (root nodes) rs)
+        x.beyond) (sym e) (pass_given more n x no_atom d d')))
+
+    -- the lines of what one row gives out are its text
+    pub row_text : (before : List Row) (last : Row) (vs : List Verdict) (text : List ℕ) → AreRows (length header.columns) (before ++ last ∷ [])
+        → Gives nodes header Top (record { header = header; rows = before ++ last ∷ [] }) (front_after (root nodes) before)
+        (front_after (root nodes) (before ++ last ∷ [])) vs
+        → AreVerdictLines header.scale vs text
+        → IsRowsText (IsNewText (root nodes)) (root nodes) header before (front_after (root nodes) before) (last ∷ []) text
+    row_text before last vs text are gives lines = (
+      text,
+      [],
+      subst (λ o. IsNewText (root nodes) (record { header = header; rows = before ++ last ∷ [] }) (front_after (root nodes) before) o text)
+          (front_push (root nodes) before last)
+          (text_of_given nodes (record { header = header; rows = before ++ last ∷ [] }) (front_after (root nodes) before)
+          (front_after (root nodes) (before ++ last ∷ [])) vs text (rises before are) gives lines),
+      refl,
+      sym (append-nil text),
+    )
+      where
+        rises : (before : List Row) → AreRows (length header.columns) (before ++ last ∷ []) → (g f : ℤ) → front_after (root nodes) before ≡ Some g
+            → front_after (root nodes) (before ++ last ∷ []) ≡ Some f → int_lt f g ≡ false
+        rises [] are g f e e' = absurd (none_is_none g e)
+        rises (q ∷ bs) are g f e e' =
+            let later : last_time q.time bs < last.time = row_later (length header.columns) q.time bs last [] are.1 in
+            let old_is : g ≡ pos (last_time q.time bs) -ℤ pos (horizon (root nodes)) = (front_is (root nodes) (q ∷ bs) g e).1 in
+            let new_is : f ≡ pos last.time -ℤ pos (horizon (root nodes)) =
+            (front_is (root nodes) ((q ∷ bs) ++ last ∷ []) f e').1 ∙ ap (λ t. pos t -ℤ pos (horizon (root nodes))) (last_time-push q.time bs last) in
+            int_not_below f g (omega (arith, ints))
 
 -- ---- rows more, whose text is owed
 
@@ -350,6 +391,10 @@ module _ (v after : Watcher) (c : Case) (made : List ℕ) (rows : List Row) (som
 
 -- ---- the text of what is owed
 
+no_rows : (rows : List Row) → length rows ≡ 0 → rows ≡ []
+no_rows [] e = refl
+no_rows (q ∷ rows) e = absurd (omega (arith, e))
+
 module _ (v : Watcher) (c : Case) (made : List ℕ) (o : IsOwing v c made) where
   abbrev pub fed_by : List Event
   fed_by = o.fed.base ++ rows_of o.more
@@ -460,5 +505,49 @@ module _ (v : Watcher) (c : Case) (made : List ℕ) (o : IsOwing v c made) where
           fits = o.fits;
           told = subst (λ l. StreamText verdicts (root c.formula.nodes) c.trace.header l false (made ++ grown)) (sym rows)
               (rows_told (root c.formula.nodes) c.trace.header o.before (o.more ++ o.last ∷ []) made grown o.told told.text_is);
+        },
+      )
+
+  -- so it is where one row was owed, and the lines of all that was given out for it were put
+  pub owing_taken : {given : Network} {after : Watcher} → OwesNoMore v given after → length v.times.items ≡ 1
+      → (x : Passing c.formula.nodes c.trace.header fed_by (row o.last ∷ []) fed.emptied.emitted) (old new : List ℕ) → HasTakenAll (Before x) given old new
+      → IsFollowedOn (λ case text. IsWatched false after case) verdicts c old new made
+  owing_taken {given} {after} left_off one x old new h =
+      let p = passed_of c.formula.nodes c.trace.header fed_by (row o.last ∷ []) fed.emptied.emitted x fed_by (row o.last) refl given old new h in
+      let (grown, lines, longer) = p.lines in
+      let driven = by_rows o.more o.last p.made o.few o.fed.driven p.emptied in
+      let none : o.more ≡ [] =
+      no_rows o.more (omega (arith, one, ap length o.times, length-map (o.more ++ o.last ∷ []) (λ (r : Row). r.time), length-append o.more (o.last ∷ []))) in
+      let alone : (o.before ++ o.more) ++ o.last ∷ [] ≡ o.before ++ o.last ∷ [] =
+      ap (λ l. (o.before ++ l) ++ o.last ∷ []) none ∙ ap (λ l. l ++ o.last ∷ []) (append-nil o.before) in
+      let rows : c.trace.rows ≡ o.before ++ o.last ∷ [] = o.rows ∙ alone in
+      let (f, is) = o.fits in
+      let scale : given.formula.scale ≡ c.trace.header.scale = ap (λ (g : Formula). g.scale) (left_off.formula ∙ o.formula ∙ is.formula) in
+      let gives = subst (λ rs. Gives c.formula.nodes c.trace.header (length c.formula.nodes - 1) (record { header = c.trace.header; rows = rs })
+      (front_after (root c.formula.nodes) o.before) (front_after (root c.formula.nodes) rs) x.beyond) alone
+      (pass_given c.formula.nodes c.trace.header order some_node o.more p.made x o.no_atom o.fed.driven driven) in
+      let told = row_text c.formula.nodes c.trace.header order some_node o.before o.last x.beyond grown
+      (subst (λ l. AreRows (length c.trace.header.columns) l) rows are_rows) gives
+      (subst (λ (s : Scale). AreVerdictLines s x.beyond grown) scale lines) in (
+        grown,
+        longer,
+        record {
+          stands = record {
+            formula = ap (λ (n : Network). n.formula) left_off.network ∙ left_off.formula ∙ o.formula;
+            horizon = left_off.horizon ∙ o.horizon;
+            events = fed_by ++ pass_of (row o.last) c.formula.nodes p.made;
+            driven = subst (λ l. IsDriven c.formula.nodes c.trace.header l false (fed_by ++ pass_of (row o.last) c.formula.nodes p.made)) (sym o.rows) driven;
+            stands = subst (λ (n : Network). Stands c.formula.nodes c.trace.header n.net (fed_by ++ pass_of (row o.last) c.formula.nodes p.made))
+                (sym left_off.network) p.stands;
+            emitted = x.first ++ x.beyond;
+            is_emitted = p.is_emitted;
+            start = ap (λ (n : Network). n.start) left_off.network ∙ p.start;
+            no_times = left_off.times;
+            none_pending = left_off.pending;
+            none_waiting = left_off.lines;
+          };
+          fits = o.fits;
+          told = subst (λ l. StreamText verdicts (root c.formula.nodes) c.trace.header l false (made ++ grown)) (sym rows)
+              (rows_told (root c.formula.nodes) c.trace.header o.before (o.last ∷ []) made grown o.told told);
         },
       )

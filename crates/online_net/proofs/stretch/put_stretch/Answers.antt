@@ -1,51 +1,42 @@
-use Rattle.std.proofs.Common.{◌≡◌, ◌<◌, [], sym, subst, arith}
-use Rattle.rational.specs.Places.{Before, Same}
-use Rattle.rational.proofs.PlaceLemmas.{before_same, same_places}
-use Rattle.frac128.specs.Cuts.{place}
-use Rattle.stl_syntax.specs.Trace.{Row}
+use Rattle.std.proofs.Common.{ap, arith}
+use Rattle.rational.proofs.Order.{same_refl}
+use Rattle.stl_syntax.specs.Trace.{row_time}
 use Rattle.atom_lines.specs.Rows.{row_of}
-use Rattle.online_net.specs.Stretches.{after_time}
-use Rattle.online_net.proofs.Running.{more_count, put_run_to, stretch_put}
+use Rattle.online_net.specs.Stretches.{CanGoAlong}
+use Rattle.online_net.proofs.Running.{stays_even}
 use Rattle.online_net.proofs.stretch.put_stretch.Goals as goal
-use Rattle.online_net.proofs.stretch.put_stretch.Goals.{After-tick_cut-end}
+use Rattle.online_net.proofs.stretch.put_stretch.Goals.{After-way_from-way}
 
-abbrev none : Row
-none = record { time = 0; values = [] }
+-- the first way behind the row, and the truth there
+can : (c : After-way_from-way)
+    → CanGoAlong c.args.bound.now c.args.block.now c.args.from c.args.to c.args.node c.standing-sum.result.1 c.way_from-way.result
+can c = record {
+  leaf = c.requires.atom;
+  way = c.way_from-way.ensures.way;
+  last = c.way_from-way.ensures.last;
+  holds = λ a tr for has.
+      c.standing-sum.ensures.holds a tr (row_time (row_of c.args.block.now c.args.from)) for has
+      (same_refl (row_time (row_of c.args.block.now c.args.from)));
+}
 
-pub loop-along-init : goal.loop-along-init
-loop-along-init c = c.in_ok-along.ensures
+pub put_even-requires-clause-rises : goal.put_even-requires-clause-rises
+put_even-requires-clause-rises c =
+    let way = c.way_from-way.ensures.way in
+    let even = c.is_even.ensures c.if-is_even.true in
+    let o = way.order in
+    let r = way.rises in
+    let e = ap (λ n. (row_of c.args.block.now n).time) even.0 in
+    omega (arith, o, r, e)
 
-pub go_on-requires-clause-edge : goal.go_on-requires-clause-edge
-go_on-requires-clause-edge c = subst (λ n. c.args.node < n) (sym (more_count c.loop-along.invariant.got)) c.requires.edge
+pub returns-then-is_even : goal.returns-then-is_even
+returns-then-is_even c =
+    let even = c.is_even.ensures c.if-is_even.true in
+    c.put_even.ensures c.args.bound.now
+    (stays_even c.args.bound.now c.args.block.now c.args.node c.args.from c.args.to c.way_from-way.result c.standing-sum.result.1
+    (can (goal.at.returns-then-is_even c).After-way_from-way) even.0 even.1 even.2)
 
-pub go_on-requires-clause-come : goal.go_on-requires-clause-come
-go_on-requires-clause-come c = (c.args.from, c.args.edges.now, c.loop-along.invariant)
-
-pub loop-along-preserved : goal.loop-along-preserved
-loop-along-preserved c = c.in_ok-go_on.ensures.come c.args.from c.args.edges.now c.loop-along.invariant
-
-pub loop-along-smaller : goal.loop-along-smaller
-loop-along-smaller c = let on = c.in_ok-go_on.ensures.on in omega (arith, on, c.loop-along-test.true)
-
--- the loop ends at the last row
-here : (c : After-tick_cut-end) → c.loop-along.along.at ≡ c.args.to
-here c = let h = c.loop-along.invariant.within in omega (arith, h, c.loop-along-test.false)
-
-until : (c : After-tick_cut-end) → Same (place c.tick_cut-end.result) (after_time (row_of c.args.block.now c.args.to).time)
-until c = subst (λ n. Same (place c.tick_cut-end.result) (after_time n)) (c.time.ensures none) c.tick_cut-end.ensures
-
-pub put_run-requires-clause-edge : goal.put_run-requires-clause-edge
-put_run-requires-clause-edge c = subst (λ n. c.args.node < n) (sym (more_count c.loop-along.invariant.got)) c.requires.edge
-
-pub put_run-requires-clause-some : goal.put_run-requires-clause-some
-put_run-requires-clause-some c =
-    let d = (goal.at.put_run-requires-clause-some c).After-tick_cut-end in
-    before_same (place c.loop-along.along.run.from) (after_time (row_of c.args.block.now c.args.to).time) (place c.tick_cut-end.result)
-    (subst (λ k. Before (place c.loop-along.along.run.from) (after_time (row_of c.args.block.now k).time)) (here d) c.loop-along.invariant.some)
-    (same_places (until d))
+pub put_ways-requires-clause-can : goal.put_ways-requires-clause-can
+put_ways-requires-clause-can c = can (goal.at.put_ways-requires-clause-can c).After-way_from-way
 
 pub returns : goal.returns
-returns c =
-    let d = (goal.at.returns c).After-tick_cut-end in
-    stretch_put c.args.bound.now c.args.block.now c.args.from c.args.to c.args.node c.loop-along.along c.loop-along.invariant (here d)
-    (put_run_to (until d) c.in_ok-put_run.ensures)
+returns c = c.put_ways.ensures

@@ -28,19 +28,18 @@ left_before c not_before =
     c.end-w_end.ensures
 
 -- the next verdict of an input reaches beyond the stretch
-beyond : (c : After-precedes) (end : Cut) → Before (place c.args.out.to) (place end) → AtMost (place end) (ends (interval c.args.v.on))
+beyond : (c : After-precedes) (end : Cut) → AtMost (place c.args.out.to) (place end) → AtMost (place end) (ends (interval c.args.v.on))
     → AtMost (place end) (ends (interval c.args.w.on))
     → AtMost (place c.args.out.to) (ends (interval c.args.v.on)) × AtMost (place c.args.out.to) (ends (interval c.args.w.on))
-beyond c end before by_v by_w = (
-  λ t h. by_v t (upto_of_before (place c.args.out.to) (place end) t before h),
-  λ t h. by_w t (upto_of_before (place c.args.out.to) (place end) t before h),
-)
+beyond c end reach by_v by_w = (λ t h. by_v t (reach t h), λ t h. by_w t (reach t h))
 
-pub returns-then-precedes-2-clause-read : goal.returns-then-precedes-2-clause-read
-returns-then-precedes-2-clause-read c =
-    let here = (goal.at.returns-then-precedes-2-clause-read c).After-precedes in
+pub returns-then-not-precedes-clause-read : goal.returns-then-not-precedes-clause-read
+returns-then-not-precedes-clause-read c =
+    let here = (goal.at.returns-then-not-precedes-clause-read c).After-precedes in
     let end = c.end-w_end.result in
-    let far = beyond here end (subst (λ (q : Cut). Before (place q) (place end)) c.end.ensures (c.precedes-then-precedes.ensures.0 c.if-precedes-2.true))
+    let far = beyond here end (at_most_of_not_before (place c.args.out.to) (place end)
+    (λ b. let e = c.precedes-then-precedes.ensures.1 (subst (λ (q : Cut). Before (place end) (place q)) (sym c.end.ensures) b) in
+    let f = c.if-not-precedes.true in cc))
     (right_before here (c.precedes.ensures.0 c.if-precedes.true)) (λ t h. subst (λ (q : Place). Upto q t) c.end-w_end.ensures h) in
     record {
       same = refl;
@@ -53,18 +52,17 @@ returns-then-precedes-2-clause-read c =
     }
 
 pub upto_within-requires-clause-within : goal.upto_within-requires-clause-within
-upto_within-requires-clause-within c =
-    at_most_of_not_before (place c.end-w_end.result) (place c.args.out.to)
-    (λ b. true≢false (sym (c.precedes-then-precedes.ensures.1 (subst (λ (q : Cut). Before (place q) (place c.end-w_end.result)) (sym c.end.ensures) b))
-    ∙ c.if-precedes-2.false))
+upto_within-requires-clause-within c t h =
+    upto_of_before (place c.end-w_end.result) (place c.args.out.to) t
+    (subst (λ (q : Cut). Before (place c.end-w_end.result) (place q)) c.end.ensures (c.precedes-then-precedes.ensures.0 c.if-not-precedes.false)) h
 
 pub returns-then-precedes-clause-read : goal.returns-then-precedes-clause-read
 returns-then-precedes-clause-read c =
     let here = (goal.at.returns-then-precedes-clause-read c).After-precedes in
     let end = c.end-w_end.result in
-    let to_end : AtMost (place end) (place c.args.out.to) =
-    at_most_of_not_before (place end) (place c.args.out.to)
-    (λ b. true≢false (sym (c.precedes-then-precedes.ensures.1 (subst (λ (q : Cut). Before (place q) (place end)) (sym c.end.ensures) b)) ∙ c.if-precedes-2.false)) in
+    let to_end : AtMost (place end) (place c.args.out.to) = λ t h.
+    upto_of_before (place end) (place c.args.out.to) t
+    (subst (λ (q : Cut). Before (place end) (place q)) c.end.ensures (c.precedes-then-precedes.ensures.0 c.if-not-precedes.false)) h in
     let said = said_of_both c.requires.first_left c.requires.first_right c.requires.own c.requires.left_apart c.requires.right_apart c.requires.apart
     (subst (λ b. HasAnswer c.args.edges.now c.upto_within.new.edges c.args.out b c.in_ok-next.next) c.of-holds.ensures c.in_ok-next.ensures.said)
     c.in_ok-next.ensures.reaches
@@ -79,11 +77,13 @@ returns-then-precedes-clause-read c =
     } in
     right_was_read said passed (λ t h. subst (λ (q : Place). Upto q t) (sym c.end-w_end.ensures) h)
 
-pub returns-then-precedes-3-clause-read : goal.returns-then-precedes-3-clause-read
-returns-then-precedes-3-clause-read c =
-    let here = (goal.at.returns-then-precedes-3-clause-read c).After-precedes in
+pub returns-then-not-precedes-2-clause-read : goal.returns-then-not-precedes-2-clause-read
+returns-then-not-precedes-2-clause-read c =
+    let here = (goal.at.returns-then-not-precedes-2-clause-read c).After-precedes in
     let end = c.end-v_end.result in
-    let far = beyond here end (subst (λ (q : Cut). Before (place q) (place end)) c.end-2.ensures (c.precedes-2.ensures.0 c.if-precedes-3.true))
+    let far = beyond here end (at_most_of_not_before (place c.args.out.to) (place end)
+    (λ b. let e = c.precedes-2.ensures.1 (subst (λ (q : Cut). Before (place end) (place q)) (sym c.end-2.ensures) b) in
+    let f = c.if-not-precedes-2.true in cc))
     (λ t h. subst (λ (q : Place). Upto q t) c.end-v_end.ensures h)
     (left_before here (λ b. true≢false (sym (c.precedes.ensures.1 b) ∙ c.if-precedes.false))) in
     record {
@@ -97,18 +97,17 @@ returns-then-precedes-3-clause-read c =
     }
 
 pub upto_within-requires-2-clause-within : goal.upto_within-requires-2-clause-within
-upto_within-requires-2-clause-within c =
-    at_most_of_not_before (place c.end-v_end.result) (place c.args.out.to)
-    (λ b. true≢false (sym (c.precedes-2.ensures.1 (subst (λ (q : Cut). Before (place q) (place c.end-v_end.result)) (sym c.end-2.ensures) b))
-    ∙ c.if-precedes-3.false))
+upto_within-requires-2-clause-within c t h =
+    upto_of_before (place c.end-v_end.result) (place c.args.out.to) t
+    (subst (λ (q : Cut). Before (place c.end-v_end.result) (place q)) c.end-2.ensures (c.precedes-2.ensures.0 c.if-not-precedes-2.false)) h
 
-pub returns-then-precedes-4-clause-read : goal.returns-then-precedes-4-clause-read
-returns-then-precedes-4-clause-read c =
-    let here = (goal.at.returns-then-precedes-4-clause-read c).After-precedes in
+pub returns-then-precedes-2-clause-read : goal.returns-then-precedes-2-clause-read
+returns-then-precedes-2-clause-read c =
+    let here = (goal.at.returns-then-precedes-2-clause-read c).After-precedes in
     let end = c.end-v_end.result in
-    let to_end : AtMost (place end) (place c.args.out.to) =
-    at_most_of_not_before (place end) (place c.args.out.to)
-    (λ b. true≢false (sym (c.precedes-2.ensures.1 (subst (λ (q : Cut). Before (place q) (place end)) (sym c.end-2.ensures) b)) ∙ c.if-precedes-3.false)) in
+    let to_end : AtMost (place end) (place c.args.out.to) = λ t h.
+    upto_of_before (place end) (place c.args.out.to) t
+    (subst (λ (q : Cut). Before (place end) (place q)) c.end-2.ensures (c.precedes-2.ensures.0 c.if-not-precedes-2.false)) h in
     let said = said_of_both c.requires.first_left c.requires.first_right c.requires.own c.requires.left_apart c.requires.right_apart c.requires.apart
     (subst (λ b. HasAnswer c.args.edges.now c.upto_within-2.new.edges c.args.out b c.in_ok-next-2.next) c.of-holds.ensures c.in_ok-next-2.ensures.said)
     c.in_ok-next-2.ensures.reaches
@@ -128,9 +127,9 @@ pub returns-clause-read : goal.returns-clause-read
 returns-clause-read c =
     let here = (goal.at.returns-clause-read c).After-precedes in
     let end = c.end-v_end.result in
-    let to_end : AtMost (place end) (place c.args.out.to) =
-    at_most_of_not_before (place end) (place c.args.out.to)
-    (λ b. true≢false (sym (c.precedes-2.ensures.1 (subst (λ (q : Cut). Before (place q) (place end)) (sym c.end-2.ensures) b)) ∙ c.if-precedes-3.false)) in
+    let to_end : AtMost (place end) (place c.args.out.to) = λ t h.
+    upto_of_before (place end) (place c.args.out.to) t
+    (subst (λ (q : Cut). Before (place end) (place q)) c.end-2.ensures (c.precedes-2.ensures.0 c.if-not-precedes-2.false)) h in
     let said = said_of_both c.requires.first_left c.requires.first_right c.requires.own c.requires.left_apart c.requires.right_apart c.requires.apart
     (subst (λ b. HasAnswer c.args.edges.now c.upto_within-2.new.edges c.args.out b c.in_ok-next-2.next) c.of-holds.ensures c.in_ok-next-2.ensures.said)
     c.in_ok-next-2.ensures.reaches
@@ -153,6 +152,6 @@ returns-clause-read c =
       spare = c.pass-3.ensures.spare;
     } in
     let w_ended : AtMost (place c.end-w_end.result) (place end) =
-    at_most_of_not_before (place c.end-w_end.result) (place end) (λ b. true≢false (sym (c.precedes-3.ensures.1 b) ∙ c.if-precedes-4.false)) in
+    at_most_of_not_before (place c.end-w_end.result) (place end) (λ b. true≢false (sym (c.precedes-3.ensures.1 b) ∙ c.if-precedes-2.false)) in
     both_were_read said passed also (λ t h. subst (λ (q : Place). Upto q t) (sym c.end-v_end.ensures) h)
     (λ t h. w_ended t (subst (λ (q : Place). Upto q t) (sym c.end-w_end.ensures) h))

@@ -21,6 +21,23 @@ returns-in_err-rows-clause-taken g c =
     subst (λ s. IsOpenStop g.F.Follow.stands g.F.Follow.owes g.F.Follow.kind c.args.self.now.rows.limits c.args.self.now.formula false
     (bytes ++ c.args.piece.now) c.take_rows.new.follower (written ++ c.take_rows.new.text) s) (sym c.in_err-rows.ensures.memory) tt)
 
+pub returns-then-rows-piece-clause-taken : goal.returns-then-rows-piece-clause-taken
+returns-then-rows-piece-clause-taken g c = λ bytes written k.
+    let n = c.in_ok-rows.rows in
+    let live = c.args.self.now in
+    live_rows g.F.Follow.stands g.F.Follow.owes g.F.Follow.kind live c.take_rows.new.rows c.take_rows.new.follower
+    (bytes ++ take n c.args.piece.now) c.take_rows.new.text written k.served
+    (c.in_ok-rows.ensures.taken live.formula k.case bytes (written ++ live.text) k.kept k.followed)
+
+pub returns-then-rows-piece-clause-within : goal.returns-then-rows-piece-clause-within
+returns-then-rows-piece-clause-within g c = c.in_ok-rows.ensures.within
+
+pub returns-then-rows-piece-clause-progress : goal.returns-then-rows-piece-clause-progress
+returns-then-rows-piece-clause-progress g c = λ some. let e = c.if-rows-piece.true in omega (arith, some, e)
+
+pub returns-then-rows-piece-clause-limits : goal.returns-then-rows-piece-clause-limits
+returns-then-rows-piece-clause-limits g c = c.take_rows.ensures.limits
+
 pub step-requires : goal.step-requires
 step-requires g c =
     let k = c.requires.is in

@@ -1,11 +1,11 @@
-use Rattle.std.proofs.Common.{[], length, false, sym, ap, ◌∙◌, subst, append-nil}
+use Rattle.std.proofs.Common.{◌≡◌, [], length, false, refl, arith, sym, ap, ◌∙◌, subst, append-nil}
 use Rattle.std.specs.Prelude.{◌==◌}
 use Rattle.std.proofs.lemmas.Bool.{false≢true}
 use Rattle.trace_stream.specs.Following.{Follows}
 use Rattle.trace_stream.specs.Streams.{verdicts}
 use Rattle.verdict_stream.specs.Watching.{IsWatched}
 use Rattle.verdict_stream.specs.declared.watcher.Watcher.{Watcher}
-use Rattle.verdict_stream.proofs.Owing.{OwesNoMore, owing_places, owing_steps, owing_passing, owing_can, owing_followed, Before}
+use Rattle.verdict_stream.proofs.Owing.{OwesNoMore, owing_places, owing_steps, owing_passing, owing_can, owing_followed, owing_taken, Before}
 use Rattle.verdict_stream.proofs.Opening.{empty_of, none_owed, some_owed}
 use Rattle.verdict_stream.proofs.watcher.Watcher.make_owed.Goals as goal
 
@@ -24,6 +24,51 @@ step_all-requires c =
     let v = c.args.self.now in
     owing_places v case made (some_owed v case made opened
     (λ e. false≢true (sym c.if-is_empty.false ∙ c.is_empty.ensures ∙ ap (λ n. n == 0) (v.times.ok.0 ∙ ap length e))))
+
+pub take_all-requires-clause-can : goal.take_all-requires-clause-can
+take_all-requires-clause-can c =
+    let (case, made, opened) = c.requires in
+    let v = c.args.self.now in
+    let o = some_owed v case made opened
+    (λ e. false≢true (sym c.if-is_empty.false ∙ c.is_empty.ensures ∙ ap (λ n. n == 0) (v.times.ok.0 ∙ ap length e))) in
+    let st = owing_steps v case made o c.step_all.new.self.net (λ header events s. c.in_ok-step_all.ensures.stands header events s) in
+    let x = owing_passing v case made o c.step_all.new.self.net st in
+    (Before v case made o x, owing_can v case made o x c.step_all.new.self st c.step_all.ensures.start)
+
+pub take_all-requires-clause-none : goal.take_all-requires-clause-none
+take_all-requires-clause-none c =
+    let (case, made, opened) = c.requires in
+    let v = c.args.self.now in
+    let o = some_owed v case made opened
+    (λ e. false≢true (sym c.if-is_empty.false ∙ c.is_empty.ensures ∙ ap (λ n. n == 0) (v.times.ok.0 ∙ ap length e))) in
+    o.none_waiting
+
+-- what the root gives out for one row
+pub returns-then-len-eq1 : goal.returns-then-len-eq1
+returns-then-len-eq1 c = λ case made opened.
+    let v = c.args.self.now in
+    let o = some_owed v case made opened
+    (λ e. false≢true (sym c.if-is_empty.false ∙ c.is_empty.ensures ∙ ap (λ n. n == 0) (v.times.ok.0 ∙ ap length e))) in
+    let st = owing_steps v case made o c.step_all.new.self.net (λ header events s. c.in_ok-step_all.ensures.stands header events s) in
+    let x = owing_passing v case made o c.step_all.new.self.net st in
+    let can = owing_can v case made o x c.step_all.new.self st c.step_all.ensures.start in
+    let one : length v.times.items ≡ 1 = omega (arith, c.if-len-eq1.true, c.len.ensures, v.times.ok.0) in
+    let after : Watcher = record {
+      network = c.take_all.new.self;
+      horizon = v.horizon;
+      times = c.clear.new.self;
+      pending = v.pending;
+      lines = c.take_all.new.lines;
+    } in
+    let left_off : OwesNoMore v c.take_all.new.self after = record {
+      network = refl;
+      formula = c.take_all.ensures.formula ∙ c.step_all.ensures.formula;
+      horizon = refl;
+      times = c.clear.ensures.items;
+      pending = o.none_pending;
+      lines = c.in_ok-take_all.ensures.none;
+    } in
+    owing_taken v case made o left_off one x c.args.text.now c.take_all.new.text (c.in_ok-take_all.ensures.taken (Before v case made o x) can)
 
 pub give_all-requires : goal.give_all-requires
 give_all-requires c =
@@ -56,16 +101,16 @@ returns c = λ case made opened.
     let after : Watcher = record {
       network = put.network;
       horizon = put.horizon;
-      times = c.clear.new.self;
-      pending = c.clear-2.new.self;
+      times = c.clear-2.new.self;
+      pending = c.clear-3.new.self;
       lines = put.lines;
     } in
     let left_off : OwesNoMore v c.give_all.new.self after = record {
       network = c.put_rows.ensures.network;
       formula = c.give_all.ensures.formula ∙ c.step_all.ensures.formula;
       horizon = c.put_rows.ensures.horizon;
-      times = c.clear.ensures.items;
-      pending = c.clear-2.ensures;
+      times = c.clear-2.ensures.items;
+      pending = c.clear-3.ensures;
       lines = c.in_ok-put_rows.ensures.none;
     } in
     owing_followed v case made o left_off x c.give_all.new.pending put.pending c.args.text.now c.put_rows.new.text grown

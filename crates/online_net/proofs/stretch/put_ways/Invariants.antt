@@ -1,6 +1,6 @@
 use Rattle.std.proofs.Common.{◌-◌}
 use Rattle.online_net.specs.Stretches.{HasCome}
-use Rattle.online_net.proofs.stretch.put_stretch.Given as goal
+use Rattle.online_net.proofs.stretch.put_ways.Given as goal
 
 -- the atom has come to a row on the way
 abbrev pub invariant-loop-along : goal.invariant-loop-along
