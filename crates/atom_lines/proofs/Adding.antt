@@ -1,10 +1,10 @@
 -- A sum that grows by a term, and how large it can be.
 use Rattle.std.proofs.Common.{◌≡◌, ℕ, ℤ, ◌+◌, ◌*◌, ◌^◌, ◌<◌, ◌≤◌, ◌+ℤ◌, ◌-ℤ◌, ◌*ℤ◌, List, length, get_or, drop, nat_abs, ap, arith}
-use Rattle.std.proofs.Common.{FitsSigned, to_z, of_z, sym, subst, ◌∙◌, pos, refl, Bool, true, false, [], ◌∷◌}
+use Rattle.std.proofs.Common.{FitsSigned, to_z, of_z, mul-le-mul, sym, subst, ◌∙◌, pos, refl, Bool, true, false, [], ◌∷◌}
 use Rattle.std.specs.Prelude.{if◌then◌else◌, slice_index_or, All}
 use Rattle.std.proofs.lemmas.Bool.{true≢false, false≢true}
 use Rattle.std.specs.Int.{w32, w64}
-use Rattle.std.proofs.lemmas.Int.{ints, to_z-of_z}
+use Rattle.std.proofs.lemmas.Int.{ints, to_z-of_z, unsigned_abs-mul}
 use Rattle.std.proofs.lemmas.List.{drop_more, drop_all}
 use Rattle.atom_lines.specs.declared.bound_atom.BoundTerm.{BoundTerm}
 use Rattle.atom_lines.specs.declared.bound_atom.BoundAtom.{BoundAtom}
@@ -139,3 +139,46 @@ one_reach a k width xs v n e sound at few is small =
   where
     fits : (n p l : ℤ) → n ≡ p -ℤ l → nat_abs p ≤ 2 ^ 28 → nat_abs l ≤ 2 ^ 30 → nat_abs n ≤ 2 ^ 32
     fits n p l is h k = omega (arith, ints, is, h, k)
+
+-- a number of 64 bits is read as the small one that it is
+word_is : (z x : ℤ) → nat_abs z ≤ 2 ^ 30 → x ≡ z → to_z w64 (of_z w64 x) ≡ z
+word_is z x h e = ap (λ v. to_z w64 (of_z w64 v)) e ∙ read_back z (omega (arith, h))
+
+-- a coefficient times a value is small
+pub small_product : (a b : ℤ) → nat_abs a ≤ 16 → nat_abs b ≤ 16777216 → nat_abs (a *ℤ b) ≤ 2 ^ 28
+small_product a b h k = rw (unsigned_abs-mul a b) (mul-le-mul h k)
+
+-- it fits, as it is reckoned with 64 bits
+pub product_fits : (a b x y : ℤ) → nat_abs a ≤ 16 → nat_abs b ≤ 16777216 → x ≡ a → y ≡ b → FitsSigned w64 (to_z w64 (of_z w64 x) *ℤ to_z w64 (of_z w64 y))
+product_fits a b x y h k e f =
+    subst (λ z. FitsSigned w64 (z *ℤ to_z w64 (of_z w64 y))) (sym (word_is a x (omega (arith, h)) e))
+    (subst (λ z. FitsSigned w64 (a *ℤ z)) (sym (word_is b y (omega (arith, k)) f))
+    (small_fits (a *ℤ b) (let s = small_product a b h k in omega (arith, s))))
+
+-- and is what it is
+pub product_is : (a b x y : ℤ) → nat_abs a ≤ 16 → nat_abs b ≤ 16777216 → x ≡ a → y ≡ b
+    → to_z w64 (of_z w64 (to_z w64 (of_z w64 x) *ℤ to_z w64 (of_z w64 y))) ≡ a *ℤ b
+product_is a b x y h k e f =
+    word_is (a *ℤ b) _ (let s = small_product a b h k in omega (arith, s))
+    (ap (λ z. z *ℤ to_z w64 (of_z w64 y)) (word_is a x (omega (arith, h)) e) ∙ ap (λ z. a *ℤ z) (word_is b y (omega (arith, k)) f))
+
+small_above : (p l : ℤ) → nat_abs p ≤ 2 ^ 28 → nat_abs l ≤ 2 ^ 30 → nat_abs (p -ℤ l) ≤ 2 ^ 32
+small_above p l h k = omega (arith, ints, h, k)
+
+-- a product less the constant fits
+pub above_fits : (p l x : ℤ) → nat_abs p ≤ 2 ^ 28 → nat_abs l ≤ 2 ^ 30 → x ≡ l → FitsSigned w64 (to_z w64 (of_z w64 p) -ℤ to_z w64 (of_z w64 x))
+above_fits p l x h k e =
+    subst (λ z. FitsSigned w64 (z -ℤ to_z w64 (of_z w64 x))) (sym (read_back p (omega (arith, h))))
+    (subst (λ z. FitsSigned w64 (p -ℤ z)) (sym (word_is l x k e)) (small_fits (p -ℤ l) (small_above p l h k)))
+
+-- and is what it is
+pub above_is : (p l x : ℤ) → nat_abs p ≤ 2 ^ 28 → nat_abs l ≤ 2 ^ 30 → x ≡ l
+    → to_z w64 (of_z w64 (to_z w64 (of_z w64 p) -ℤ to_z w64 (of_z w64 x))) ≡ p -ℤ l
+above_is p l x h k e =
+    ap (λ v. to_z w64 (of_z w64 v))
+    (ap (λ z. z -ℤ to_z w64 (of_z w64 x)) (read_back p (omega (arith, h))) ∙ ap (λ z. p -ℤ z) (word_is l x k e))
+    ∙ read_back (p -ℤ l) (small_above p l h k)
+
+-- a word of 32 bits is read as the small one that it is
+pub word32_is : (z x : ℤ) → nat_abs z ≤ 2 ^ 30 → x ≡ to_z w32 (of_z w32 z) → x ≡ z
+word32_is z x h e = e ∙ word_read z h
