@@ -405,6 +405,7 @@ impl Net {
 
     /// The next verdict of the root; None where all up to the root's front was taken, and where the network is stopped. It takes no
     /// memory.
+    #[inline(always)]
     pub fn take(&mut self) -> Option<Verdict>
         ensures stopped { self.old.stopped ≡ true → result ≡ None }
         ensures unchanged { result ≡ None → self.new ≡ self.old }

@@ -1,6 +1,7 @@
 -- What is left of an edge without its first verdicts.
-use Rattle.std.proofs.Common.{◌≡◌, inl, inr, Option, None, ℤ, ℕ, zero, suc, ◌+◌, ◌-◌, ◌<◌, List, [], ◌∷◌, ◌++◌, drop, length}
-use Rattle.std.proofs.Common.{Some, IfSome, slice_get, refl, sym, ap, ◌∙◌, arith, length-drop, below_more}
+use Rattle.std.proofs.Common.{◌≡◌, ◌⊎◌, inl, inr, Option, None, ℤ, ℕ, zero, suc, ◌+◌, ◌-◌, ◌<◌, List, [], ◌∷◌, ◌++◌, drop, length}
+use Rattle.std.proofs.Common.{Some, IfSome, ◌≤◌, slice_get, refl, sym, ap, subst, ◌∙◌, arith, length-drop, below_more}
+use Rattle.std.proofs.lemmas.Bool.{cases_lt}
 use Rattle.std.proofs.lemmas.Option.{slice_get_within}
 use Rattle.rational.specs.Rational.{Rational, ◌≤ʳ◌, ◌<ʳ◌, ◌≈◌, whole}
 use Rattle.rational.proofs.Order.{le_trans, le_of_same, ge_of_same, lt_of_le_of_lt, le_or_lt}
@@ -43,15 +44,15 @@ without-none x =
     let none : 0 - length x.seen ≡ 0 = omega arith in
     ap (λ k. record { seen = x.seen; fresh = drop k x.fresh; number = x.number; joins = x.joins }) none
 
--- one verdict more is dropped
-pub without-one_more : (n : ℕ) (x : Edge) → without 1 (without n x) ≡ without (n + 1) x
-without-one_more n x =
-    let count : (n - length x.seen) + (1 - length (drop n x.seen)) ≡ n + 1 - length x.seen = omega (arith, length-drop n x.seen)
+-- some verdicts more are dropped
+pub without-more : (m n : ℕ) (x : Edge) → without m (without n x) ≡ without (n + m) x
+without-more m n x =
+    let count : (n - length x.seen) + (m - length (drop n x.seen)) ≡ n + m - length x.seen = omega (arith, length-drop n x.seen)
     in
-    ap (λ s. record { seen = s; fresh = drop (1 - length (drop n x.seen)) (drop (n - length x.seen) x.fresh); number = x.number; joins = x.joins })
-    (drop-drop 1 n x.seen)
-    ∙ ap (λ f. record { seen = drop (n + 1) x.seen; fresh = f; number = x.number; joins = x.joins })
-    (drop-drop (1 - length (drop n x.seen)) (n - length x.seen) x.fresh ∙ ap (λ k. drop k x.fresh) count)
+    ap (λ s. record { seen = s; fresh = drop (m - length (drop n x.seen)) (drop (n - length x.seen) x.fresh); number = x.number; joins = x.joins })
+    (drop-drop m n x.seen)
+    ∙ ap (λ f. record { seen = drop (n + m) x.seen; fresh = f; number = x.number; joins = x.joins })
+    (drop-drop (m - length (drop n x.seen)) (n - length x.seen) x.fresh ∙ ap (λ k. drop k x.fresh) count)
 
 -- some verdicts are gone from the front, and each of them ends by the limit
 pub record IsCutBy (limit : Rational) (old new : Edge) : Type 0 where
@@ -75,10 +76,55 @@ cut_one {limit} {old} {new} v cut first ended =
     ∙ sym (ap (λ xs. slice_get xs 0) (ap held_of cut.is ∙ held_of-without cut.count old)) ∙ first in
     record {
       count = cut.count + 1;
-      is = ap (without 1) cut.is ∙ without-one_more cut.count old;
+      is = ap (without 1) cut.is ∙ without-more 1 cut.count old;
       ended = below_more (λ k. IfSome (slice_get (held_of old) k) (λ w. value w.on.to ≤ʳ limit)) cut.count cut.ended
           (rw here ended);
     }
+
+-- a verdict behind others that are gone
+pub held_later : (x : Edge) (m j : ℕ) → slice_get (held_of (without m x)) j ≡ slice_get (held_of x) (m + j)
+held_later x m j = ap (λ l. slice_get l j) (held_of-without m x) ∙ get-drop m (held_of x) j
+  where
+    get-drop : {X : Type 0} (n : ℕ) (xs : List X) (k : ℕ) → slice_get (drop n xs) k ≡ slice_get xs (n + k)
+    get-drop zero xs k = let e : k ≡ 0 + k = omega arith in ap (slice_get xs) e
+    get-drop (suc n) [] k = refl
+    get-drop (suc n) (x ∷ xs) k = let e : suc (n + k) ≡ suc n + k = omega arith in get-drop n xs k ∙ ap (slice_get (x ∷ xs)) e
+
+-- each of the first verdicts is so where the first ones are and those behind them
+each_of_two : (P : ℕ → Type 0) (m n : ℕ) → ((k : ℕ) → k < m → P k) → ((j : ℕ) → j < n → P (m + j)) → (k : ℕ) → k < m + n → P k
+each_of_two P m n first second k below = by_place (cases_lt k m)
+  where
+    by_place : (k < m) ⊎ (m ≤ k) → P k
+    by_place (inl lt) = first k lt
+    by_place (inr le) = let e : m + (k - m) ≡ k = omega (arith, le) in subst P e (second (k - m) (omega (arith, below, le)))
+
+-- some more may go that end by the limit
+pub cut_more : {limit : Rational} {old mid : Edge} (new : Edge) (n : ℕ) → IsCutBy limit old mid → new ≡ without n mid
+    → ((j : ℕ) → j < n → IfSome (slice_get (held_of mid) j) (λ v. value v.on.to ≤ʳ limit)) → IsCutBy limit old new
+cut_more {limit} {old} {mid} new n cut is ended = record {
+  count = cut.count + n;
+  is = is ∙ ap (without n) cut.is ∙ without-more n cut.count old;
+  ended = each_of_two (λ k. IfSome (slice_get (held_of old) k) (λ v. value v.on.to ≤ʳ limit)) cut.count n cut.ended
+      (λ j below. subst (λ o. IfSome o (λ v. value v.on.to ≤ʳ limit))
+      (ap (λ x. slice_get (held_of x) j) cut.is ∙ held_later old cut.count j) (ended j below));
+}
+
+-- what is dropped then is dropped of all
+pub cut_then : {limit : ℤ} {end : Rational} {old mid new : Edge} → IsCutBy end old mid → end ≈ whole limit → IsDroppedBy limit mid new
+    → IsDroppedBy limit old new
+cut_then {limit} {end} {old} {mid} {new} cut same dropped = record {
+  count = cut.count + dropped.count;
+  is = dropped.is ∙ ap (without dropped.count) cut.is ∙ without-more dropped.count cut.count old;
+  ended = each_of_two (λ k. IfSome (slice_get (held_of old) k) (λ v. value v.on.to ≤ʳ whole limit)) cut.count dropped.count
+      (λ k below. each (slice_get (held_of old) k) (cut.ended k below))
+      (λ j below. subst (λ o. IfSome o (λ v. value v.on.to ≤ʳ whole limit))
+      (ap (λ x. slice_get (held_of x) j) cut.is ∙ held_later old cut.count j) (dropped.ended j below));
+  rest = dropped.rest;
+}
+  where
+    each : (o : Option Verdict) → IfSome o (λ v. value v.on.to ≤ʳ end) → IfSome o (λ v. value v.on.to ≤ʳ whole limit)
+    each None h = h
+    each (Some v) h = le_trans h (le_of_same same)
 
 -- one verdict fewer is held
 pub fewer_held : (x : Edge) (v : Verdict) → slice_get (held_of x) 0 ≡ Some v → length (held_of (without 1 x)) < length (held_of x)

@@ -17,7 +17,10 @@ mod UntilLaw
 mod SinceLaw
 mod SettledLaw
 mod EdgesLemmas
+mod FarLemmas
+mod FarSteps
 mod QueueLemmas
+mod TrackLemmas
 pub mod DroppingLemmas
 pub mod WorkLemmas
 mod SaidLemmas

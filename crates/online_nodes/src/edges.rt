@@ -1,31 +1,40 @@
 //! The edges of a network.
 //!
-//! An edge is a queue of its own: what its reader has read and may still need, and behind it what it has not read. So an
-//! operator goes on in the middle of its input's edge with no walk, and to read a verdict takes no memory. An edge may join
-//! neighbours of one truth: what was not read then stands in stretches, each of one truth.
+//! An edge is what its reader has read and may still need, and behind it what it has not read. So an operator goes on in the middle of its
+//! input's edge with no walk, and to read a verdict takes no memory. The newest verdicts of an edge are at hand in a ring; where it holds
+//! more than that has room for, the older ones lie in blocks of one pool, which all edges share. An edge may join neighbours of one truth:
+//! what was not read then stands in stretches, each of one truth.
 
 ghost use Rattle.std.specs.Prelude.{◌≡◌, ◌+◌, ◌<◌, ◌≤◌, [], ◌∷◌, length, replicate, slice_get};
-ghost use Rattle.std.specs.Prelude.{IfOk, IsOk, OnOk, OnErr, None, Some, ℕ, map, All};
-ghost use Rattle.online_nodes.specs.Queues.{edge_of, IsQueue};
+ghost use Rattle.std.specs.Prelude.{IfOk, IsOk, OnOk, OnErr, None, Some, ℕ, List};
+ghost use Rattle.online_nodes.specs.Queues.{edges_from, AreTracks, Block};
 ghost use Rattle.online_nodes.specs.Held.{edge_at, fresh_at, held_at, joining, no_edge, number_at, with_edge, with_more, with_number};
 ghost use Rattle.online_nodes.specs.Held.{with_read, without, HasMore, IsDroppedBy};
 ghost use Rattle.online_nodes.specs.Lengthening.{CanLengthen};
 
+use crate::far::{Far, Track, drop_far, first_far, make_way, next_far, pass_far, skip_one};
 use crate::queue::Queue;
 use frac128::Memory;
+use seg_pool::Pool;
 use std::alloc::Global;
+use std::collections::VecDeque;
 use std::marker::Model;
 use stl_syntax::Verdict;
 
 /// How much room is made at once for each edge, where there is too little.
 const ROOM: usize = 64;
 
+/// How many edges there may be: no memory has room for so many.
+const MOST: u32 = 2_147_483_647;
+
 /// For each node the verdicts that its reader may still need and the number noted last, and the time of the first row.
 ///
-/// `spare` says how many verdicts each queue has room for, at least. Contracts see it as `Held`.
+/// `spare` says how many verdicts each edge has room for at hand, at least. Contracts see it as `Held`.
 #[derive(Drop)]
 pub struct Edges {
-    queues: Vec<Queue>,
+    alloc: Global,
+    pool: Pool<VecDeque<Verdict>>,
+    tracks: Vec<Track>,
     spare: usize,
     start: Option<u32>,
 }
@@ -35,12 +44,11 @@ impl Model for Edges {
 
     ghost Value = { Held };
 
-    ghost use Rattle.std.specs.Prelude.{map, All};
-    ghost use Rattle.online_nodes.specs.Queues.{edge_of, IsQueue};
+    ghost use Rattle.online_nodes.specs.Queues.{edges_from, AreTracks};
 
-    ghost view = { λ e. record { edges = map edge_of e.queues.items; start = e.start; spare = e.spare } };
+    ghost view = { λ e. record { edges = edges_from e.pool.all 0 e.tracks.items; start = e.start; spare = e.spare } };
 
-    ghost invariant = { λ e. All (IsQueue e.spare) e.queues.items };
+    ghost invariant = { λ e. AreTracks e.pool.all e.tracks.items e.spare };
 }
 
 impl Edges {
@@ -53,14 +61,27 @@ impl Edges {
         ensures edges { IfOk result (λ e. e.edges ≡ replicate count no_edge) }
         ensures start { IfOk result (λ e. e.start ≡ None) }
     {
-        let mut queues = Vec::new(alloc);
+        if count > MOST {
+            return Err(Memory);
+        }
+        let mut pool = Pool::new(alloc);
+        let mut tracks = Vec::new(alloc);
+        pool.new_list()?;
         for made in 0..count {
-            let Ok(()) = queues.push(Queue::new(alloc)) else {
+            pool.new_list()?;
+            pool.new_list()?;
+            let track = Track {
+                near: Queue::new(alloc),
+                far: Far::none(),
+            };
+            let Ok(()) = tracks.push(track) else {
                 return Err(Memory);
             };
         }
         Ok(Edges {
-            queues,
+            alloc,
+            pool,
+            tracks,
             spare: 0,
             start: None,
         })
@@ -87,7 +108,7 @@ impl Edges {
         requires { edge < length self.old.edges }
         ensures { self.new ≡ record self.old { edges = with_edge self.old edge (joining (edge_at self.old edge)) } }
     {
-        self.queues[edge as usize].join();
+        self.tracks[edge as usize].near.join();
     }
 
     /// Whether an edge joins neighbours of one truth.
@@ -96,7 +117,7 @@ impl Edges {
         requires { edge < length self.now.edges }
         ensures { result ≡ (edge_at self.now edge).joins }
     {
-        self.queues[edge as usize].joins()
+        self.tracks[edge as usize].near.joins()
     }
 
     /// As `put`, but on an edge that joins the verdict lengthens the last one that was not read, where it goes on from that with its
@@ -116,13 +137,10 @@ impl Edges {
         ensures had_room { 0 < self.old.spare → IsOk result }
         ensures memory { OnErr result (self.new ≡ self.old) }
     {
-        match self.queues[edge as usize].extend(piece) {
-            Ok(()) => {
-                self.spare = self.spare.saturating_sub(1);
-                Ok(())
-            }
-            Err(_) => Err(Memory),
+        if self.tracks[edge as usize].near.lengthen(&piece) {
+            return Ok(());
         }
+        self.put(edge, piece)
     }
 
     /// Appends a verdict at the back of an edge, where its reader has not read it.
@@ -139,13 +157,16 @@ impl Edges {
         ensures had_room { 0 < self.old.spare → IsOk result }
         ensures memory { OnErr result (self.new ≡ self.old) }
     {
-        match self.queues[edge as usize].put(piece) {
-            Ok(()) => {
-                self.spare = self.spare.saturating_sub(1);
-                Ok(())
-            }
-            Err(_) => Err(Memory),
+        let track = &mut self.tracks[edge as usize];
+        if track.near.is_full() {
+            make_way(self.alloc, &mut self.pool, edge, track)?;
+            track.near.push(piece);
+            self.spare = 0;
+            return Ok(());
         }
+        track.near.push(piece);
+        self.spare = self.spare.saturating_sub(1);
+        Ok(())
     }
 
     /// As `put`, and never in the place of the call: for what is put seldom.
@@ -170,7 +191,7 @@ impl Edges {
         requires { edge < length self.old.edges }
         ensures { self.new ≡ record self.old { edges = with_edge self.old edge (with_number (edge_at self.old edge) number) } }
     {
-        self.queues[edge as usize].reach(number);
+        self.tracks[edge as usize].near.reach(number);
     }
 
     /// The number noted last.
@@ -179,7 +200,7 @@ impl Edges {
         requires { edge < length self.now.edges }
         ensures { result ≡ number_at self.now edge }
     {
-        self.queues[edge as usize].number()
+        self.tracks[edge as usize].near.number()
     }
 
     /// Takes out the first verdict of an edge. None where the edge holds none.
@@ -191,7 +212,16 @@ impl Edges {
         ensures start { self.new.start ≡ self.old.start }
         ensures spare { self.old.spare ≤ self.new.spare }
     {
-        self.queues[edge as usize].take()
+        let track = &mut self.tracks[edge as usize];
+        if track.far.is_some() {
+            let Some(v) = first_far(&self.pool, edge, &track.far) else {
+                unreachable!()
+            };
+            let first = *v;
+            skip_one(&mut self.pool, edge, &mut track.far);
+            return Some(first);
+        }
+        track.near.take()
     }
 
     /// How many verdicts an edge holds.
@@ -200,7 +230,8 @@ impl Edges {
         requires { edge < length self.now.edges }
         ensures { result ≡ length (held_at self.now edge) }
     {
-        self.queues[edge as usize].len()
+        let track = &self.tracks[edge as usize];
+        track.far.len() + track.near.len()
     }
 
     /// Makes room for `n` verdicts in all edges together.
@@ -220,7 +251,7 @@ impl Edges {
             return Ok(());
         }
         let room = n.max(ROOM);
-        make_room(&mut self.queues, room)?;
+        make_room(&mut self.tracks, room)?;
         self.spare = room;
         Ok(())
     }
@@ -238,7 +269,14 @@ impl Edges {
         requires { edge < length self.now.edges }
         ensures { result ≡ slice_get (fresh_at self.now edge) 0 }
     {
-        self.queues[edge as usize].next()
+        let track = &self.tracks[edge as usize];
+        if track.far.waits() {
+            return match next_far(&self.pool, edge, &track.far) {
+                Some(v) => Some(*v),
+                None => None,
+            };
+        }
+        track.near.next()
     }
 
     /// Reads the first verdict of an edge that was not read, and gives it. It takes no memory.
@@ -251,7 +289,16 @@ impl Edges {
         ensures start { self.new.start ≡ self.old.start }
         ensures spare { self.old.spare ≤ self.new.spare }
     {
-        self.queues[edge as usize].pass()
+        let track = &mut self.tracks[edge as usize];
+        if track.far.waits() {
+            let Some(v) = next_far(&self.pool, edge, &track.far) else {
+                unreachable!()
+            };
+            let first = *v;
+            pass_far(&mut self.pool, edge, &mut track.far);
+            return first;
+        }
+        track.near.pass()
     }
 
     /// Drops from the front of an edge what ends by the time `limit`.
@@ -262,19 +309,24 @@ impl Edges {
         ensures start { self.new.start ≡ self.old.start }
         ensures spare { self.old.spare ≤ self.new.spare }
     {
-        self.queues[edge as usize].drop_by(limit);
+        let track = &mut self.tracks[edge as usize];
+        if track.far.is_some() {
+            drop_far(&mut self.pool, edge, track, limit);
+            return;
+        }
+        track.near.drop_by(limit);
     }
 }
 
-/// Makes room for so many verdicts in each queue.
-fn make_room(queues: &mut Vec<Queue>, room: usize) -> Result<(), Memory>
-    requires { All (IsQueue 0) queues.old.items }
-    ensures same { map edge_of queues.new.items ≡ map edge_of queues.old.items }
-    ensures kept { (spare : ℕ) → All (IsQueue spare) queues.old.items → All (IsQueue spare) queues.new.items }
-    ensures room { OnOk result (All (IsQueue room) queues.new.items) }
+/// Makes room at hand for so many verdicts in each edge.
+fn make_room(tracks: &mut Vec<Track>, room: usize) -> Result<(), Memory>
+    requires { (all : List (List Block)) × (spare : ℕ) × AreTracks all tracks.old.items spare }
+    ensures same { (all : List (List Block)) → edges_from all 0 tracks.new.items ≡ edges_from all 0 tracks.old.items }
+    ensures kept { (all : List (List Block)) (spare : ℕ) → AreTracks all tracks.old.items spare → AreTracks all tracks.new.items spare }
+    ensures room { OnOk result ((all : List (List Block)) (spare : ℕ) → AreTracks all tracks.old.items spare → AreTracks all tracks.new.items room) }
 {
-    for i in 0..queues.len() {
-        queues[i].reserve(room)?;
+    for i in 0..tracks.len() {
+        tracks[i].near.reserve(room)?;
     }
     Ok(())
 }

@@ -1,8 +1,9 @@
 //! The connectives, one verdict of each input at a time.
 
-ghost use Rattle.std.specs.Prelude.{◌≡◌, ◌≢◌, ◌+◌, ◌*◌, ◌<◌, length, slice_get, IfOk, OnErr, MatchOption, Some};
-ghost use Rattle.rational.specs.Places.{AtMost};
+ghost use Rattle.std.specs.Prelude.{◌≡◌, ◌≢◌, ◌+◌, ◌*◌, ◌<◌, length, slice_get, IfOk, IsTrue, OnErr, MatchOption, Some};
+ghost use Rattle.rational.specs.Places.{ends, AtMost, Same};
 ghost use Rattle.frac128.specs.Cuts.{place};
+ghost use Rattle.frac128.specs.Spans.{interval};
 ghost use Rattle.online_nodes.specs.Held.{fresh_at};
 ghost use Rattle.online_nodes.specs.Written.{IsSound};
 ghost use Rattle.online_nodes.specs.Joins.{joined, HasFilled, HasJoined, HasPaused, HasReadBoth};
@@ -81,9 +82,49 @@ fn read_first(
     }
     let next = out.upto_within(edges, holds, v_end)?;
     let _ = edges.pass(inputs.left);
-    if v_end.precedes(&w_end) {
-        return Ok(Some(next));
+    Ok(Some(next))
+}
+
+/// Whether two verdicts end at one place.
+#[inline(always)]
+fn end_alike(v: &Verdict, w: &Verdict) -> bool
+    ensures { IsTrue result → Same (ends (interval v.now.on)) (ends (interval w.now.on)) }
+{
+    v.on.to_in == w.on.to_in && v.on.to == w.on.to
+}
+
+/// Reads on in both inputs up to the one end of their next verdicts. None where they do not end inside the stretch, and then nothing
+/// changed.
+fn read_together(
+    edges: &mut Edges,
+    join: Join,
+    inputs: Inputs,
+    out: Out,
+    v: Verdict,
+    w: Verdict,
+) -> Result<Option<Out>, Memory>
+    requires left { inputs.left < length edges.old.edges }
+    requires right { inputs.right < length edges.old.edges }
+    requires own { out.edge < length edges.old.edges }
+    requires left_apart { inputs.left ≢ out.edge }
+    requires right_apart { inputs.right ≢ out.edge }
+    requires apart { inputs.left ≢ inputs.right }
+    requires sound { IsSound out }
+    requires inside { AtMost (place out.at) (place out.to) }
+    requires first_left { slice_get (fresh_at edges.old inputs.left) 0 ≡ Some v }
+    requires first_right { slice_get (fresh_at edges.old inputs.right) 0 ≡ Some w }
+    requires alike { Same (ends (interval v.on)) (ends (interval w.on)) }
+    ensures read { IfOk result (λ r. MatchOption r
+        (HasPaused edges.old edges.new inputs out)
+        (λ next. HasReadBoth edges.old edges.new join inputs out next)) }
+    ensures memory { OnErr result (edges.old.spare ≡ 0) }
+{
+    let end = Cut::end(&v.on);
+    if !end.precedes(&out.end()) {
+        return Ok(None);
     }
+    let next = out.upto_within(edges, join.of(v.holds, w.holds), end)?;
+    let _ = edges.pass(inputs.left);
     let _ = edges.pass(inputs.right);
     Ok(Some(next))
 }
@@ -110,6 +151,9 @@ fn read_both(edges: &mut Edges, join: Join, inputs: Inputs, out: Out) -> Result<
     let Some(w) = edges.next(inputs.right) else {
         return Ok(None);
     };
+    if end_alike(&v, &w) {
+        return read_together(edges, join, inputs, out, v, w);
+    }
     read_first(edges, join, inputs, out, v, w)
 }
 

@@ -4,6 +4,7 @@
 
 mod answering;
 mod edges;
+mod far;
 mod join;
 mod kind;
 mod laws;

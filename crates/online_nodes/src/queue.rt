@@ -1,7 +1,8 @@
-//! One edge as a queue: its verdicts lie in one ring, in order, and a count says how many of them its reader has read. So to read a
-//! verdict moves nothing. A queue that joins lengthens its last verdict, as long as that was not read, by one that goes on from it.
+//! What an edge has at hand: its newest verdicts lie in one ring, in order, and a count says how many of them its reader has read. So to
+//! read a verdict moves nothing. A queue that joins lengthens its last verdict, as long as that was not read, by one that goes on from it.
 
-ghost use Rattle.std.specs.Prelude.{◌≡◌, ◌+◌, ◌-◌, ◌<◌, ◌≤◌, ◌∷◌, [], ℕ, true, false, length, slice_get, ◌↔◌, IsOk, IsTrue, OnErr, OnOk};
+ghost use Rattle.std.specs.Prelude.{◌≡◌, ◌+◌, ◌-◌, ◌<◌, ◌≤◌, ◌^◌, ◌∷◌, [], ℕ, true, false, length, slice_get, ◌↔◌, IsOk, IsTrue, OnOk};
+ghost use Rattle.std.specs.VecDeque.{deque_capacity};
 ghost use Rattle.rational.specs.Rational.{◌≤ʳ◌};
 ghost use Rattle.frac128.specs.Value.{value};
 ghost use Rattle.online_nodes.specs.Held.{held_of, joining, no_edge, with_more, with_number, with_read, without, GoesOn, HasMore, IsDroppedBy};
@@ -41,62 +42,45 @@ impl Queue {
     /// From then on it joins.
     pub(crate) fn join(&mut self)
         ensures joining { edge_of self.new ≡ joining (edge_of self.old) }
+        ensures items { self.new.items ≡ self.old.items }
+        ensures read { self.new.read ≡ self.old.read }
         ensures kept { (spare : ℕ) → IsQueue spare self.old → IsQueue spare self.new }
     {
         self.joins = true;
     }
 
-    /// Puts a verdict at the back, or lengthens the last one by it.
-    ///
-    /// # Errors
-    ///
-    /// `Memory` where there is no memory, and then nothing changes. With room for one it never comes.
+    /// Whether it has no room for one more.
     #[inline(always)]
-    pub(crate) fn extend(&mut self, piece: Verdict) -> Result<(), Memory>
-        requires { IsQueue 0 self.old }
-        ensures put { OnOk result (HasMore (edge_of self.old) (edge_of self.new) (piece ∷ [])) }
-        ensures lengthens { CanLengthen (edge_of self.old) piece → OnOk result (length (edge_of self.new).fresh ≡ length (edge_of self.old).fresh) }
-        ensures less { (spare : ℕ) → IsQueue spare self.old → OnOk result (IsQueue (spare - 1) self.new) }
-        ensures had_room { (spare : ℕ) → IsQueue spare self.old → 0 < spare → IsOk result }
-        ensures memory { OnErr result (edge_of self.new ≡ edge_of self.old) }
-        ensures still { (spare : ℕ) → IsQueue spare self.old → OnErr result (IsQueue spare self.new) }
+    pub(crate) fn is_full(&self) -> bool
+        ensures full { IsTrue result → length self.now.items.items ≡ deque_capacity self.now.items }
+        ensures room { IsQueue 0 self.now → result ≡ false → IsQueue 1 self.now }
     {
-        if self.lengthen(&piece) {
-            return Ok(());
-        }
-        self.put(piece)
+        self.items.len() == self.items.capacity()
     }
 
-    /// Puts a verdict at the back.
-    ///
-    /// # Errors
-    ///
-    /// As `extend`.
+    /// Puts a verdict at the back, where there is room for it.
     #[inline(always)]
-    pub(crate) fn put(&mut self, piece: Verdict) -> Result<(), Memory>
-        requires { IsQueue 0 self.old }
-        ensures put { OnOk result (edge_of self.new ≡ with_more (edge_of self.old) (piece ∷ [])) }
-        ensures less { (spare : ℕ) → IsQueue spare self.old → OnOk result (IsQueue (spare - 1) self.new) }
-        ensures had_room { (spare : ℕ) → IsQueue spare self.old → 0 < spare → IsOk result }
-        ensures memory { OnErr result (edge_of self.new ≡ edge_of self.old) }
-        ensures still { (spare : ℕ) → IsQueue spare self.old → OnErr result (IsQueue spare self.new) }
+    pub(crate) fn push(&mut self, piece: Verdict)
+        requires { IsQueue 1 self.old }
+        ensures put { edge_of self.new ≡ with_more (edge_of self.old) (piece ∷ []) }
+        ensures less { (spare : ℕ) → IsQueue spare self.old → IsQueue (spare - 1) self.new }
+        ensures some { 0 < length self.new.items.items }
+        ensures read { self.new.read ≡ self.old.read }
     {
-        if self.items.len() == self.items.capacity() {
-            self.reserve(1)?;
-        }
         self.items.push_back_reserved(piece);
-        Ok(())
     }
 
     /// Lengthens the last verdict, where neighbours are joined and that one was not read, by one that goes on from it. False where it does
     /// not, and then nothing changes.
     #[inline(always)]
-    fn lengthen(&mut self, piece: &Verdict) -> bool
+    pub(crate) fn lengthen(&mut self, piece: &Verdict) -> bool
         requires { IsQueue 0 self.old }
         ensures more { IsTrue result → HasMore (edge_of self.old) (edge_of self.new) (piece.now ∷ []) }
         ensures no_longer { IsTrue result → length (edge_of self.new).fresh ≡ length (edge_of self.old).fresh }
         ensures cannot { result ≡ false → ¬ CanLengthen (edge_of self.old) piece.now }
         ensures same { result ≡ false → self.new ≡ self.old }
+        ensures count { length self.new.items.items ≡ length self.old.items.items }
+        ensures read { self.new.read ≡ self.old.read }
         ensures kept { (spare : ℕ) → IsQueue spare self.old → IsQueue spare self.new }
     {
         if !self.joins {
@@ -150,6 +134,8 @@ impl Queue {
     pub(crate) fn reserve(&mut self, n: usize) -> Result<(), Memory>
         requires { IsQueue 0 self.old }
         ensures same { edge_of self.new ≡ edge_of self.old }
+        ensures items { self.new.items.items ≡ self.old.items.items }
+        ensures read { self.new.read ≡ self.old.read }
         ensures kept { (spare : ℕ) → IsQueue spare self.old → IsQueue spare self.new }
         ensures room { OnOk result (IsQueue n self.new) }
         ensures had_room { IsQueue n self.old → IsOk result }
@@ -196,10 +182,32 @@ impl Queue {
         }
     }
 
+    /// How many of its verdicts were read.
+    pub(crate) fn read(&self) -> usize
+        ensures { result ≡ self.now.read }
+    {
+        self.read
+    }
+
+    /// Takes another ring, which is empty, in the place of its own, and gives that out.
+    pub(crate) fn exchange(&mut self, ring: VecDeque<Verdict>) -> VecDeque<Verdict>
+        requires { ring.items ≡ [] }
+        ensures ring { result ≡ self.old.items }
+        ensures items { self.new.items ≡ ring }
+        ensures read { self.new.read ≡ 0 }
+        ensures number { self.new.number ≡ self.old.number }
+        ensures joins { self.new.joins ≡ self.old.joins }
+    {
+        self.read = 0;
+        std::mem::replace(&mut self.items, ring)
+    }
+
     /// How many verdicts it holds.
     #[inline(always)]
     pub(crate) fn len(&self) -> usize
-        ensures { result ≡ length (held_of (edge_of self.now)) }
+        ensures count { result ≡ length (held_of (edge_of self.now)) }
+        ensures items { result ≡ length self.now.items.items }
+        ensures small { result < 2 ^ 63 }
     {
         self.items.len()
     }
@@ -216,6 +224,8 @@ impl Queue {
     #[inline(always)]
     pub(crate) fn reach(&mut self, number: i64)
         ensures noted { edge_of self.new ≡ with_number (edge_of self.old) number }
+        ensures items { self.new.items ≡ self.old.items }
+        ensures read { self.new.read ≡ self.old.read }
         ensures kept { (spare : ℕ) → IsQueue spare self.old → IsQueue spare self.new }
     {
         self.number = Some(number);
@@ -242,7 +252,7 @@ fn goes_on(first: &Verdict, second: &Verdict) -> bool
 
 /// Whether the verdict ends by the time `end`.
 #[inline(always)]
-fn ends_by(v: &Verdict, end: &Frac) -> bool
+pub(crate) fn ends_by(v: &Verdict, end: &Frac) -> bool
     ensures { IsTrue result ↔ value v.now.on.to ≤ʳ value end.now }
 {
     match v.on.to.cmp(end) {

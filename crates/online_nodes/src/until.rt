@@ -53,6 +53,7 @@ fn new_run(
 }
 
 /// Passes the verdict that ends first; where both end at once the left one.
+#[inline(always)]
 fn pass_ended(edges: &mut Edges, until: Until, v: Verdict, w: Verdict)
     requires left { until.window.of < length edges.old.edges }
     requires right { until.right < length edges.old.edges }

@@ -1,13 +1,12 @@
-use Rattle.std.proofs.Common.{◌≡◌, ℕ, ◌<◌, length, map, get_or}
-use Rattle.std.specs.List.{All}
-use Rattle.online_nodes.specs.declared.queue.Queue.{Queue}
-use Rattle.online_nodes.specs.Queues.{edge_of, IsQueue}
+use Rattle.std.proofs.Common.{◌≡◌, ℕ, ◌<◌, List, length, get_or}
+use Rattle.online_nodes.specs.declared.far.Track.{Track}
+use Rattle.online_nodes.specs.Queues.{Block, edges_from, AreTracks, IsQueue}
 use Rattle.online_nodes.proofs.edges.make_room.Given as goal
 
 abbrev pub invariant-loop-i : goal.invariant-loop-i
 invariant-loop-i l = record {
-  count : length l.queues.items ≡ length l.initial.queues.items;
-  same : map edge_of l.queues.items ≡ map edge_of l.initial.queues.items;
-  kept : (spare : ℕ) → All (IsQueue spare) l.initial.queues.items → All (IsQueue spare) l.queues.items;
-  ready : (k : ℕ) (d : Queue) → k < l.i → IsQueue l.room (get_or l.queues.items k d);
+  count : length l.tracks.items ≡ length l.initial.tracks.items;
+  same : (all : List (List Block)) → edges_from all 0 l.tracks.items ≡ edges_from all 0 l.initial.tracks.items;
+  kept : (all : List (List Block)) (spare : ℕ) → AreTracks all l.initial.tracks.items spare → AreTracks all l.tracks.items spare;
+  ready : (k : ℕ) (d : Track) → k < l.i → IsQueue l.room (get_or l.tracks.items k d).near;
 }

@@ -10,8 +10,7 @@ use Rattle.online_nodes.specs.Held.{fresh_at}
 use Rattle.online_nodes.specs.Written.{HasAnswer}
 use Rattle.online_nodes.proofs.GotLemmas.{got-length}
 use Rattle.rational.proofs.PlaceLemmas.{upto_of_before, at_most_of_not_before}
-use Rattle.online_nodes.proofs.WorkLemmas.{passed-length}
-use Rattle.online_nodes.proofs.JoinLemmas.{said_of_both, at_most_named, right_was_read, left_was_read, both_were_read, same_first}
+use Rattle.online_nodes.proofs.JoinLemmas.{said_of_both, at_most_named, right_was_read, left_was_read, same_first}
 use Rattle.online_nodes.proofs.join.read_first.Goals as goal
 use Rattle.online_nodes.proofs.join.read_first.Goals.{After-precedes}
 
@@ -101,28 +100,6 @@ upto_within-requires-2-clause-within c t h =
     upto_of_before (place c.end-v_end.result) (place c.args.out.to) t
     (subst (λ (q : Cut). Before (place c.end-v_end.result) (place q)) c.end-2.ensures (c.precedes-2.ensures.0 c.if-not-precedes-2.false)) h
 
-pub returns-then-precedes-2-clause-read : goal.returns-then-precedes-2-clause-read
-returns-then-precedes-2-clause-read c =
-    let here = (goal.at.returns-then-precedes-2-clause-read c).After-precedes in
-    let end = c.end-v_end.result in
-    let to_end : AtMost (place end) (place c.args.out.to) = λ t h.
-    upto_of_before (place end) (place c.args.out.to) t
-    (subst (λ (q : Cut). Before (place end) (place q)) c.end-2.ensures (c.precedes-2.ensures.0 c.if-not-precedes-2.false)) h in
-    let said = said_of_both c.requires.first_left c.requires.first_right c.requires.own c.requires.left_apart c.requires.right_apart c.requires.apart
-    (subst (λ b. HasAnswer c.args.edges.now c.upto_within-2.new.edges c.args.out b c.in_ok-next-2.next) c.of-holds.ensures c.in_ok-next-2.ensures.said)
-    c.in_ok-next-2.ensures.reaches
-    (λ t h. subst (λ (q : Place). Upto q t) c.end-v_end.ensures h)
-    (left_before here (λ b. true≢false (sym (c.precedes.ensures.1 b) ∙ c.if-precedes.false))) to_end in
-    let passed : HasPassed c.upto_within-2.new.edges c.pass-2.new.self c.args.inputs.left c.pass-2.result =
-    record {
-      within = subst (λ n. c.args.inputs.left < n) (sym (got-length said.said.got)) c.requires.left;
-      first = c.pass-2.ensures.first;
-      edges = c.pass-2.ensures.read;
-      start = c.pass-2.ensures.start;
-      spare = c.pass-2.ensures.spare;
-    } in
-    left_was_read said passed (λ t h. subst (λ (q : Place). Upto q t) (sym c.end-v_end.ensures) h)
-
 pub returns-clause-read : goal.returns-clause-read
 returns-clause-read c =
     let here = (goal.at.returns-clause-read c).After-precedes in
@@ -143,15 +120,4 @@ returns-clause-read c =
       start = c.pass-2.ensures.start;
       spare = c.pass-2.ensures.spare;
     } in
-    let also : HasPassed c.pass-2.new.self c.pass-3.new.self c.args.inputs.right c.pass-3.result =
-    record {
-      within = subst (λ n. c.args.inputs.right < n) (sym (passed-length passed ∙ got-length said.said.got)) c.requires.right;
-      first = c.pass-3.ensures.first;
-      edges = c.pass-3.ensures.read;
-      start = c.pass-3.ensures.start;
-      spare = c.pass-3.ensures.spare;
-    } in
-    let w_ended : AtMost (place c.end-w_end.result) (place end) =
-    at_most_of_not_before (place c.end-w_end.result) (place end) (λ b. true≢false (sym (c.precedes-3.ensures.1 b) ∙ c.if-precedes-2.false)) in
-    both_were_read said passed also (λ t h. subst (λ (q : Place). Upto q t) (sym c.end-v_end.ensures) h)
-    (λ t h. w_ended t (subst (λ (q : Place). Upto q t) (sym c.end-w_end.ensures) h))
+    left_was_read said passed (λ t h. subst (λ (q : Place). Upto q t) (sym c.end-v_end.ensures) h)

@@ -1,65 +1,122 @@
-use Rattle.std.proofs.Common.{[], ◌∷◌, ◌≡◌, ap, get_or, length, set, map, sym, subst, ◌∙◌}
-use Rattle.std.proofs.lemmas.List.{get_or-set_same, map-set}
-use Rattle.online_nodes.specs.Held.{Edge, HasMore, no_edge}
+use Rattle.std.proofs.Common.{[], ◌∷◌, ◌++◌, ◌≡◌, ap, get_or, length, length-append, set, sym, subst, ◌∙◌, arith}
+use Rattle.online_nodes.specs.Held.{Edge, HasMore, no_edge, with_more}
 use Rattle.online_nodes.specs.Lengthening.{CanLengthen}
-use Rattle.online_nodes.specs.Queues.{edge_of}
-use Rattle.online_nodes.proofs.QueueLemmas.{edge_at_queue, queue_at, queue_same, queues_room}
+use Rattle.online_nodes.specs.declared.far.Track.{Track}
+use Rattle.online_nodes.specs.Queues.{behind, edge_of, edges_from, far_at, track_at}
+use Rattle.online_nodes.proofs.GotLemmas.{more_given}
+use Rattle.online_nodes.proofs.QueueLemmas.{on_ok}
+use Rattle.online_nodes.proofs.TrackLemmas.{behind_has_more, edge_after, edge_at_track, moved_none, near_track, others_stay}
+use Rattle.std.proofs.lemmas.List.{get_or-set_same}
+use Rattle.online_nodes.specs.declared.queue.Queue.{Queue}
+use Rattle.online_nodes.proofs.TrackLemmas.{near_can, track_is, track_room, track_same, tracks_kept}
+use Rattle.online_nodes.proofs.TrackLemmas.{index_below}
 use Rattle.online_nodes.proofs.edges.Edges.extend.Goals as goal
 
-pub invariant_of-self-in-Err : goal.invariant_of-self-in-Err
-invariant_of-self-in-Err c =
-    let within = rw (← c.self.view_is) at c.requires in
-    let qs = c.self.inside.queues.items in
-    let here = queue_at qs c.args.edge c.index_mut.result.now within c.index_mut.ensures.value c.self.invariant in
-    queues_room qs c.args.edge c.index_mut.result.now within c.index_mut.ensures.value c.extend.new.self
-    (c.in-Err.ensures.still c.self.inside.spare here) c.self.invariant
+pub index_mut-requires : goal.index_mut-requires
+index_mut-requires c = index_below c.self.inside.pool.all c.self.inside.tracks c.args.edge (rw (← c.self.view_is) at c.requires)
 
-pub returns-in-Ok-clause-put : goal.returns-in-Ok-clause-put
-returns-in-Ok-clause-put c =
+pub lengthen-requires : goal.lengthen-requires
+lengthen-requires c =
     let within = rw (← c.self.view_is) at c.requires in
-    let qs = c.self.inside.queues.items in
+    (track_is c.self.inside.pool.all c.self.inside.tracks.items c.args.edge c.index_mut.result.now within c.index_mut.ensures.value c.self.invariant).near
+
+pub invariant_of-self : goal.invariant_of-self
+invariant_of-self c =
+    let within = rw (← c.self.view_is) at c.requires in
+    let all = c.self.inside.pool.all in
+    let ts = c.self.inside.tracks.items in
     let i = c.args.edge in
-    let next = c.extend.new.self in
-    let after : get_or (map edge_of (set qs i next)) i no_edge ≡ edge_of next =
-    ap (λ es. get_or es i no_edge) (map-set edge_of qs i next) ∙ get_or-set_same (map edge_of qs) i (edge_of next) no_edge within in
-    let before : get_or (map edge_of qs) i no_edge ≡ edge_of c.index_mut.result.now =
-    edge_at_queue qs i c.index_mut.result.now within c.index_mut.ensures.value in
-    rw (← c.self.view_is) (subst (λ (x : Edge). HasMore x (get_or (map edge_of (set qs i next)) i no_edge) (c.args.piece ∷ [])) (sym before)
-    (subst (λ (x : Edge). HasMore (edge_of c.index_mut.result.now) x (c.args.piece ∷ [])) (sym after) c.in-Ok.ensures.put))
+    let t = c.index_mut.result.now in
+    let here = c.index_mut.ensures.value in
+    let is = track_is all ts i t within here c.self.invariant in
+    tracks_kept all ts i t within here all (record { near = c.lengthen.new.self; far = t.far }) (moved_none i all) c.self.invariant (omega arith)
+    (near_track is c.lengthen.new.self (c.lengthen.ensures.kept 0 is.near) c.lengthen.ensures.read (λ some. omega (arith, c.lengthen.ensures.count, some)))
+    (c.lengthen.ensures.kept c.self.inside.spare (track_room all ts i t within here c.self.invariant))
 
-pub returns-in-Ok-clause-lengthens : goal.returns-in-Ok-clause-lengthens
-returns-in-Ok-clause-lengthens c can =
+pub returns-then-lengthen-clause-put : goal.returns-then-lengthen-clause-put
+returns-then-lengthen-clause-put c =
     let within = rw (← c.self.view_is) at c.requires in
-    let qs = c.self.inside.queues.items in
+    let all = c.self.inside.pool.all in
+    let ts = c.self.inside.tracks.items in
     let i = c.args.edge in
-    let next = c.extend.new.self in
-    let after : get_or (map edge_of (set qs i next)) i no_edge ≡ edge_of next =
-    ap (λ es. get_or es i no_edge) (map-set edge_of qs i next) ∙ get_or-set_same (map edge_of qs) i (edge_of next) no_edge within in
-    let before : get_or (map edge_of qs) i no_edge ≡ edge_of c.index_mut.result.now =
-    edge_at_queue qs i c.index_mut.result.now within c.index_mut.ensures.value in
-    rw (← c.self.view_is) (ap (λ (x : Edge). length x.fresh) after
-    ∙ c.in-Ok.ensures.lengthens (subst (λ (x : Edge). CanLengthen x c.args.piece) before (rw (← c.self.view_is) at can))
-    ∙ ap (λ (x : Edge). length x.fresh) (sym before))
+    let t = c.index_mut.result.now in
+    let here = c.index_mut.ensures.value in
+    let next : Track = record { near = c.lengthen.new.self; far = t.far } in
+    rw (← c.self.view_is) (subst (λ (x : Edge). HasMore x (get_or (edges_from all 0 (set ts i next)) i no_edge) (c.args.piece ∷ [])) (sym
+    (edge_at_track all ts i t within here))
+    (subst (λ (x : Edge). HasMore (track_at all i t) x (c.args.piece ∷ [])) (sym (edge_after all ts i t within here all next (moved_none i all)))
+    (behind_has_more (far_at all i t.far) (edge_of t.near) (edge_of c.lengthen.new.self) (c.args.piece ∷ []) (c.lengthen.ensures.more c.if-lengthen.true))))
 
-pub returns-in-Ok-clause-others : goal.returns-in-Ok-clause-others
-returns-in-Ok-clause-others c =
+pub returns-then-lengthen-clause-lengthens : goal.returns-then-lengthen-clause-lengthens
+returns-then-lengthen-clause-lengthens c can =
     let within = rw (← c.self.view_is) at c.requires in
-    let qs = c.self.inside.queues.items in
+    let all = c.self.inside.pool.all in
+    let ts = c.self.inside.tracks.items in
     let i = c.args.edge in
-    let next = c.extend.new.self in
-    let after : get_or (map edge_of (set qs i next)) i no_edge ≡ edge_of next =
-    ap (λ es. get_or es i no_edge) (map-set edge_of qs i next) ∙ get_or-set_same (map edge_of qs) i (edge_of next) no_edge within in
-    rw (← c.self.view_is) (map-set edge_of qs i next ∙ ap (set (map edge_of qs) i) (sym after))
+    let t = c.index_mut.result.now in
+    let here = c.index_mut.ensures.value in
+    let next : Track = record { near = c.lengthen.new.self; far = t.far } in
+    let F = far_at all i t.far in
+    let same : length (F.fresh ++ (edge_of c.lengthen.new.self).fresh) ≡ length (F.fresh ++ (edge_of t.near).fresh) =
+    omega (
+      arith,
+      length-append F.fresh (edge_of c.lengthen.new.self).fresh,
+      length-append F.fresh (edge_of t.near).fresh,
+      c.lengthen.ensures.no_longer c.if-lengthen.true,
+    ) in
+    rw (← c.self.view_is) (ap (λ (x : Edge). length x.fresh) (edge_after all ts i t within here all next (moved_none i all)) ∙ same
+    ∙ ap (λ (x : Edge). length x.fresh) (sym (edge_at_track all ts i t within here)))
 
-pub returns-in-Err-clause-had_room : goal.returns-in-Err-clause-had_room
-returns-in-Err-clause-had_room c some =
+pub returns-then-lengthen-clause-others : goal.returns-then-lengthen-clause-others
+returns-then-lengthen-clause-others c =
     let within = rw (← c.self.view_is) at c.requires in
-    let here = queue_at c.self.inside.queues.items c.args.edge c.index_mut.result.now within c.index_mut.ensures.value c.self.invariant in
-    c.in-Err.ensures.had_room c.self.inside.spare here (rw (← c.self.view_is) at some)
+    rw (← c.self.view_is) (others_stay c.self.inside.pool.all c.self.inside.tracks.items c.args.edge c.index_mut.result.now within
+    c.index_mut.ensures.value c.self.inside.pool.all (record { near = c.lengthen.new.self; far = c.index_mut.result.now.far })
+    (moved_none c.args.edge c.self.inside.pool.all))
 
-pub returns-in-Err-clause-memory : goal.returns-in-Err-clause-memory
-returns-in-Err-clause-memory c =
+pub invariant_of-self-2 : goal.invariant_of-self-2
+invariant_of-self-2 c =
     let within = rw (← c.self.view_is) at c.requires in
-    rw (← c.self.view_is) (ap (λ es. record { edges = es; start = c.self.inside.start; spare = c.self.inside.spare })
-    (queue_same c.self.inside.queues.items c.args.edge c.index_mut.result.now within c.index_mut.ensures.value c.extend.new.self
-    c.in-Err.ensures.memory))
+    let all = c.self.inside.pool.all in
+    let ts = c.self.inside.tracks.items in
+    let i = c.args.edge in
+    let t = c.index_mut.result.now in
+    let here = c.index_mut.ensures.value in
+    let is = track_is all ts i t within here c.self.invariant in
+    tracks_kept all ts i t within here all (record { near = c.lengthen.new.self; far = t.far }) (moved_none i all) c.self.invariant (omega arith)
+    (near_track is c.lengthen.new.self (c.lengthen.ensures.kept 0 is.near) c.lengthen.ensures.read (λ some. omega (arith, c.lengthen.ensures.count, some)))
+    (c.lengthen.ensures.kept c.self.inside.spare (track_room all ts i t within here c.self.invariant))
+
+pub returns-clause-put : goal.returns-clause-put
+returns-clause-put c =
+    let within = rw (← c.self.view_is) at c.requires in
+    let all = c.self.inside.pool.all in
+    let ts = c.self.inside.tracks.items in
+    let i = c.args.edge in
+    let t = c.index_mut.result.now in
+    let here = c.index_mut.ensures.value in
+    let next : Track = record { near = c.lengthen.new.self; far = t.far } in
+    let more = c.args.piece ∷ [] in
+    let E = edges_from all 0 ts in
+    let same : edges_from all 0 (set ts i next) ≡ E =
+    track_same all ts i t within here all next (moved_none i all) (ap (λ (q : Queue). behind (far_at all i t.far) (edge_of q)) (c.lengthen.ensures.same
+    c.if-lengthen.false)) in
+    rw (← c.self.view_is) (on_ok c.put.result
+    (λ (e : c.put.new.self.edges ≡ set (edges_from all 0 (set ts i next)) i (with_more (get_or (edges_from all 0 (set ts i next)) i no_edge) more)).
+    let now : get_or c.put.new.self.edges i no_edge ≡ with_more (get_or E i no_edge) more =
+    ap (λ es. get_or es i no_edge) e ∙ ap (λ es. get_or (set es i (with_more (get_or es i no_edge) more)) i no_edge) same
+    ∙ get_or-set_same E i (with_more (get_or E i no_edge) more) no_edge within in
+    subst (λ (x : Edge). HasMore (get_or E i no_edge) x more) (sym now) (more_given (get_or E i no_edge) more))
+    c.put.ensures.put)
+
+pub returns-clause-lengthens : goal.returns-clause-lengthens
+returns-clause-lengthens c can =
+    let within = rw (← c.self.view_is) at c.requires in
+    let all = c.self.inside.pool.all in
+    let ts = c.self.inside.tracks.items in
+    let i = c.args.edge in
+    let t = c.index_mut.result.now in
+    let here = c.index_mut.ensures.value in
+    let is = track_is all ts i t within here c.self.invariant in
+    absurd (c.lengthen.ensures.cannot c.if-lengthen.false
+    (near_can is (subst (λ (x : Edge). CanLengthen x c.args.piece) (edge_at_track all ts i t within here) (rw (← c.self.view_is) at can))))

@@ -1,26 +1,47 @@
-use Rattle.std.proofs.Common.{replicate, map, [], ◌∷◌, ◌++◌, ◌≡◌, ◌∙◌, sym, ap, subst, arith}
+use Rattle.std.proofs.Common.{◌≡◌, ◌+◌, ◌*◌, ◌++◌, [], ◌∷◌, length, replicate, ap, sym, subst, ◌∙◌, refl, arith}
 use Rattle.std.specs.List.{All}
-use Rattle.std.proofs.lemmas.List.{map-append, replicate_more}
-use Rattle.online_nodes.specs.Queues.{edge_of, IsQueue}
-use Rattle.online_nodes.proofs.QueueLemmas.{all_more}
+use Rattle.std.proofs.lemmas.List.{length_push}
+use Rattle.online_nodes.specs.declared.far.Track.{Track}
 use Rattle.online_nodes.specs.Held.{no_edge}
+use Rattle.seg_pool.specs.Lists.{Lists}
+use Rattle.online_nodes.specs.Queues.{Block, list_of}
+use Rattle.online_nodes.proofs.TrackLemmas.{all_new_more, blank_more, new_edges, new_tracks, IsNew}
 use Rattle.online_nodes.proofs.edges.Edges.new.Goals as goal
+
+pub loop-made-init : goal.loop-made-init
+loop-made-init c =
+    let one = ap (λ p. p.all) c.in_ok-new_list.ensures.more ∙ ap (λ (p : Lists Block). p.all ++ [] ∷ []) c.new-pool.ensures in
+    record {
+      blank = λ k. ap (λ l. list_of l k) one ∙ blank_more [] (λ j. refl) k;
+      lists = ap length one;
+      count = ap length c.new-tracks.ensures.items;
+      new = subst (All IsNew) (sym c.new-tracks.ensures.items) (λ k d below. absurd (omega (arith, below)));
+    }
 
 pub loop-made-preserved : goal.loop-made-preserved
 loop-made-preserved c =
-    let qs = c.loop-made.queues.items in
+    let p0 = c.loop-made.pool.all in
+    let two : c.new_list-in-loop-made-2.new.self.all ≡ (p0 ++ [] ∷ []) ++ [] ∷ [] =
+    ap (λ (p : Lists Block). p.all) c.in_ok-new_list-3.ensures.more
+    ∙ ap (λ (p : Lists Block). p.all ++ [] ∷ []) c.in_ok-new_list-2.ensures.more in
     let items = c.in-Ok.ensures.items in
+    let track : Track = record { near = c.new.result; far = c.none.result } in
     record {
-      edges = ap (map edge_of) items ∙ map-append edge_of qs (c.new.result ∷ [])
-          ∙ ap (λ e. map edge_of qs ++ e ∷ []) c.new.ensures.edge
-          ∙ ap (λ es. es ++ no_edge ∷ []) c.loop-made.invariant.edges ∙ replicate_more c.loop-made.made no_edge;
-      room = subst (All (IsQueue 0)) (sym items) (all_more qs c.new.result c.loop-made.invariant.room c.new.ensures.room);
+      blank = λ k. ap (λ l. list_of l k) two ∙ blank_more (p0 ++ [] ∷ []) (blank_more p0 c.loop-made.invariant.blank) k;
+      lists = omega (arith, ap length two, length_push (p0 ++ [] ∷ []) [], length_push p0 [], c.loop-made.invariant.lists);
+      count = ap length items ∙ length_push c.loop-made.tracks.items track ∙ ap (λ n. n + 1) c.loop-made.invariant.count;
+      new = subst (All IsNew) (sym items) (all_new_more c.loop-made.tracks.items track c.loop-made.invariant.new
+          (record { edge = c.new.ensures.edge; room = c.new.ensures.room; far = c.none.ensures }));
     }
 
 pub invariant_of-result : goal.invariant_of-result
-invariant_of-result c = c.loop-made.invariant.room
+invariant_of-result c =
+    new_tracks c.loop-made.pool.all c.loop-made.invariant.blank c.loop-made.tracks.items c.loop-made.invariant.new
+    (c.loop-made.invariant.lists ∙ ap (λ n. 2 * n + 1) (sym c.loop-made.invariant.count))
+    (omega (arith, c.loop-made.invariant.count, c.loop-made.auto.made-end, c.if-count-gt-MOST.false))
 
 pub returns-clause-edges : goal.returns-clause-edges
 returns-clause-edges c =
     let all : c.loop-made.made ≡ c.args.count = omega (arith, c.loop-made.auto.made-end, c.loop-made-test.false) in
-    c.loop-made.invariant.edges ∙ ap (λ n. replicate n no_edge) all
+    new_edges c.loop-made.pool.all c.loop-made.invariant.blank 0 c.loop-made.tracks.items c.loop-made.invariant.new
+    ∙ ap (λ n. replicate n no_edge) (c.loop-made.invariant.count ∙ all)
