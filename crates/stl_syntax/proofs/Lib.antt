@@ -17,6 +17,7 @@ pub mod TruthLemmas
 pub mod SupInfLemmas
 pub mod KnotsLemmas
 pub mod TruthLaw
+pub mod ViewLaw
 pub mod KleeneLemmas
 pub mod Examples
 pub mod MoreExamples

@@ -7,6 +7,7 @@ pub mod WellFormed
 pub mod Horizons
 pub mod Printing
 pub mod Truth
+pub mod Views
 pub mod Knots
 pub mod Kleene
 pub mod SupInf

@@ -24,6 +24,7 @@ pub use horizon::horizon_of;
 pub use items::{Item, Items, Verdict};
 pub use name::Name;
 pub use node::Node;
+pub use operator::{Asks, Join, Offsets, View, Way};
 pub use rel::Rel;
 pub use scale::{Scale, UnitFault};
 pub use text::Text;

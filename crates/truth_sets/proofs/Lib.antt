@@ -1,6 +1,5 @@
 mod MovingLemmas
 mod GrowingLemmas
-mod SeeingLemmas
 mod TellingLemmas
 mod ReadyLemmas
 mod StandingLemmas

@@ -1,84 +1,51 @@
 -- The sets of the nodes that are still to be read, from node to node.
 use Rattle.std.proofs.Common.{◌≡◌, ◌≢◌, ℕ, suc, ◌+◌, ◌-◌, ◌<◌, ◌≤◌, ◌⊎◌, inl, inr, Bool, true, false, ◌||◌}
 use Rattle.std.proofs.Common.{Option, None, Some, List, [], ◌∷◌, ◌++◌, length, take, refl, sym, ap, ◌∙◌, subst, arith}
-use Rattle.std.specs.Prelude.{slice_get, All, IfSome, ◌==◌}
+use Rattle.std.specs.Prelude.{slice_get, All, IfSome, option_to_list, ◌==◌}
 use Rattle.std.specs.List.{list_any}
 use Rattle.std.proofs.Math.ListN.{set}
 use Rattle.std.proofs.lemmas.Bool.{eq-eqb, cases_lt}
 use Rattle.std.proofs.lemmas.List.{length-set, length-take, take_more, take_all}
 use Rattle.std.proofs.lemmas.List.Elements.{All-head, All-tail}
 use Rattle.std.proofs.lemmas.List.Folds.{list_any-append}
-use Rattle.std.proofs.lemmas.Option.{slice_get_within, get_or_from_slice_get, same_Some, none-some}
+use Rattle.std.proofs.lemmas.Option.{slice_get_within, get_or_from_slice_get, same_Some}
 use Rattle.rational.proofs.Lists.{slice_get_there, slice_get-append_here, slice_get-set_same, slice_get-set_other}
 use Rattle.stl_syntax.specs.Trace.{Trace}
 use Rattle.stl_syntax.specs.Formula.{subformula, root}
 use Rattle.stl_syntax.specs.WellFormed.{HasOneRoot}
 use Rattle.stl_syntax.specs.PostOrder.{children, has_child, is_used, IsPostOrder}
 use Rattle.stl_syntax.specs.declared.node.Node.{Node}
-use Rattle.stl_syntax.specs.declared.node.Node.TheVariants.{Const, Atom as Leaf, Not, And, Or, Implies, Until, Eventually, Always, Since, Once, Historically}
+use Rattle.stl_syntax.specs.Views.{first_of, second_of, view_of}
+use Rattle.stl_syntax.proofs.ViewLaw.{children_by}
 use Rattle.stl_syntax.proofs.PostOrderLemmas.{children_free, children_below, inputs_apart, unused_free}
 use Rattle.time_sets.specs.Windows.{IsOf}
 use Rattle.time_sets.specs.declared.domain.Domain.{Domain}
 use Rattle.time_sets.specs.declared.times.Times.{Times}
 use Rattle.truth_sets.specs.Telling.{TellsTruth}
-use Rattle.truth_sets.specs.Nodes.{AreReady, IsLeaf, first_of, second_of}
+use Rattle.truth_sets.specs.Nodes.{AreReady, IsLeaf}
 use Rattle.truth_sets.specs.declared.atom.NodeSet.{NodeSet}
 
-absurd_none : {X : Type 0} {A : Type 0} (x : X) → None ≡ Some x → A
-absurd_none x e = absurd (none-some x e)
+-- the children, where there is a first one, or a second
+first_kid : (n : Node) (p : ℕ) → first_of (view_of n) ≡ Some p → children n ≡ p ∷ option_to_list (second_of (view_of n))
+first_kid n p e = sym (children_by n) ∙ ap (λ o. option_to_list o ++ option_to_list (second_of (view_of n))) e
 
-head_is : (P : ℕ → Type 0) (q p : ℕ) (rest : List ℕ) → All P (q ∷ rest) → Some q ≡ Some p → P p
-head_is P q p rest h e = subst P (same_Some q p e) (All-head P q rest h)
+second_kid : (n : Node) (p : ℕ) → second_of (view_of n) ≡ Some p → children n ≡ option_to_list (first_of (view_of n)) ++ p ∷ []
+second_kid n p e = sym (children_by n) ∙ ap (λ o. option_to_list (first_of (view_of n)) ++ option_to_list o) e
 
 -- what holds of the children holds of the first and of the second
-pub of_first : (P : ℕ → Type 0) (n : Node) (p : ℕ) → All P (children n) → first_of n ≡ Some p → P p
-of_first P (Const b) p h e = absurd_none p e
-of_first P (Leaf a) p h e = absurd_none p e
-of_first P (Not q) p h e = head_is P q p [] h e
-of_first P (And q r) p h e = head_is P q p (r ∷ []) h e
-of_first P (Or q r) p h e = head_is P q p (r ∷ []) h e
-of_first P (Implies q r) p h e = head_is P q p (r ∷ []) h e
-of_first P (Until q r a b) p h e = head_is P q p (r ∷ []) h e
-of_first P (Eventually q a b a_in b_in) p h e = head_is P q p [] h e
-of_first P (Always q a b a_in b_in) p h e = head_is P q p [] h e
-of_first P (Since q r a b) p h e = head_is P q p (r ∷ []) h e
-of_first P (Once q a b a_in b_in) p h e = head_is P q p [] h e
-of_first P (Historically q a b a_in b_in) p h e = head_is P q p [] h e
+pub of_first : (P : ℕ → Type 0) (n : Node) (p : ℕ) → All P (children n) → first_of (view_of n) ≡ Some p → P p
+of_first P n p h e = All-head P p (option_to_list (second_of (view_of n))) (subst (All P) (first_kid n p e) h)
 
-next_is : (P : ℕ → Type 0) (q r p : ℕ) → All P (q ∷ r ∷ []) → Some r ≡ Some p → P p
-next_is P q r p h e = head_is P r p [] (All-tail P q (r ∷ []) h) e
+last_is : (P : ℕ → Type 0) (o : Option ℕ) (p : ℕ) → All P (option_to_list o ++ p ∷ []) → P p
+last_is P None p h = All-head P p [] h
+last_is P (Some q) p h = All-head P p [] (All-tail P q (p ∷ []) h)
 
 -- and of the second
-pub of_second : (P : ℕ → Type 0) (n : Node) (p : ℕ) → All P (children n) → second_of n ≡ Some p → P p
-of_second P (Const b) p h e = absurd_none p e
-of_second P (Leaf a) p h e = absurd_none p e
-of_second P (Not q) p h e = absurd_none p e
-of_second P (And q r) p h e = next_is P q r p h e
-of_second P (Or q r) p h e = next_is P q r p h e
-of_second P (Implies q r) p h e = next_is P q r p h e
-of_second P (Until q r a b) p h e = next_is P q r p h e
-of_second P (Eventually q a b a_in b_in) p h e = absurd_none p e
-of_second P (Always q a b a_in b_in) p h e = absurd_none p e
-of_second P (Since q r a b) p h e = next_is P q r p h e
-of_second P (Once q a b a_in b_in) p h e = absurd_none p e
-of_second P (Historically q a b a_in b_in) p h e = absurd_none p e
+pub of_second : (P : ℕ → Type 0) (n : Node) (p : ℕ) → All P (children n) → second_of (view_of n) ≡ Some p → P p
+of_second P n p h e = last_is P (first_of (view_of n)) p (subst (All P) (second_kid n p e) h)
 
-pair_is : (q r p s : ℕ) → Some q ≡ Some p → Some r ≡ Some s → q ∷ r ∷ [] ≡ p ∷ s ∷ []
-pair_is q r p s e f = ap (λ x. x ∷ r ∷ []) (same_Some q p e) ∙ ap (λ x. p ∷ x ∷ []) (same_Some r s f)
-
-two_children : (n : Node) (p s : ℕ) → first_of n ≡ Some p → second_of n ≡ Some s → children n ≡ p ∷ s ∷ []
-two_children (Const b) p s e f = absurd_none p e
-two_children (Leaf a) p s e f = absurd_none p e
-two_children (Not q) p s e f = absurd_none s f
-two_children (And q r) p s e f = pair_is q r p s e f
-two_children (Or q r) p s e f = pair_is q r p s e f
-two_children (Implies q r) p s e f = pair_is q r p s e f
-two_children (Until q r a b) p s e f = pair_is q r p s e f
-two_children (Eventually q a b a_in b_in) p s e f = absurd_none s f
-two_children (Always q a b a_in b_in) p s e f = absurd_none s f
-two_children (Since q r a b) p s e f = pair_is q r p s e f
-two_children (Once q a b a_in b_in) p s e f = absurd_none s f
-two_children (Historically q a b a_in b_in) p s e f = absurd_none s f
+two_children : (n : Node) (p s : ℕ) → first_of (view_of n) ≡ Some p → second_of (view_of n) ≡ Some s → children n ≡ p ∷ s ∷ []
+two_children n p s e f = first_kid n p e ∙ ap (λ o. p ∷ option_to_list o) f
 
 first_false : (a b : Bool) → (a || b) ≡ false → a ≡ false
 first_false true b e = e
@@ -89,43 +56,23 @@ second_false true b e = absurd (let x : true ≡ false = e in cc)
 second_false false b e = e
 
 -- a place that is no child is neither the first nor the second
-not_head : (q k : ℕ) (rest : List ℕ) → list_any (λ p. p == k) (q ∷ rest) ≡ false → Some q ≡ Some k → ⊥
-not_head q k rest h e =
-    absurd (let x : (q == k) ≡ false = first_false (q == k) (list_any (λ p. p == k) rest) h in
-    let y : (q == k) ≡ true = eq-eqb q k (same_Some q k e) in cc)
+not_head : (k : ℕ) (rest : List ℕ) → list_any (λ p. p == k) (k ∷ rest) ≡ false → ⊥
+not_head k rest h =
+    absurd (let x : (k == k) ≡ false = first_false (k == k) (list_any (λ p. p == k) rest) h in
+    let y : (k == k) ≡ true = eq-eqb k k refl in cc)
 
-not_next : (q r k : ℕ) → list_any (λ p. p == k) (q ∷ r ∷ []) ≡ false → Some r ≡ Some k → ⊥
-not_next q r k h e = not_head r k [] (second_false (q == k) (list_any (λ p. p == k) (r ∷ [])) h) e
+not_last : (o : Option ℕ) (k : ℕ) → list_any (λ p. p == k) (option_to_list o ++ k ∷ []) ≡ false → ⊥
+not_last None k h = not_head k [] h
+not_last (Some q) k h = not_head k [] (second_false (q == k) (list_any (λ p. p == k) (k ∷ [])) h)
 
 -- a place that is no child is not the first child
-pub not_first : (n : Node) (k : ℕ) → has_child k n ≡ false → first_of n ≢ Some k
-not_first (Const b) k h e = absurd_none k e
-not_first (Leaf a) k h e = absurd_none k e
-not_first (Not q) k h e = not_head q k [] h e
-not_first (And q r) k h e = not_head q k (r ∷ []) h e
-not_first (Or q r) k h e = not_head q k (r ∷ []) h e
-not_first (Implies q r) k h e = not_head q k (r ∷ []) h e
-not_first (Until q r a b) k h e = not_head q k (r ∷ []) h e
-not_first (Eventually q a b a_in b_in) k h e = not_head q k [] h e
-not_first (Always q a b a_in b_in) k h e = not_head q k [] h e
-not_first (Since q r a b) k h e = not_head q k (r ∷ []) h e
-not_first (Once q a b a_in b_in) k h e = not_head q k [] h e
-not_first (Historically q a b a_in b_in) k h e = not_head q k [] h e
+pub not_first : (n : Node) (k : ℕ) → has_child k n ≡ false → first_of (view_of n) ≢ Some k
+not_first n k h e =
+    not_head k (option_to_list (second_of (view_of n))) (subst (λ l. list_any (λ p. p == k) l ≡ false) (first_kid n k e) h)
 
 -- nor the second
-pub not_second : (n : Node) (k : ℕ) → has_child k n ≡ false → second_of n ≢ Some k
-not_second (Const b) k h e = absurd_none k e
-not_second (Leaf a) k h e = absurd_none k e
-not_second (Not q) k h e = absurd_none k e
-not_second (And q r) k h e = not_next q r k h e
-not_second (Or q r) k h e = not_next q r k h e
-not_second (Implies q r) k h e = not_next q r k h e
-not_second (Until q r a b) k h e = not_next q r k h e
-not_second (Eventually q a b a_in b_in) k h e = absurd_none k e
-not_second (Always q a b a_in b_in) k h e = absurd_none k e
-not_second (Since q r a b) k h e = not_next q r k h e
-not_second (Once q a b a_in b_in) k h e = absurd_none k e
-not_second (Historically q a b a_in b_in) k h e = absurd_none k e
+pub not_second : (n : Node) (k : ℕ) → has_child k n ≡ false → second_of (view_of n) ≢ Some k
+not_second n k h e = not_last (first_of (view_of n)) k (subst (λ l. list_any (λ p. p == k) l ≡ false) (second_kid n k e) h)
 
 module _ (on : Domain) (tr : Trace) (nodes : List Node) (i : ℕ) (n : Node) (there : slice_get nodes i ≡ Some n) where
   -- who is read once the node has its set
@@ -199,7 +146,7 @@ module _ (on : Domain) (tr : Trace) (nodes : List Node) (i : ℕ) (n : Node) (th
       r.tell p m.0 s m.1 (inl l) free found
 
   -- the first child has its set
-  pub first_told : (order : IsPostOrder nodes) (sets : List NodeSet) → AreReady on tr nodes i sets → (p : ℕ) (s : NodeSet) → first_of n ≡ Some p
+  pub first_told : (order : IsPostOrder nodes) (sets : List NodeSet) → AreReady on tr nodes i sets → (p : ℕ) (s : NodeSet) → first_of (view_of n) ≡ Some p
       → slice_get sets p ≡ Some s → TellsTruth on tr (subformula nodes p) s.times
   first_told order sets r p s e found =
       let follow = order.follows i n there in
@@ -207,7 +154,7 @@ module _ (on : Domain) (tr : Trace) (nodes : List Node) (i : ℕ) (n : Node) (th
       (of_first (λ k. k < length (take i nodes)) n p (children_below (take i nodes) n follow) e) found
 
   -- and so has the second
-  pub second_told : (order : IsPostOrder nodes) (sets : List NodeSet) → AreReady on tr nodes i sets → (p : ℕ) (s : NodeSet) → second_of n ≡ Some p
+  pub second_told : (order : IsPostOrder nodes) (sets : List NodeSet) → AreReady on tr nodes i sets → (p : ℕ) (s : NodeSet) → second_of (view_of n) ≡ Some p
       → slice_get sets p ≡ Some s → TellsTruth on tr (subformula nodes p) s.times
   second_told order sets r p s e found =
       let follow = order.follows i n there in
@@ -216,7 +163,7 @@ module _ (on : Domain) (tr : Trace) (nodes : List Node) (i : ℕ) (n : Node) (th
 
   -- children stand within the sets
   pub child_within : (order : IsPostOrder nodes) (sets : List NodeSet) → length sets ≡ length nodes → (p : ℕ)
-      → (first_of n ≡ Some p) ⊎ (second_of n ≡ Some p) → p < length sets
+      → (first_of (view_of n) ≡ Some p) ⊎ (second_of (view_of n) ≡ Some p) → p < length sets
   child_within order sets count p h =
       let follow = order.follows i n there in
       let k = slice_get_within nodes i n there in
@@ -227,25 +174,25 @@ module _ (on : Domain) (tr : Trace) (nodes : List Node) (i : ℕ) (n : Node) (th
       omega (arith, below, length-take i nodes, k, count)
 
   -- the first is not the second
-  pub children_apart : (order : IsPostOrder nodes) (p q : ℕ) → first_of n ≡ Some p → second_of n ≡ Some q → p ≢ q
+  pub children_apart : (order : IsPostOrder nodes) (p q : ℕ) → first_of (view_of n) ≡ Some p → second_of (view_of n) ≡ Some q → p ≢ q
   children_apart order p q e f = inputs_apart nodes i n p q order there (two_children n p q e f)
 
   -- the first child stands within the sets
-  pub first_inside : (order : IsPostOrder nodes) (sets : List NodeSet) → length sets ≡ length nodes → (o : Option ℕ) → o ≡ first_of n
+  pub first_inside : (order : IsPostOrder nodes) (sets : List NodeSet) → length sets ≡ length nodes → (o : Option ℕ) → o ≡ first_of (view_of n)
       → IfSome o (λ p. p < length sets)
   first_inside order sets count None e = tt
   first_inside order sets count (Some p) e = child_within order sets count p (inl (sym e))
 
   -- and so does the second
-  pub second_inside : (order : IsPostOrder nodes) (sets : List NodeSet) → length sets ≡ length nodes → (o : Option ℕ) → o ≡ second_of n
+  pub second_inside : (order : IsPostOrder nodes) (sets : List NodeSet) → length sets ≡ length nodes → (o : Option ℕ) → o ≡ second_of (view_of n)
       → IfSome o (λ p. p < length sets)
   second_inside order sets count None e = tt
   second_inside order sets count (Some p) e = child_within order sets count p (inr (sym e))
 
   -- what is taken out for the first child tells it
-  pub first_operand : (order : IsPostOrder nodes) (sets : List NodeSet) → AreReady on tr nodes i sets → (o : Option ℕ) → o ≡ first_of n → (p : Times)
+  pub first_operand : (order : IsPostOrder nodes) (sets : List NodeSet) → AreReady on tr nodes i sets → (o : Option ℕ) → o ≡ first_of (view_of n) → (p : Times)
       → (o ≡ None → IsOf on p) → ((q : ℕ) (s : NodeSet) → o ≡ Some q → slice_get sets q ≡ Some s → p ≡ s.times)
-      → IsOf on p × IfSome (first_of n) (λ q. TellsTruth on tr (subformula nodes q) p)
+      → IsOf on p × IfSome (first_of (view_of n)) (λ q. TellsTruth on tr (subformula nodes q) p)
   first_operand order sets r None e p none some = (none refl, subst (λ o. IfSome o (λ q. TellsTruth on tr (subformula nodes q) p)) e tt)
   first_operand order sets r (Some q) e p none some =
       let s = slice_get_there sets q (child_within order sets r.count q (inl (sym e))) in
@@ -253,9 +200,9 @@ module _ (on : Domain) (tr : Trace) (nodes : List Node) (i : ℕ) (n : Node) (th
       (told.of, subst (λ o. IfSome o (λ q. TellsTruth on tr (subformula nodes q) p)) e told)
 
   -- and so for the second
-  pub second_operand : (order : IsPostOrder nodes) (sets : List NodeSet) → AreReady on tr nodes i sets → (o : Option ℕ) → o ≡ second_of n → (p : Times)
+  pub second_operand : (order : IsPostOrder nodes) (sets : List NodeSet) → AreReady on tr nodes i sets → (o : Option ℕ) → o ≡ second_of (view_of n) → (p : Times)
       → (o ≡ None → IsOf on p) → ((q : ℕ) (s : NodeSet) → o ≡ Some q → slice_get sets q ≡ Some s → p ≡ s.times)
-      → IsOf on p × IfSome (second_of n) (λ q. TellsTruth on tr (subformula nodes q) p)
+      → IsOf on p × IfSome (second_of (view_of n)) (λ q. TellsTruth on tr (subformula nodes q) p)
   second_operand order sets r None e p none some = (none refl, subst (λ o. IfSome o (λ q. TellsTruth on tr (subformula nodes q) p)) e tt)
   second_operand order sets r (Some q) e p none some =
       let s = slice_get_there sets q (child_within order sets r.count q (inr (sym e))) in

@@ -1,6 +1,5 @@
 pub mod Telling
 pub mod Growing
-pub mod Windows
 pub mod Nodes
 pub mod Rows
 pub mod Standing

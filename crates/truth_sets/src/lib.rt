@@ -6,7 +6,5 @@
 mod atom;
 mod growing;
 mod nodes;
-mod operators;
-mod windows;
 
 pub use growing::{Judged, TruthSets};

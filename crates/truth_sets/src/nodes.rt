@@ -1,49 +1,21 @@
 //! The sets of the nodes of a formula, each from those of its children.
-ghost use Rattle.std.specs.Prelude.{◌≡◌, ◌≢◌, ◌+◌, ◌<◌, ℕ, None, Some, length, slice_get, IfOk, IfSome, MatchBool, OnOk};
+ghost use Rattle.std.specs.Prelude.{◌≡◌, ◌≢◌, ◌↔◌, ◌+◌, ◌<◌, ℕ, None, Some, length, slice_get, IfOk, IfSome, IsTrue, MatchBool, OnOk};
+ghost use Rattle.rational.specs.Time.{Rational};
 ghost use Rattle.stl_syntax.specs.Trace.{Trace};
-ghost use Rattle.stl_syntax.specs.Formula.{Subformula, root, tree_of};
-ghost use Rattle.time_sets.specs.Windows.{IsDomain, IsOf};
+ghost use Rattle.stl_syntax.specs.Formula.{root};
+ghost use Rattle.stl_syntax.specs.Views.{IsNear, IsNearView, IsOfAtom, Sees as SeesBy};
+ghost use Rattle.time_sets.specs.Sets.{has, Rise};
+ghost use Rattle.time_sets.specs.Windows.{IsDomain, IsOf, Lies, Sees};
 ghost use Rattle.time_sets.specs.declared.domain.Domain.{Domain as ADomain};
-ghost use Rattle.truth_sets.specs.Nodes.{AreReady, IsLeaf, OperandsTell, first_of, second_of};
+ghost use Rattle.truth_sets.specs.Nodes.{AreReady, SeesAsked, TellsBy, joins};
 ghost use Rattle.truth_sets.specs.Telling.{IsOver, TellsTruth};
 ghost use Rattle.truth_sets.specs.declared.atom.NodeSet.{NodeSet as ANodeSet};
 
 use crate::atom::NodeSet;
-use crate::operators::{always, eventually, historically, implied, once, since, until};
 use frac128::Memory;
 use std::alloc::Global;
-use stl_syntax::{Formula, Node};
-use time_sets::{Domain, Times};
-
-/// The places of a node's children.
-fn operands(node: &Node) -> (Option<u32>, Option<u32>)
-    ensures first { result.0 ≡ first_of node.now }
-    ensures second { result.1 ≡ second_of node.now }
-{
-    match node {
-        Node::Const(_) | Node::Atom(_) => (None, None),
-        Node::Not(p) => (Some(*p), None),
-        Node::Eventually { of, .. }
-        | Node::Always { of, .. }
-        | Node::Once { of, .. }
-        | Node::Historically { of, .. } => (Some(*of), None),
-        Node::And(p, q) | Node::Or(p, q) | Node::Implies(p, q) => (Some(*p), Some(*q)),
-        Node::Until { left, right, .. } | Node::Since { left, right, .. } => (
-            Some(*left),
-            Some(*right),
-        ),
-    }
-}
-
-/// Whether the node is an atom.
-fn is_leaf(node: &Node) -> bool
-    ensures { MatchBool result (IsLeaf node.now) (IsLeaf node.now → ⊥) }
-{
-    match node {
-        Node::Atom(_) => true,
-        _ => false,
-    }
-}
+use stl_syntax::{Asks, Formula, Join, Offsets, View};
+use time_sets::{Domain, Times, Window};
 
 /// Takes out the set at a place, so that it is let go of once it was read; with no place no times.
 fn take(alloc: Global, sets: &mut Vec<NodeSet>, place: Option<u32>) -> Times
@@ -60,51 +32,74 @@ fn take(alloc: Global, sets: &mut Vec<NodeSet>, place: Option<u32>) -> Times
     std::mem::replace(&mut sets[place as usize].times, none)
 }
 
-/// The set of a node that is no atom, from those of its operands.
-fn made_of(alloc: Global, on: &Domain, node: &Node, p: Times, q: Times) -> Result<Times, Memory>
+/// What a connective makes of two sets.
+fn joined(alloc: Global, join: Join, p: Times, q: &Times) -> Result<Times, Memory>
+    requires first { Rise p.turns.items }
+    requires second { Rise q.now.turns.items }
+    ensures of { IfOk result (λ r. (on : ADomain) → IsOf on p → IsOf on q.now → IsOf on r) }
+    ensures times { IfOk result (λ r. (t : Rational) → has r t ≡ joins join (has p t) (has q.now t)) }
+{
+    match join {
+        Join::And => Times::both(alloc, &p, q),
+        Join::Or => Times::either(alloc, &p, q),
+        Join::Implies => {
+            let fails = p.complement();
+            Times::either(alloc, &fails, q)
+        }
+    }
+}
+
+/// The window of these offsets.
+fn window_of(w: &Offsets) -> Window
+    requires { IsNear w.now }
+    ensures { (t u : Rational) → Sees result t u ↔ SeesBy w.now t u }
+{
+    Window {
+        low: w.low,
+        low_in: w.low_in,
+        high: w.high,
+        high_in: w.high_in,
+    }
+}
+
+/// What a window makes of a set.
+fn over(alloc: Global, on: &Domain, asks: Asks, w: &Window, p: Times) -> Result<Times, Memory>
     requires domain { IsDomain on.now }
+    requires own { IsOf on.now p }
+    ensures of { IfOk result (IsOf on.now) }
+    ensures times { IfOk result (λ r. (t : Rational) → Lies on.now t → IsTrue (has r t) ↔ SeesAsked asks on.now w.now p t) }
+{
+    match asks {
+        Asks::Any => p.some(alloc, on, w),
+        Asks::Each => p.only(alloc, on, w),
+    }
+}
+
+/// What a node that is no atom makes of the sets of its operands, by its view.
+fn made_by(alloc: Global, on: &Domain, view: View, p: Times, q: Times) -> Result<Times, Memory>
+    requires domain { IsDomain on.now }
+    requires near { IsNearView view }
     requires first { IsOf on.now p }
     requires second { IsOf on.now q }
-    ensures { IfOk result (λ r. (tr : Trace) (at : ℕ → Subformula) (i : ℕ) → IsOver on.now tr → OperandsTell on.now tr at node.now p q
-        → TellsTruth on.now tr (tree_of at i node.now) r) }
+    ensures { IfOk result (TellsBy on.now view p q) }
 {
-    match node {
-        Node::Const(holds) => Ok(Times::constant(alloc, *holds)),
-        Node::Atom(_) => Ok(p),
-        Node::Not(_) => Ok(p.complement()),
-        Node::And(..) => Times::both(alloc, &p, &q),
-        Node::Or(..) => Times::either(alloc, &p, &q),
-        Node::Implies(..) => implied(alloc, on, p, &q),
-        Node::Until { low, high, .. } => until(alloc, on, &p, &q, *low, *high),
-        Node::Since { low, high, .. } => since(alloc, on, &p, &q, *low, *high),
-        Node::Eventually {
-            low,
-            high,
-            low_in,
-            high_in,
-            ..
-        } => eventually(alloc, on, &p, *low, *high, *low_in, *high_in),
-        Node::Always {
-            low,
-            high,
-            low_in,
-            high_in,
-            ..
-        } => always(alloc, on, p, *low, *high, *low_in, *high_in),
-        Node::Once {
-            low,
-            high,
-            low_in,
-            high_in,
-            ..
-        } => once(alloc, on, &p, *low, *high, *low_in, *high_in),
-        Node::Historically {
-            low,
-            high,
-            low_in,
-            high_in,
-            ..
-        } => historically(alloc, on, p, *low, *high, *low_in, *high_in),
+    match view {
+        View::Const(holds) => Ok(Times::constant(alloc, holds)),
+        View::Atom => Ok(p),
+        View::Not(_) => Ok(p.complement()),
+        View::Two(join, _, _) => joined(alloc, join, p, &q),
+        View::Over(asks, w, _) => over(alloc, on, asks, &window_of(&w), p),
+        View::Reach(_, w, _, _) => p.reach(alloc, &q, on, &window_of(&w)),
+    }
+}
+
+/// Whether the view is that of an atom.
+fn is_leaf(view: View) -> bool
+    ensures { MatchBool result (IsOfAtom view) (IsOfAtom view → ⊥) }
+{
+    match view {
+        View::Atom => true,
+        _ => false,
     }
 }
 
@@ -125,13 +120,14 @@ fn make_at(
     // For the proof alone: the nodes stand in post-order.
     let _ = formula.len();
     let node = formula.node(i);
-    if is_leaf(node) {
+    let view = node.view();
+    if is_leaf(view) {
         return Ok(());
     }
-    let (left, right) = operands(node);
+    let (left, right) = node.inputs();
     let p = take(alloc, sets, left);
     let q = take(alloc, sets, right);
-    let made = made_of(alloc, on, node, p, q)?;
+    let made = made_by(alloc, on, view, p, q)?;
     sets[i as usize].times = made;
     Ok(())
 }

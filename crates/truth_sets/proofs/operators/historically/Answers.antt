@@ -1,7 +1,0 @@
-use Rattle.truth_sets.proofs.TellingLemmas.{historically_tells, if_two}
-use Rattle.truth_sets.proofs.operators.historically.Goals as goal
-
-pub returns : goal.returns
-returns c = if_two c.only.result
-    (λ r of times. historically_tells c.args.on.now c.behind.result c.args.low c.args.high c.args.low_in c.args.high_in c.args.p r c.behind.ensures of times)
-    c.only.ensures.of c.only.ensures.times
