@@ -1,20 +1,23 @@
 -- What the signal of a node keeps and tells, from the signals of its children among those before it.
-use Rattle.std.proofs.Common.{◌≡◌, ℕ, ℤ, pos, neg_ℤ, ◌+◌, ◌-◌, ◌<◌, ◌^◌, ◌≤ℤ◌, ◌<ℤ◌, arith, List, Some, sym, subst}
+use Rattle.std.proofs.Common.{◌≡◌, ℕ, ℤ, pos, neg_ℤ, ◌+◌, ◌-◌, ◌<◌, ◌^◌, ◌≤ℤ◌, ◌<ℤ◌, arith, List, None, Some, refl, sym, subst}
 use Rattle.std.specs.Prelude.{slice_get}
+use Rattle.std.proofs.lemmas.Option.{same_Some, none-some}
 use Rattle.rational.specs.Extended.{Extended}
 use Rattle.rational.proofs.Order.{same_trans, same_sym, le_trans, le_of_same, ge_of_same}
 use Rattle.rational.proofs.Shift.{le_whole}
 use Rattle.std.proofs.lemmas.Int.{ints}
 use Rattle.pl_signal.specs.declared.faults.OpFault.{OpFault}
-use Rattle.stl_syntax.specs.Formula.{Subformula, tree_of}
+use Rattle.stl_syntax.specs.Formula.{HasChildrenBelow, Subformula, tree_of}
 use Rattle.stl_syntax.specs.Limits.{own_reach}
 use Rattle.stl_syntax.specs.SupInf.{Setting}
+use Rattle.stl_syntax.specs.Views.{first_of, second_of, view_of}
 use Rattle.stl_syntax.specs.declared.node.Node.{Node}
+use Rattle.stl_syntax.specs.declared.node.Node.TheVariants.{Const, Atom as Leaf, Not, And, Or, Implies, Until, Eventually, Always, Since, Once, Historically}
 use Rattle.offline_eval.specs.Forms.{Form}
 use Rattle.offline_eval.specs.Inputs.{IsOver}
 use Rattle.offline_eval.specs.Making.{HasEnds, MayMeet, IsFit, AreFit, IsSound, StaysSound, StaySound, NodeStaysSound}
 use Rattle.offline_eval.specs.Making.{TellsValue, IsFaultOf, TellsOne, TellsTwo, FaultOfOne, FaultOfTwo, TellsNode}
-use Rattle.offline_eval.specs.Making.{FaultOfNode}
+use Rattle.offline_eval.specs.Making.{FaultOfNode, IsOne, IsTwo, make_one, make_two}
 
 ends_of : {lowest highest : Extended} {from to : ℕ} {s : Setting} → IsOver lowest highest from to s → HasEnds lowest highest s
 ends_of over = record { lowest = over.lowest; highest = over.highest }
@@ -36,12 +39,49 @@ module _ {X : Type 0} where
     -- the formula of the node is made of those of the children
     pub is : (at : ℕ → Subformula) (i : ℕ) → tree_of at i n ≡ make (at p) (at q)
 
-module _ {X P : Type 0} (form : Form X P) (from to : ℕ) where
-  -- two sound signals are over one domain
-  pub may_meet : (reach : ℕ) (x y : X) → IsSound form from to reach x → IsSound form from to reach y → MayMeet form x y
-  may_meet reach x y s u =
-      record { left = s.limited; right = u.limited; begins = same_trans s.begins (same_sym u.begins); ends = same_trans s.ends (same_sym u.ends) }
+-- a node has one operand, that at place p
+pub record OneOperand (n : Node) (p : ℕ) : Type 0 where
+  pub one : IsOne n
+  pub is : (at : ℕ → Subformula) (i : ℕ) → tree_of at i n ≡ make_one n (at p)
+  pub below : (m : ℕ) → HasChildrenBelow m n → p < m
 
+-- or two
+pub record TwoOperands (n : Node) (p q : ℕ) : Type 0 where
+  pub two : IsTwo n
+  pub is : (at : ℕ → Subformula) (i : ℕ) → tree_of at i n ≡ make_two n (at p) (at q)
+  pub below : (m : ℕ) → HasChildrenBelow m n → (p < m) × (q < m)
+
+one_here : (n : Node) (q p : ℕ) → Some q ≡ Some p → OneOperand n q → OneOperand n p
+one_here n q p e known = subst (OneOperand n) (same_Some q p e) known
+
+-- the first is the only one
+pub one_operand : (n : Node) (p : ℕ) → first_of (view_of n) ≡ Some p → second_of (view_of n) ≡ None → OneOperand n p
+one_operand (Const b) p e f = absurd (none-some p e)
+one_operand (Leaf a) p e f = absurd (none-some p e)
+one_operand (Not q) p e f = one_here _ q p e (record { one = tt; is = λ at i. refl; below = λ m h. h })
+one_operand (Eventually q a b a_in b_in) p e f = one_here _ q p e (record { one = tt; is = λ at i. refl; below = λ m h. h })
+one_operand (Always q a b a_in b_in) p e f = one_here _ q p e (record { one = tt; is = λ at i. refl; below = λ m h. h })
+one_operand (Once q a b a_in b_in) p e f = one_here _ q p e (record { one = tt; is = λ at i. refl; below = λ m h. h })
+one_operand (Historically q a b a_in b_in) p e f = one_here _ q p e (record { one = tt; is = λ at i. refl; below = λ m h. h })
+one_operand _ p e f = absurd (none-some _ (sym f))
+
+two_here : (n : Node) (k l p q : ℕ) → Some k ≡ Some p → Some l ≡ Some q → TwoOperands n k l → TwoOperands n p q
+two_here n k l p q e f known = subst (TwoOperands n p) (same_Some l q f) (subst (λ x. TwoOperands n x l) (same_Some k p e) known)
+
+-- there is a second one
+pub two_operands : (n : Node) (p q : ℕ) → first_of (view_of n) ≡ Some p → second_of (view_of n) ≡ Some q → TwoOperands n p q
+two_operands (And k l) p q e f = two_here _ k l p q e f (record { two = tt; is = λ at i. refl; below = λ m h. h })
+two_operands (Or k l) p q e f = two_here _ k l p q e f (record { two = tt; is = λ at i. refl; below = λ m h. h })
+two_operands (Implies k l) p q e f = two_here _ k l p q e f (record { two = tt; is = λ at i. refl; below = λ m h. h })
+two_operands (Until k l a b) p q e f = two_here _ k l p q e f (record { two = tt; is = λ at i. refl; below = λ m h. h })
+two_operands (Since k l a b) p q e f = two_here _ k l p q e f (record { two = tt; is = λ at i. refl; below = λ m h. h })
+two_operands _ p q e f = absurd (none-some q f)
+
+-- two that are fit are over one domain
+pub may_meet : {X P : Type 0} (form : Form X P) (x y : X) → AreFit form x y → MayMeet form x y
+may_meet form x y fit = record { left = fit.left.limited; right = fit.right.limited; begins = fit.begins; ends = fit.ends }
+
+module _ {X P : Type 0} (form : Form X P) (from to : ℕ) where
   -- a sound signal is fit for every step
   pub fit_of : (x : X) → to < 2 ^ 32 → IsSound form from to 4294967295 x → IsFit form x
   fit_of x small s = record {

@@ -10,10 +10,11 @@ use Rattle.pl_signal.specs.declared.faults.OpFault.{OpFault}
 use Rattle.pl_signal.specs.declared.faults.OpFault.TheVariants as F
 use Rattle.rational.specs.InPlay.{IsWideCrossing, IsWideValue}
 use Rattle.stl_syntax.specs.WideCause.{IsInPlayAt}
-use Rattle.stl_syntax.specs.Formula.{Subformula, tree_of}
+use Rattle.stl_syntax.specs.Formula.{Subformula, tree_of, negation, conjunction, disjunction, implication}
+use Rattle.stl_syntax.specs.Formula.{until, since, eventually, always, once, historically}
 use Rattle.stl_syntax.specs.Limits.{own_reach}
 use Rattle.stl_syntax.specs.declared.node.Node.{Node}
-use Rattle.stl_syntax.specs.declared.node.Node.TheVariants.{Until, Eventually, Always, Since, Once, Historically}
+use Rattle.stl_syntax.specs.declared.node.Node.TheVariants.{Not, And, Or, Implies, Until, Eventually, Always, Since, Once, Historically}
 use Rattle.offline_eval.specs.Forms.{Form}
 use Rattle.offline_eval.specs.Inputs.{IsOver}
 use Rattle.offline_eval.specs.declared.faults.EvalFault.{EvalFault}
@@ -25,19 +26,41 @@ pub record HasEnds (least greatest : Extended) (s : Setting) : Type 0 where
   pub lowest : s.lowest ≡ least
   pub highest : s.highest ≡ greatest
 
--- the node looks ahead
-abbrev pub IsAhead : Node → Type 0
-IsAhead (Until p q a b) = Unit {0}
-IsAhead (Eventually p a b a_in b_in) = Unit {0}
-IsAhead (Always p a b a_in b_in) = Unit {0}
-IsAhead n = ⊥
+-- the node has one operand
+abbrev pub IsOne : Node → Type 0
+IsOne (Not p) = Unit {0}
+IsOne (Eventually p a b a_in b_in) = Unit {0}
+IsOne (Always p a b a_in b_in) = Unit {0}
+IsOne (Once p a b a_in b_in) = Unit {0}
+IsOne (Historically p a b a_in b_in) = Unit {0}
+IsOne n = ⊥
 
--- the node looks behind
-abbrev pub IsBehind : Node → Type 0
-IsBehind (Since p q a b) = Unit {0}
-IsBehind (Once p a b a_in b_in) = Unit {0}
-IsBehind (Historically p a b a_in b_in) = Unit {0}
-IsBehind n = ⊥
+-- the node has two
+abbrev pub IsTwo : Node → Type 0
+IsTwo (And p q) = Unit {0}
+IsTwo (Or p q) = Unit {0}
+IsTwo (Implies p q) = Unit {0}
+IsTwo (Until p q a b) = Unit {0}
+IsTwo (Since p q a b) = Unit {0}
+IsTwo n = ⊥
+
+-- the formula that such a node makes of that of its operand
+abbrev pub make_one : Node → Subformula → Subformula
+make_one (Not p) = negation
+make_one (Eventually p a b a_in b_in) = eventually a b a_in b_in
+make_one (Always p a b a_in b_in) = always a b a_in b_in
+make_one (Once p a b a_in b_in) = once a b a_in b_in
+make_one (Historically p a b a_in b_in) = historically a b a_in b_in
+make_one n = λ f. f
+
+-- and of those of two
+abbrev pub make_two : Node → Subformula → Subformula → Subformula
+make_two (And p q) = conjunction
+make_two (Or p q) = disjunction
+make_two (Implies p q) = implication
+make_two (Until p q a b) = until a b
+make_two (Since p q a b) = since a b
+make_two n = λ f g. f
 
 module _ {X P : Type 0} (form : Form X P) where
   -- two signals over one domain, with limited values

@@ -23,25 +23,6 @@ use std::marker::Model;
 use stl_syntax::{Formula, Node};
 use value_laws::Shape;
 
-/// The places of a node's children.
-fn operands(node: &Node) -> (Option<u32>, Option<u32>)
-    ensures { option_to_list result.0 ++ option_to_list result.1 ≡ children node.now }
-{
-    match node {
-        Node::Const(_) | Node::Atom(_) => (None, None),
-        Node::Not(p) => (Some(*p), None),
-        Node::Eventually { of, .. }
-        | Node::Always { of, .. }
-        | Node::Once { of, .. }
-        | Node::Historically { of, .. } => (Some(*of), None),
-        Node::And(p, q) | Node::Or(p, q) | Node::Implies(p, q) => (Some(*p), Some(*q)),
-        Node::Until { left, right, .. } | Node::Since { left, right, .. } => (
-            Some(*left),
-            Some(*right),
-        ),
-    }
-}
-
 /// Gives up the chain at a place. A constant stands there from then on.
 fn give_up<P: Shape>(
     alloc: Global,
@@ -75,7 +56,7 @@ fn keep<P: Shape>(
     requires children { All (λ p. p < length done.old.items) (children node.now) }
     ensures { OnOk result (AreGivenUp (of_pieces P.Shape) from to (children node.now) (done.old.items ++ chain ∷ []) done.new.items) }
 {
-    let (left, right) = operands(node);
+    let (left, right) = node.inputs();
     if done.push(chain).is_err() {
         return Err(Memory);
     }

@@ -10,8 +10,8 @@ use Rattle.online_nodes.specs.Kinds.{inputs_of}
 use Rattle.online_nodes.specs.Stepping.{Situation, IsBegun, IsDue}
 use Rattle.online_nodes.specs.declared.answering.Outcome.{Outcome}
 use Rattle.online_nodes.specs.declared.kind.Kind.{Kind}
-use Rattle.online_nodes.specs.declared.kind.Kind.TheVariants.{Const as Constant, Not as Negation, Join as Connective, Ahead}
-use Rattle.online_nodes.specs.declared.kind.Kind.TheVariants.{Behind, Until as UntilOf, Since as SinceOf}
+use Rattle.online_nodes.specs.declared.kind.Kind.TheVariants.{Const as Constant, Not as Negation, Join as Connective, Over}
+use Rattle.online_nodes.specs.declared.kind.Kind.TheVariants.{Until as UntilOf, Since as SinceOf}
 use Rattle.online_nodes.specs.declared.operator.Operator.{Operator}
 use Rattle.online_nodes.specs.declared.since.Since.{Since as SinceWindow}
 use Rattle.online_nodes.specs.declared.until.Until.{Until as UntilWindow}
@@ -60,15 +60,10 @@ module _ {x : Situation} {op : Operator} {old : Held} (d : IsDue x op old) where
       by_kind (Negation p) e = (among_within d p (is_input (Negation p) e p refl), among_apart d p (is_input (Negation p) e p refl))
       by_kind (Connective join inputs) e =
           two_of (Connective join inputs) inputs.left inputs.right e (inl refl) (inr refl) (two_apart d inputs.left inputs.right (ap inputs_of e))
-      by_kind (Ahead w) e = record {
-        within = among_within d w.of (is_input (Ahead w) e w.of refl);
-        apart = among_apart d w.of (is_input (Ahead w) e w.of refl);
-        fits = window_fits d g (inl e) (has_window d (inl e));
-      }
-      by_kind (Behind w) e = record {
-        within = among_within d w.of (is_input (Behind w) e w.of refl);
-        apart = among_apart d w.of (is_input (Behind w) e w.of refl);
-        fits = window_fits d g (inr e) (has_window d (inr e));
+      by_kind (Over w) e = record {
+        within = among_within d w.of (is_input (Over w) e w.of refl);
+        apart = among_apart d w.of (is_input (Over w) e w.of refl);
+        fits = window_fits d g e (has_window d e);
       }
       by_kind (UntilOf u) e = (
         two_of (UntilOf u) u.window.of u.right e (inl refl) (inr refl) (two_apart d u.window.of u.right (ap inputs_of e)),
@@ -98,8 +93,7 @@ module _ {x : Situation} {op : Operator} {old : Held} (d : IsDue x op old) where
         there inputs.right (among_within d inputs.right (is_input (Connective join inputs) e inputs.right (inr refl))),
         two_apart d inputs.left inputs.right (ap inputs_of e),
       )
-      by_kind (Ahead w) e = (there w.of (among_within d w.of (is_input (Ahead w) e w.of refl)), near_window (has_window d (inl e)))
-      by_kind (Behind w) e = (there w.of (among_within d w.of (is_input (Behind w) e w.of refl)), near_window (has_window d (inr e)))
+      by_kind (Over w) e = (there w.of (among_within d w.of (is_input (Over w) e w.of refl)), near_window (has_window d e))
       by_kind (UntilOf u) e = (
         there u.window.of (among_within d u.window.of (is_input (UntilOf u) e u.window.of (inl refl))),
         there u.right (among_within d u.right (is_input (UntilOf u) e u.right (inr refl))),

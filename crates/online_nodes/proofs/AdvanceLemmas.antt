@@ -26,7 +26,7 @@ use Rattle.online_nodes.specs.declared.answering.Marks.{Marks}
 use Rattle.online_nodes.specs.declared.answering.Outcome.{Outcome}
 use Rattle.online_nodes.specs.declared.kind.Kind.{Kind}
 use Rattle.online_nodes.specs.declared.kind.Kind.TheVariants.{Const as Constant, Not as Negation, Join as Connective}
-use Rattle.online_nodes.specs.declared.kind.Kind.TheVariants.{Ahead, Behind, Until as UntilOf, Since as SinceOf}
+use Rattle.online_nodes.specs.declared.kind.Kind.TheVariants.{Over, Until as UntilOf, Since as SinceOf}
 use Rattle.online_nodes.specs.declared.operator.Operator.{Operator}
 use Rattle.online_nodes.proofs.BelongLemmas.{own_edge, own_reach_small, room_if_ready}
 use Rattle.online_nodes.proofs.BodyLemmas.{body_worked}
@@ -46,8 +46,7 @@ pub side_input : (k : Kind) (left : Bool) (j : ℕ) → IsOperand k left j → I
 side_input (Negation p) true j h = h
 side_input (Connective join inputs) true j h = inl h
 side_input (Connective join inputs) false j h = inr h
-side_input (Ahead w) true j h = h
-side_input (Behind w) true j h = h
+side_input (Over w) true j h = h
 side_input (UntilOf u) true j h = inl h
 side_input (UntilOf u) false j h = inr h
 side_input (SinceOf s) true j h = inl h
@@ -78,8 +77,7 @@ plain_knows : (k : Kind) → keeps_marks k ≡ false → (nodes : List Node) (tr
 plain_knows (Constant b) plain nodes tr e at reach run reach_2 run_2 h = h
 plain_knows (Negation p) plain nodes tr e at reach run reach_2 run_2 h = h
 plain_knows (Connective join inputs) plain nodes tr e at reach run reach_2 run_2 h = h
-plain_knows (Ahead w) plain nodes tr e at reach run reach_2 run_2 h = absurd (let z : true ≡ false = plain in cc)
-plain_knows (Behind w) plain nodes tr e at reach run reach_2 run_2 h = absurd (let z : true ≡ false = plain in cc)
+plain_knows (Over w) plain nodes tr e at reach run reach_2 run_2 h = absurd (let z : true ≡ false = plain in cc)
 plain_knows (UntilOf u) plain nodes tr e at reach run reach_2 run_2 h = absurd (let z : true ≡ false = plain in cc)
 plain_knows (SinceOf s) plain nodes tr e at reach run reach_2 run_2 h = absurd (let z : true ≡ false = plain in cc)
 

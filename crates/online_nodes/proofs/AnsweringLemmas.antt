@@ -13,7 +13,7 @@ use Rattle.online_nodes.specs.Answering.{HasReleasedTwo, HasSweptAll, HasToldAll
 use Rattle.online_nodes.specs.declared.answering.Outcome.{Outcome}
 use Rattle.online_nodes.specs.declared.answering.Marks.{Marks}
 use Rattle.online_nodes.specs.declared.kind.Kind.{Kind}
-use Rattle.online_nodes.specs.declared.kind.Kind.TheVariants.{Const, Not, Join, Ahead, Behind, Until, Since}
+use Rattle.online_nodes.specs.declared.kind.Kind.TheVariants.{Const, Not, Join, Over, Until, Since}
 use Rattle.online_nodes.specs.declared.window.Window.{Window}
 use Rattle.online_nodes.specs.declared.writer.Out.{Out}
 use Rattle.online_nodes.proofs.GotLemmas.{got-here, got-length, got-other}
@@ -113,8 +113,7 @@ able_apart (Const b) e own marks able j is = absurd is
 able_apart (Not p) e own marks able j is = subst (λ (q : ℕ). q ≢ own) is able.1
 able_apart (Join join inputs) e own marks able j (inl is) = subst (λ (q : ℕ). q ≢ own) is able.left_apart
 able_apart (Join join inputs) e own marks able j (inr is) = subst (λ (q : ℕ). q ≢ own) is able.right_apart
-able_apart (Ahead w) e own marks able j is = subst (λ (q : ℕ). q ≢ own) is able.apart
-able_apart (Behind w) e own marks able j is = subst (λ (q : ℕ). q ≢ own) is able.apart
+able_apart (Over w) e own marks able j is = subst (λ (q : ℕ). q ≢ own) is able.apart
 able_apart (Until u) e own marks able j (inl is) = subst (λ (q : ℕ). q ≢ own) is able.0.left_apart
 able_apart (Until u) e own marks able j (inr is) = subst (λ (q : ℕ). q ≢ own) is able.0.right_apart
 able_apart (Since s) e own marks able j (inl is) = subst (λ (q : ℕ). q ≢ own) is able.0.left_apart
@@ -140,10 +139,8 @@ carried (Join join inputs) old mid out marks told own apart none (g, kept) =
       edge = g.edge;
       sound = g.sound;
     }
-carried (Ahead w) old mid out marks told own apart none g =
-    swept_all (Ahead w) w old out own (apart w.of refl) (λ k h. h) (λ k h. h) refl none g
-carried (Behind w) old mid out marks told own apart none g =
-    swept_all (Behind w) w old out own (apart w.of refl) (λ k h. h) (λ k h. h) refl none g
+carried (Over w) old mid out marks told own apart none g =
+    swept_all (Over w) w old out own (apart w.of refl) (λ k h. h) (λ k h. h) refl none g
 carried (Until u) old mid out marks told own apart none (g, kept) =
     record {
       more = g.more;

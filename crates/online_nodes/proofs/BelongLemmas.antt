@@ -16,7 +16,7 @@ use Rattle.stl_syntax.proofs.PostOrderLemmas.{placed}
 use Rattle.stl_syntax.specs.declared.node.Node.{Node}
 use Rattle.stl_syntax.specs.declared.node.Node.TheVariants.{Const, Atom as Leaf, Not, And, Or, Implies, Until, Eventually}
 use Rattle.stl_syntax.specs.declared.node.Node.TheVariants.{Always, Since, Once, Historically}
-use Rattle.online_nodes.specs.Network.{Event, Front, State, last_row, open_number, allowed, allowed_at}
+use Rattle.online_nodes.specs.Network.{Event, Front, State, last_row, least, moved_by, open_number, allowed, allowed_at}
 use Rattle.online_nodes.specs.Network.{all_at_end, is_atom, node_is_atom, same_front, state, initial, IsReady}
 use Rattle.online_nodes.specs.Needed.{IsReader}
 use Rattle.frac128.specs.Cuts.{place}
@@ -25,6 +25,7 @@ use Rattle.online_nodes.specs.Kinds.{inputs_of, AreInputs, AreNear, HasNear, IsN
 use Rattle.online_nodes.specs.Operators.{kind_of, KnowsBy}
 use Rattle.online_nodes.specs.Belonging.{Belongs, StandsForSteps, held_by_inputs, is_ready, room_of_step, trace_of}
 use Rattle.online_nodes.specs.declared.operator.Operator.{Operator}
+use Rattle.online_nodes.proofs.FrontsLaw.{least_is}
 use Rattle.online_nodes.proofs.LowLaw.{within_start}
 use Rattle.online_nodes.proofs.RunLaw.{within_horizon}
 use Rattle.online_nodes.proofs.RisingLaw.{same_is, same_of}
@@ -50,20 +51,26 @@ abbrev pub NotesInputs : Held → State → Node → Type 0
 NotesInputs e s n = (j : ℕ) (left : Bool) → IsReader n left j → number_at e j ≡ s.fronts j
 
 module _ (e : Held) (s : State) (now : ℕ) (last : last_row s ≡ Some (pos now)) where
+  -- an input that stands no later than the last row comes earlier where it is moved back
+  moved_back : (b : ℕ) (f : Front) → IfSome f (λ k. k ≤ℤ pos now) → least (moved_by (neg_ℤ (pos b)) f) (Some (pos now)) ≡ moved_by (neg_ℤ (pos b)) f
+  moved_back b None h = refl
+  moved_back b (Some f) h = least_is (f +ℤ neg_ℤ (pos b)) (pos now) (f +ℤ neg_ℤ (pos b)) (λ l. omega (arith, ints, l, h)) (λ l. refl)
+
   -- the number that a node may have before the end, by the numbers on the edges
-  open_is : (n : Node) → is_atom n ≡ false → NotesInputs e s n → open_by (kind_of n) e now ≡ open_number n s
-  open_is (Const b) h k = sym last
-  open_is (Leaf a) h k = absurd (let x : true ≡ false = h in cc)
-  open_is (Not p) h k = k p true refl
-  open_is (And p q) h k = rw (k p true refl, k q false refl) refl
-  open_is (Or p q) h k = rw (k p true refl, k q false refl) refl
-  open_is (Implies p q) h k = rw (k p true refl, k q false refl) refl
-  open_is (Until p q a b) h k = rw (k p true refl, k q false refl) refl
-  open_is (Eventually p a b a_in b_in) h k = rw (k p true refl) refl
-  open_is (Always p a b a_in b_in) h k = rw (k p true refl) refl
-  open_is (Since p q a b) h k = rw (k p true refl, k q false refl) refl
-  open_is (Once p a b a_in b_in) h k = rw (k p true refl, last) refl
-  open_is (Historically p a b a_in b_in) h k = rw (k p true refl, last) refl
+  open_is : (i : ℕ) (n : Node) → is_atom n ≡ false → HasChildrenBelow i n → ((p : ℕ) → p < i → IfSome (s.fronts p) (λ k. k ≤ℤ pos now))
+      → NotesInputs e s n → open_by (kind_of n) e now ≡ open_number n s
+  open_is i (Const b) h c past k = sym last
+  open_is i (Leaf a) h c past k = absurd (let x : true ≡ false = h in cc)
+  open_is i (Not p) h c past k = k p true refl
+  open_is i (And p q) h c past k = rw (k p true refl, k q false refl) refl
+  open_is i (Or p q) h c past k = rw (k p true refl, k q false refl) refl
+  open_is i (Implies p q) h c past k = rw (k p true refl, k q false refl) refl
+  open_is i (Until p q a b) h c past k = rw (k p true refl, k q false refl) refl
+  open_is i (Eventually p a b a_in b_in) h c past k = rw (k p true refl) (moved_back b (s.fronts p) (past p c))
+  open_is i (Always p a b a_in b_in) h c past k = rw (k p true refl) (moved_back b (s.fronts p) (past p c))
+  open_is i (Since p q a b) h c past k = rw (k p true refl, k q false refl) refl
+  open_is i (Once p a b a_in b_in) h c past k = rw (k p true refl, last) refl
+  open_is i (Historically p a b a_in b_in) h c past k = rw (k p true refl, last) refl
 
   one_stands : (p : ℕ) → number_at e p ≡ s.fronts p → all_stand_at e now (p ∷ []) ≡ all_at_end s (p ∷ [])
   one_stands p x = rw (x, last) refl
@@ -87,10 +94,11 @@ module _ (e : Held) (s : State) (now : ℕ) (last : last_row s ≡ Some (pos now
   stand_is (Historically p a b a_in b_in) k = one_stands p (k p true refl)
 
   -- the number that the kind allows is that of the node
-  pub allowed_is : (n : Node) (ended : Bool) → is_atom n ≡ false → s.closed ≡ ended → NotesInputs e s n
+  pub allowed_is : (i : ℕ) (n : Node) (ended : Bool) → is_atom n ≡ false → HasChildrenBelow i n
+      → ((p : ℕ) → p < i → IfSome (s.fronts p) (λ k. k ≤ℤ pos now)) → s.closed ≡ ended → NotesInputs e s n
       → allowed_by (kind_of n) e now ended ≡ allowed n s
-  allowed_is n ended h c k =
-      let o : open_by (kind_of n) e now ≡ open_number n s = open_is n h k in
+  allowed_is i n ended h below past c k =
+      let o : open_by (kind_of n) e now ≡ open_number n s = open_is i n h below past k in
       let t : all_stand_at e now (inputs_of (kind_of n)) ≡ all_at_end s (children n) = stand_is n k in
       rw (← c, t, o, last) refl
 
@@ -191,6 +199,17 @@ module _ {nodes : List Node} {header : Header} {events : List Event} {op : Opera
       (subst (λ m. AreInputs (kind_of b.stands.node) m) (sym b.edges)
       (inputs_below b.stands.node op.node (length nodes) own_below own_within))
 
+  -- no number of the run is later than the last row
+  number_by_now : (p : ℕ) → p < length nodes → IfSome ((state nodes events).fronts p) (λ k. k ≤ℤ pos now)
+  number_by_now p l = by_front ((state nodes events).fronts p) refl
+    where
+      by_front : (o : Front) → (state nodes events).fronts p ≡ o → IfSome o (λ k. k ≤ℤ pos now)
+      by_front None x = tt
+      by_front (Some f) x =
+          let high = within_horizon nodes header b.formed.post_order events b.run p f l x in
+          let last : high.last ≡ pos now = same_Some high.last (pos now) (sym high.is_last ∙ b.last) in
+          subst (λ z. f ≤ℤ z) last high.by_now
+
   -- no number of the run is far
   pub number_near : now ≤ 4294967295 → (p : ℕ) → p < length nodes → IfSome ((state nodes events).fronts p) IsNear
   number_near small p l = by_front ((state nodes events).fronts p) refl
@@ -233,7 +252,8 @@ module _ {nodes : List Node} {header : Header} {events : List Event} {op : Opera
   pub allowed_number : allowed_by op.kind e now ended ≡ allowed_at nodes (state nodes events) op.node
   allowed_number =
       subst (λ k. allowed_by k e now ended ≡ allowed_at nodes (state nodes events) op.node) (sym b.stands.kind)
-      (allowed_is e (state nodes events) now b.last b.stands.node ended b.stands.no_atom b.closed notes
+      (allowed_is e (state nodes events) now b.last op.node b.stands.node ended b.stands.no_atom own_below
+      (λ p l. number_by_now p (omega (arith, l, own_within))) b.closed notes
       ∙ ap (λ n. allowed n (state nodes events)) (sym node_is))
 
   -- the operator's node is no atom

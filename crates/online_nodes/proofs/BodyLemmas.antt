@@ -5,8 +5,8 @@ use Rattle.online_nodes.specs.Held.{Held}
 use Rattle.online_nodes.specs.Stepping.{Situation, HasWorkedOut, IsBegun, IsDue}
 use Rattle.online_nodes.specs.declared.answering.Outcome.{Outcome}
 use Rattle.online_nodes.specs.declared.kind.Kind.{Kind}
-use Rattle.online_nodes.specs.declared.kind.Kind.TheVariants.{Const as Constant, Not as Negation, Join as Connective, Ahead}
-use Rattle.online_nodes.specs.declared.kind.Kind.TheVariants.{Behind, Until as UntilOf, Since as SinceOf}
+use Rattle.online_nodes.specs.declared.kind.Kind.TheVariants.{Const as Constant, Not as Negation, Join as Connective, Over}
+use Rattle.online_nodes.specs.declared.kind.Kind.TheVariants.{Until as UntilOf, Since as SinceOf}
 use Rattle.online_nodes.specs.declared.operator.Operator.{Operator}
 use Rattle.online_nodes.proofs.SinceWorked.{has_since, since_worked}
 use Rattle.online_nodes.proofs.SweptLemmas.{has_window, sweep_worked}
@@ -22,7 +22,6 @@ body_worked {x} {op} {old} {new} {work} d g done h = by_kind op.kind refl h
     by_kind (Constant b) e h = constant_worked d g e done h
     by_kind (Negation p) e (h, same) = negation_worked d g e done h
     by_kind (Connective join inputs) e (h, same) = join_worked d g e done h
-    by_kind (Ahead w) e h = sweep_worked d g (inl e) (has_window d (inl e)) done h
-    by_kind (Behind w) e h = sweep_worked d g (inr e) (has_window d (inr e)) done h
+    by_kind (Over w) e h = sweep_worked d g e (has_window d e) done h
     by_kind (UntilOf u) e (h, same) = until_worked d g e (has_until d e) done h
     by_kind (SinceOf s) e h = since_worked d g e (has_since d e) done h

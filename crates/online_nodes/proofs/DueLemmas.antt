@@ -25,7 +25,7 @@ use Rattle.online_nodes.specs.Written.{HasTold, IsPending}
 use Rattle.frac128.specs.declared.cut.Cut.{Cut}
 use Rattle.online_nodes.specs.declared.kind.Kind.{Kind}
 use Rattle.online_nodes.specs.declared.kind.Kind.TheVariants.{Const as Constant, Not as Negation, Join as Connective}
-use Rattle.online_nodes.specs.declared.kind.Kind.TheVariants.{Ahead, Behind, Until as UntilOf, Since as SinceOf}
+use Rattle.online_nodes.specs.declared.kind.Kind.TheVariants.{Over, Until as UntilOf, Since as SinceOf}
 use Rattle.online_nodes.specs.declared.operator.Operator.{Operator}
 use Rattle.online_nodes.specs.declared.answering.Outcome.{Outcome}
 use Rattle.online_nodes.proofs.BelongLemmas.{allowed_number, inputs_are_children, no_atom_here, own_below}
@@ -50,8 +50,7 @@ input_among (Constant b) j h = absurd h
 input_among (Negation p) j h = inl (sym h)
 input_among (Connective join inputs) j (inl e) = inl (sym e)
 input_among (Connective join inputs) j (inr e) = inr (inl (sym e))
-input_among (Ahead w) j h = inl (sym h)
-input_among (Behind w) j h = inl (sym h)
+input_among (Over w) j h = inl (sym h)
 input_among (UntilOf u) j (inl e) = inl (sym e)
 input_among (UntilOf u) j (inr e) = inr (inl (sym e))
 input_among (SinceOf s) j (inl e) = inl (sym e)

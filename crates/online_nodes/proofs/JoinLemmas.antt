@@ -16,7 +16,7 @@ use Rattle.online_nodes.specs.Written.{HasAnswer, HasTold, IsSound, Reaches}
 use Rattle.online_nodes.specs.Working.{HasPassed, HasWorked}
 use Rattle.online_nodes.specs.Joins.{joined, IsJoinOf, IsReadTo, IsJoining, HasPaused, HasReadBoth, HasFilled, HasJoined}
 use Rattle.frac128.specs.declared.cut.Cut.{Cut}
-use Rattle.online_nodes.specs.declared.join.Join.{Join}
+use Rattle.stl_syntax.specs.declared.operator.Join.{Join}
 use Rattle.online_nodes.specs.declared.join.Inputs.{Inputs}
 use Rattle.online_nodes.specs.declared.writer.Out.{Out}
 use Rattle.rational.proofs.PlaceLemmas.{same_places, upto_same, after_at_most}

@@ -67,3 +67,4 @@ mod DroppedLemmas
 mod ReleasedLemmas
 mod SteppedLemmas
 mod AdvanceLemmas
+mod KindLemmas

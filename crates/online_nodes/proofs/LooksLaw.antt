@@ -17,7 +17,7 @@ use Rattle.online_nodes.specs.Sweeps.{Counted}
 use Rattle.online_nodes.specs.Joins.{IsJoinOf}
 use Rattle.online_nodes.specs.Negations.{IsNotOf}
 use Rattle.online_nodes.specs.Looking.{place_at, past_begin}
-use Rattle.online_nodes.specs.declared.join.Join.TheVariants.{And, Or, Implies}
+use Rattle.stl_syntax.specs.declared.operator.Join.TheVariants.{And, Or, Implies}
 
 -- a window's ends by places, and by the definition: ahead
 module _ (k : ℕ) (t u : Rational) where

@@ -1,6 +1,6 @@
 -- Each node is read by one node at most, and by its kind an operator knows its node's inputs.
 use Rattle.std.proofs.Common.{◌≡◌, inl, inr, refl, sym, ap, subst, ◌∙◌, ℕ, ◌<◌, ◌≤◌, Bool, true, false}
-use Rattle.std.proofs.Common.{Some, List, length, take, get_or, pos, neg_ℤ, ◌≤ℤ◌, All, arith}
+use Rattle.std.proofs.Common.{Some, List, length, take, get_or, ℤ, pos, neg_ℤ, ◌<ℤ◌, ◌≤ℤ◌, All, arith}
 use Rattle.std.specs.Prelude.{slice_get, ◌==◌, cond, int_lt}
 use Rattle.std.proofs.lemmas.Bool.{cases_lt, eq-eqb}
 use Rattle.std.proofs.lemmas.Int.{ints}
@@ -107,25 +107,28 @@ input_side (SinceOf s) j (inr r) = (false, r)
 input_side _ j r = (true, r)
 
 -- how far an operator looks by its kind is how far its node does
-small_less : (c : ℕ) → c ≤ 4294967295 → int_lt (pos c) (pos 8589934592) ≡ true
-small_less c h = by_test (int_lt (pos c) (pos 8589934592)) refl
+in_sight : (c : ℤ) → c <ℤ pos 8589934592 → int_lt c (pos 8589934592) ≡ true
+in_sight c h = by_test (int_lt c (pos 8589934592)) refl
   where
-    by_test : (t : Bool) → int_lt (pos c) (pos 8589934592) ≡ t → int_lt (pos c) (pos 8589934592) ≡ true
+    by_test : (t : Bool) → int_lt c (pos 8589934592) ≡ t → int_lt c (pos 8589934592) ≡ true
     by_test true e = e
-    by_test false e = absurd (let x : pos 8589934592 ≤ℤ pos c = int_order (pos c) (pos 8589934592) false e in omega (arith, ints))
+    by_test false e = absurd (let x : pos 8589934592 ≤ℤ c = int_order c (pos 8589934592) false e in omega (arith, ints, h))
 
 -- twice negated is the number itself
 pub twice_negated : (a : ℕ) → neg_ℤ (neg_ℤ (pos a)) ≡ pos a
 twice_negated a = omega (arith, ints)
 
 past_by : (a c : ℕ) → c ≤ 4294967295 → neg_ℤ (cond (int_lt (pos c) (pos 8589934592)) (pos c) (pos a)) ≡ neg_ℤ (pos c)
-past_by a c h = ap (λ t. neg_ℤ (cond t (pos c) (pos a))) (small_less c h)
+past_by a c h = ap (λ t. neg_ℤ (cond t (pos c) (pos a))) (in_sight (pos c) (omega (arith, ints, h)))
+
+ahead_by : (a b : ℕ) → neg_ℤ (cond (int_lt (neg_ℤ (pos a)) (pos 8589934592)) (neg_ℤ (pos a)) (neg_ℤ (pos b))) ≡ pos a
+ahead_by a b = ap (λ t. neg_ℤ (cond t (neg_ℤ (pos a)) (neg_ℤ (pos b)))) (in_sight (neg_ℤ (pos a)) (omega (arith, ints))) ∙ twice_negated a
 
 -- a kind looks as far back into an input as its node
 pub looks_is : (n : Node) (left : Bool) (j : ℕ) → IsReader n left j → own_reach n ≤ 4294967295 → looks_by (kind_of n) left ≡ reach_back n left
 looks_is (Until p q a b) false j r h = twice_negated a
-looks_is (Eventually p a b i k) left j r h = twice_negated a
-looks_is (Always p a b i k) left j r h = twice_negated a
+looks_is (Eventually p a b i k) left j r h = ahead_by a b
+looks_is (Always p a b i k) left j r h = ahead_by a b
 looks_is (Since p q a (Some b)) left j r h = past_by a b h
 looks_is (Once p a (Some b) i k) left j r h = past_by a b h
 looks_is (Historically p a (Some b) i k) left j r h = past_by a b h

@@ -24,10 +24,10 @@ use Rattle.online_nodes.specs.Sinces.{IsBackward}
 use Rattle.online_nodes.specs.Sweeps.{Counted, CountsBeyond, high_place, low_place}
 use Rattle.online_nodes.specs.declared.answering.Outcome.{Outcome}
 use Rattle.online_nodes.specs.declared.join.Inputs.{Inputs}
-use Rattle.online_nodes.specs.declared.join.Join.{Join}
+use Rattle.stl_syntax.specs.declared.operator.Join.{Join}
 use Rattle.online_nodes.specs.declared.kind.Kind.{Kind}
 use Rattle.online_nodes.specs.declared.kind.Kind.TheVariants.{Const as Constant, Not as Negation, Join as Connective}
-use Rattle.online_nodes.specs.declared.kind.Kind.TheVariants.{Ahead, Behind, Until as UntilOf, Since as SinceOf}
+use Rattle.online_nodes.specs.declared.kind.Kind.TheVariants.{Over, Until as UntilOf, Since as SinceOf}
 use Rattle.online_nodes.specs.declared.operator.Operator.{Operator}
 use Rattle.online_nodes.specs.declared.since.Since.{Since as SinceWindow}
 use Rattle.online_nodes.specs.declared.until.Until.{Until as UntilWindow}
@@ -38,7 +38,7 @@ use Rattle.rational.proofs.PlaceLemmas.{not_both, upto_of_before, after_at_most}
 use Rattle.online_nodes.proofs.RunLaw.{moved}
 use Rattle.online_nodes.proofs.StepFacts.{just_after}
 use Rattle.online_nodes.proofs.SinceWorked.{has_since}
-use Rattle.online_nodes.proofs.SweptLemmas.{IsWindowKind, has_window, knows_window, whole_sum, window_input, window_knows}
+use Rattle.online_nodes.proofs.SweptLemmas.{has_window, knows_window, whole_sum, window_input, window_knows}
 use Rattle.online_nodes.proofs.TellingLemmas.{IsTelling, fresh_tells, fresh_within, tells_upto}
 use Rattle.online_nodes.proofs.UntilWorked.{has_until}
 use Rattle.online_nodes.proofs.WindowedLemmas.{none_in_window}
@@ -150,25 +150,19 @@ module _ {x : Situation} {op : Operator} {old mid : Held} {work : Outcome} (d : 
       )
 
   -- a window: where it has a time in it, nothing that was not read goes
-  module _ {v : Window} (is : IsWindowKind op.kind v) (order : v.begin_by ≤ℤ v.end_by) where
+  module _ {v : Window} (is : op.kind ≡ Over v) (order : v.begin_by ≤ℤ v.end_by) where
     window_side : IsOperand op.kind true v.of
-    window_side = elim is [ inl s ↦ subst (λ k. IsOperand k true v.of) (sym s) refl | inr s ↦ subst (λ k. IsOperand k true v.of) (sym s) refl ]
+    window_side = subst (λ k. IsOperand k true v.of) (sym is) refl
 
     window_looks : looks_by op.kind true ≤ℤ neg_ℤ v.begin_by
-    window_looks = elim is [
-      | inl s ↦ subst (λ k. looks_by k true ≤ℤ neg_ℤ v.begin_by) (sym s) (let l : neg_ℤ v.end_by ≤ℤ neg_ℤ v.begin_by = omega (arith, ints, order) in l)
-      | inr s ↦ subst (λ k. looks_by k true ≤ℤ neg_ℤ v.begin_by) (sym s) (by_test (int_lt v.end_by (pos 8589934592)))
-    ]
+    window_looks = subst (λ k. looks_by k true ≤ℤ neg_ℤ v.begin_by) (sym is) (by_test (int_lt v.end_by (pos 8589934592)))
       where
         by_test : (t : Bool) → neg_ℤ (cond t v.end_by v.begin_by) ≤ℤ neg_ℤ v.begin_by
         by_test true = let l : neg_ℤ v.end_by ≤ℤ neg_ℤ v.begin_by = omega (arith, ints, order) in l
         by_test false = let l : neg_ℤ v.begin_by ≤ℤ neg_ℤ v.begin_by = omega (arith, ints) in l
 
     window_beyond : is_empty v ≡ false → CountsBeyond mid v (end_of x)
-    window_beyond full = elim is [
-      | inl s ↦ subst (λ k. LeavesLater k mid (end_of x) (place work.marks.run)) s w.unread full
-      | inr s ↦ subst (λ k. LeavesLater k mid (end_of x) (place work.marks.run)) s w.unread full
-    ]
+    window_beyond full = subst (λ k. LeavesLater k mid (end_of x) (place work.marks.run)) is w.unread full
 
     window_fresh : is_empty v ≡ false → fresh_at new v.of ≡ fresh_at mid v.of
     window_fresh full = elim (parts v.of true window_side (window_input is v.of refl)) [
@@ -443,8 +437,7 @@ module _ {x : Situation} {op : Operator} {old mid : Held} {work : Outcome} (d : 
       by_kind (Constant b) e = subst (λ k. KnowsBy k x.nodes (trace_in x) new (end_of x) (place work.marks.reach) (place work.marks.run)) (sym e) tt
       by_kind (Negation p) e = negation_released p e
       by_kind (Connective join inputs) e = join_released join inputs e
-      by_kind (Ahead v) e = window_released (inl e) (has_window d (inl e)).order
-      by_kind (Behind v) e = window_released (inr e) (has_window d (inr e)).order
+      by_kind (Over v) e = window_released e (has_window d e).order
       by_kind (UntilOf u) e = let has = has_until d e in until_released e has.order has.ahead has.looks.ahead
       by_kind (SinceOf s) e =
           let has = has_since d e in

@@ -27,7 +27,7 @@ use Rattle.online_nodes.specs.Working.{HasWorked}
 use Rattle.online_nodes.specs.Written.{waiting}
 use Rattle.frac128.specs.declared.cut.Cut.{Cut}
 use Rattle.online_nodes.specs.declared.kind.Kind.{Kind}
-use Rattle.online_nodes.specs.declared.kind.Kind.TheVariants.{Ahead, Behind}
+use Rattle.online_nodes.specs.declared.kind.Kind.TheVariants.{Over}
 use Rattle.online_nodes.specs.declared.operator.Operator.{Operator}
 use Rattle.online_nodes.specs.declared.window.Window.{Window}
 use Rattle.online_nodes.specs.declared.answering.Marks.{Marks}
@@ -43,7 +43,7 @@ use Rattle.rational.proofs.PlaceLemmas.{after_same, sides, not_both, same_before
 use Rattle.rational.proofs.PlaceLemmas.{after_at_most, same_of_at_most}
 use Rattle.online_nodes.proofs.ReadLemmas.{stop_is}
 use Rattle.online_nodes.proofs.RunLaw.{lesser, moved}
-use Rattle.online_nodes.proofs.WindowedLemmas.{HasWindow, ahead_node, behind_node, fits_moved, none_in_window, some_in_window}
+use Rattle.online_nodes.proofs.WindowedLemmas.{HasWindow, fits_moved, none_in_window, some_in_window, window_node}
 use Rattle.online_nodes.proofs.WorkedLemmas.{all_worked, read_place}
 
 -- before the trace and beyond it nothing counts
@@ -81,62 +81,44 @@ window_ends w front f t u h hi l =
     by_side true h = h
     by_side false h = le_of_lt h
 
--- a window, ahead or behind
-abbrev pub IsWindowKind : Kind → Window → Type 0
-IsWindowKind k w = (k ≡ Ahead w) ⊎ (k ≡ Behind w)
-
-module _ {k : Kind} {w : Window} (is : IsWindowKind k w) where
+module _ {k : Kind} {w : Window} (is : k ≡ Over w) where
   -- what the input holds is what the window's edge holds
   pub window_held : (e : Held) → held_in e (inputs_of k) ≡ length (held_at e w.of) + 0
-  window_held e = elim is [ inl s ↦ ap (λ k. held_in e (inputs_of k)) s | inr s ↦ ap (λ k. held_in e (inputs_of k)) s ]
+  window_held e = ap (λ k. held_in e (inputs_of k)) is
 
   -- the window's input is the node's
   pub window_input : (j : ℕ) → w.of ≡ j → IsInput k j
-  window_input j h = elim is [ inl s ↦ subst (λ k. IsInput k j) (sym s) h | inr s ↦ subst (λ k. IsInput k j) (sym s) h ]
+  window_input j h = subst (λ k. IsInput k j) (sym is) h
 
   -- the node has no input but the window's
   pub input_window : (j : ℕ) → IsInput k j → w.of ≡ j
-  input_window j h = elim is [ inl s ↦ subst (λ k. IsInput k j) s h | inr s ↦ subst (λ k. IsInput k j) s h ]
+  input_window j h = subst (λ k. IsInput k j) is h
 
   -- what the marks say of the input is what the window knows
   pub window_knows : (x : Situation) (e : Held) (at reach run : Place)
       → Knows w.seeks (Counted w.seeks (subformula x.nodes w.of) (trace_in x)) (low_place w) (high_place w) at reach (read_upto e w.of)
       (front_place e w.of) → KnowsBy k x.nodes (trace_in x) e at reach run
-  window_knows x e at reach run h = elim is [
-    | inl s ↦ subst (λ k. KnowsBy k x.nodes (trace_in x) e at reach run) (sym s) h
-    | inr s ↦ subst (λ k. KnowsBy k x.nodes (trace_in x) e at reach run) (sym s) h
-  ]
+  window_knows x e at reach run h = subst (λ k. KnowsBy k x.nodes (trace_in x) e at reach run) (sym is) h
 
   -- what the window knows of the input is what the marks say
   pub knows_window : (x : Situation) (e : Held) (at reach run : Place) → KnowsBy k x.nodes (trace_in x) e at reach run
       → Knows w.seeks (Counted w.seeks (subformula x.nodes w.of) (trace_in x)) (low_place w) (high_place w) at reach (read_upto e w.of)
       (front_place e w.of)
-  knows_window x e at reach run h = elim is [
-    | inl s ↦ subst (λ k. KnowsBy k x.nodes (trace_in x) e at reach run) s h
-    | inr s ↦ subst (λ k. KnowsBy k x.nodes (trace_in x) e at reach run) s h
-  ]
+  knows_window x e at reach run h = subst (λ k. KnowsBy k x.nodes (trace_in x) e at reach run) is h
 
   -- what the window leaves counts beyond the stretch alone
   pub window_leaves : (e : Held) (to run : Place) → (is_empty w ≡ false → CountsBeyond e w to) → LeavesLater k e to run
-  window_leaves e to run h = elim is [
-    | inl s ↦ subst (λ k. LeavesLater k e to run) (sym s) h
-    | inr s ↦ subst (λ k. LeavesLater k e to run) (sym s) h
-  ]
+  window_leaves e to run h = subst (λ k. LeavesLater k e to run) (sym is) h
 
   -- the number that it may have by its input's
   pub window_number : (e : Held) (now : ℕ) (f : ℤ) → open_by k e now ≡ Some f → (g : ℤ) × (number_at e w.of ≡ Some g) × (f ≤ℤ (g +ℤ w.begin_by))
-  window_number e now f h = elim is [
-    | inl s ↦
-        let m = moved w.begin_by (number_at e w.of) f (subst (λ k. open_by k e now ≡ Some f) s h) in
-        (m.0, m.1, (let q = m.2 in omega (arith, ints)))
-    | inr s ↦
-        let l = lesser (moved_by w.begin_by (number_at e w.of)) (Some (pos now)) f (subst (λ k. open_by k e now ≡ Some f) s h) in
-        let m = moved w.begin_by (number_at e w.of) l.0 l.2 in
-        (m.0, m.1, (let q = m.2 in let r = l.4 in omega (arith, ints)))
-  ]
+  window_number e now f h =
+      let l = lesser (moved_by w.begin_by (number_at e w.of)) (Some (pos now)) f (subst (λ k. open_by k e now ≡ Some f) is h) in
+      let m = moved w.begin_by (number_at e w.of) l.0 l.2 in
+      (m.0, m.1, (let q = m.2 in let r = l.4 in omega (arith, ints)))
 
 module _ {x : Situation} {op : Operator} {old : Held} {work : Outcome} (d : IsDue x op old) (g : IsBegun x op work) {w : Window}
-    (is : IsWindowKind op.kind w) (has : HasWindow (formula_of x op) (subformula x.nodes w.of) (trace_in x) w (end_of x)) where
+    (is : op.kind ≡ Over w) (has : HasWindow (formula_of x op) (subformula x.nodes w.of) (trace_in x) w (end_of x)) where
   -- the window's input is an input of the operator
   pub among_window : IsInput op.kind w.of
   among_window = window_input is w.of refl
@@ -256,13 +238,9 @@ module _ {x : Situation} {op : Operator} {old : Held} {work : Outcome} (d : IsDu
       by_test false e = window_worked done e (swept.swept e)
 
 -- the operator's window
-pub has_window : {x : Situation} {op : Operator} {old : Held} (d : IsDue x op old) {w : Window} → IsWindowKind op.kind w
+pub has_window : {x : Situation} {op : Operator} {old : Held} (d : IsDue x op old) {w : Window} → op.kind ≡ Over w
     → HasWindow (formula_of x op) (subformula x.nodes w.of) (trace_in x) w (end_of x)
-has_window {x} {op} {old} d {w} (inl e) =
+has_window {x} {op} {old} d {w} e =
     subst (λ (n : Subformula). HasWindow n (subformula x.nodes w.of) (trace_in x) w (end_of x)) (sym (formula_is d))
-    (ahead_node (subformula x.nodes) op.node (trace_in x) (end_of x) d.belongs.stands.node w (sym (kind_is d) ∙ e) (own_bounds d.belongs)
-    (own_reach_small d.belongs))
-has_window {x} {op} {old} d {w} (inr e) =
-    subst (λ (n : Subformula). HasWindow n (subformula x.nodes w.of) (trace_in x) w (end_of x)) (sym (formula_is d))
-    (behind_node (subformula x.nodes) op.node (trace_in x) (end_of x) x.now d.small (λ t u. le_trans u (le_whole (front_by_now d)))
+    (window_node (subformula x.nodes) op.node (trace_in x) (end_of x) x.now d.small (λ t u. le_trans u (le_whole (front_by_now d)))
     d.belongs.stands.node w (sym (kind_is d) ∙ e) (own_bounds d.belongs) (own_reach_small d.belongs))

@@ -24,7 +24,7 @@ use Rattle.online_nodes.specs.Operators.{ahead, behind, kind_of}
 use Rattle.online_nodes.specs.Truths.{Looks}
 use Rattle.online_nodes.specs.Sweeps.{Counted, low_place, high_place}
 use Rattle.online_nodes.specs.Answering.{is_empty}
-use Rattle.online_nodes.specs.declared.kind.Kind.TheVariants.{Ahead, Behind}
+use Rattle.online_nodes.specs.declared.kind.Kind.TheVariants.{Over}
 use Rattle.online_nodes.specs.declared.window.Window.{Window}
 use Rattle.online_nodes.proofs.AlikeLemmas.{IsLike, historically_like, like_itself, once_like}
 use Rattle.online_nodes.proofs.LooksLaw.{always_looks, eventually_looks, historically_looks, once_looks}
@@ -52,37 +52,6 @@ pub record HasWindow (n p : Subformula) (tr : Trace) (w : Window) (to : Place) :
   pub begin_low : neg_ℤ (pos (2 ^ 33)) ≤ℤ w.begin_by
   -- nor too far behind
   pub end_high : w.end_by ≤ℤ pos (2 ^ 33)
-
-module _ (at : ℕ → Subformula) (i : ℕ) (tr : Trace) (to : Place) where
-  ahead_has : (n : Subformula) (p a b : ℕ) (a_in b_in seeks : Bool) → a ≤ b → b ≤ 4294967295
-      → Looks seeks (Truth n tr) (Counted seeks (at p) tr) (place_at (pos a) (not a_in)) (place_at (pos b) b_in)
-      → HasWindow n (at p) tr (ahead p a b a_in b_in seeks) to
-  ahead_has n p a b a_in b_in seeks h small looks = record {
-    like = n;
-    alike = like_itself n tr to;
-    looks = subst (λ (z : ℤ). Looks seeks (Truth n tr) (Counted seeks (at p) tr) (place_at z (not a_in)) (place_at (neg_ℤ (neg_ℤ (pos b))) b_in))
-        (sym (twice_negated a))
-        (subst (λ (z : ℤ). Looks seeks (Truth n tr) (Counted seeks (at p) tr) (place_at (pos a) (not a_in)) (place_at z b_in)) (sym (twice_negated b)) looks);
-    order = omega (arith, ints);
-    begin_low = omega (arith, ints);
-    end_high = omega (arith, ints);
-  }
-
-  same_ahead : (n : Subformula) (v w : Window) → Ahead v ≡ Ahead w → HasWindow n (at v.of) tr v to → HasWindow n (at w.of) tr w to
-  same_ahead n v w e h = let s : v ≡ w = cc in subst (λ (u : Window). HasWindow n (at u.of) tr u to) s h
-
-  -- a node with a window ahead has such a window
-  pub ahead_node : (n : Node) (w : Window) → kind_of n ≡ Ahead w → HasBounds n → own_reach n ≤ 4294967295
-      → HasWindow (tree_of at i n) (at w.of) tr w to
-  ahead_node (Eventually p a b a_in b_in) w e h r =
-      same_ahead (tree_of at i (Eventually p a b a_in b_in)) (ahead p a b a_in b_in true) w e
-      (ahead_has (tree_of at i (Eventually p a b a_in b_in)) p a b a_in b_in true h r (eventually_looks (at p) tr a a_in b_in b))
-  ahead_node (Always p a b a_in b_in) w e h r =
-      same_ahead (tree_of at i (Always p a b a_in b_in)) (ahead p a b a_in b_in false) w e
-      (ahead_has (tree_of at i (Always p a b a_in b_in)) p a b a_in b_in false h r (always_looks (at p) tr a a_in b_in b))
-  ahead_node (Once p a b x y) w e h r = absurd (let z : kind_of (Once p a b x y) ≡ Ahead w = e in cc)
-  ahead_node (Historically p a b x y) w e h r = absurd (let z : kind_of (Historically p a b x y) ≡ Ahead w = e in cc)
-  ahead_node n w e h r = absurd (let x : kind_of n ≡ Ahead w = e in cc)
 
 -- a window that is not empty has times
 pub some_in_window : (w : Window) → w.begin_by ≤ℤ w.end_by → is_empty w ≡ false → (t : Rational) → Before (low_place w t) (high_place w t)
@@ -140,6 +109,20 @@ none_in_window w order empty t u lo hi = by_test (int_lt w.begin_by w.end_by) re
         ]
 
 module _ (at : ℕ → Subformula) (i : ℕ) (tr : Trace) (to : Place) where
+  ahead_has : (n : Subformula) (p a b : ℕ) (a_in b_in seeks : Bool) → a ≤ b → b ≤ 4294967295
+      → Looks seeks (Truth n tr) (Counted seeks (at p) tr) (place_at (pos a) (not a_in)) (place_at (pos b) b_in)
+      → HasWindow n (at p) tr (ahead p a b a_in b_in seeks) to
+  ahead_has n p a b a_in b_in seeks h small looks = record {
+    like = n;
+    alike = like_itself n tr to;
+    looks = subst (λ (z : ℤ). Looks seeks (Truth n tr) (Counted seeks (at p) tr) (place_at z (not a_in)) (place_at (neg_ℤ (neg_ℤ (pos b))) b_in))
+        (sym (twice_negated a))
+        (subst (λ (z : ℤ). Looks seeks (Truth n tr) (Counted seeks (at p) tr) (place_at (pos a) (not a_in)) (place_at z b_in)) (sym (twice_negated b)) looks);
+    order = omega (arith, ints);
+    begin_low = omega (arith, ints);
+    end_high = omega (arith, ints);
+  }
+
   behind_has : (m n : Subformula) (p a b : ℕ) (a_in b_in seeks : Bool) → IsLike m n tr to → a ≤ b → b ≤ 8589934592
       → Looks seeks (Truth m tr) (Counted seeks (at p) tr) (place_at (neg_ℤ (pos b)) (not b_in)) (place_at (neg_ℤ (pos a)) a_in)
       → HasWindow n (at p) tr (behind p a (Some b) a_in b_in seeks) to
@@ -152,8 +135,8 @@ module _ (at : ℕ → Subformula) (i : ℕ) (tr : Trace) (to : Place) where
     end_high = omega (arith, ints);
   }
 
-  same_behind : (n : Subformula) (v w : Window) → Behind v ≡ Behind w → HasWindow n (at v.of) tr v to → HasWindow n (at w.of) tr w to
-  same_behind n v w e h = let s : v ≡ w = cc in subst (λ (u : Window). HasWindow n (at u.of) tr u to) s h
+  same_window : (n : Subformula) (v w : Window) → Over v ≡ Over w → HasWindow n (at v.of) tr v to → HasWindow n (at w.of) tr w to
+  same_window n v w e h = let s : v ≡ w = cc in subst (λ (u : Window). HasWindow n (at u.of) tr u to) s h
 
   -- a window behind; with no bound it is one with a bound beyond every trace
   module _ (now : ℕ) (small : now ≤ 4294967295) (early : (t : Rational) → Upto to t → t ≤ʳ whole (pos now)) where
@@ -178,13 +161,17 @@ module _ (at : ℕ → Subformula) (i : ℕ) (tr : Trace) (to : Place) where
         (historically_like tr now small to early a a_in b_in (at p)) (omega (arith, r)) (omega arith)
         (historically_looks (at p) tr a a_in b_in (Some 8589934592))
 
-    -- a node with a window behind has such a window
-    pub behind_node : (n : Node) (w : Window) → kind_of n ≡ Behind w → HasBounds n → own_reach n ≤ 4294967295
+    -- a node over a window has such a window
+    pub window_node : (n : Node) (w : Window) → kind_of n ≡ Over w → HasBounds n → own_reach n ≤ 4294967295
         → HasWindow (tree_of at i n) (at w.of) tr w to
-    behind_node (Once p a b a_in b_in) w e h r =
-        same_behind (tree_of at i (Once p a b a_in b_in)) (behind p a b a_in b_in true) w e (once_has p a b a_in b_in h r)
-    behind_node (Historically p a b a_in b_in) w e h r =
-        same_behind (tree_of at i (Historically p a b a_in b_in)) (behind p a b a_in b_in false) w e (historically_has p a b a_in b_in h r)
-    behind_node (Eventually p a b x y) w e h r = absurd (let z : kind_of (Eventually p a b x y) ≡ Behind w = e in cc)
-    behind_node (Always p a b x y) w e h r = absurd (let z : kind_of (Always p a b x y) ≡ Behind w = e in cc)
-    behind_node n w e h r = absurd (let x : kind_of n ≡ Behind w = e in cc)
+    window_node (Eventually p a b a_in b_in) w e h r =
+        same_window (tree_of at i (Eventually p a b a_in b_in)) (ahead p a b a_in b_in true) w e
+        (ahead_has (tree_of at i (Eventually p a b a_in b_in)) p a b a_in b_in true h r (eventually_looks (at p) tr a a_in b_in b))
+    window_node (Always p a b a_in b_in) w e h r =
+        same_window (tree_of at i (Always p a b a_in b_in)) (ahead p a b a_in b_in false) w e
+        (ahead_has (tree_of at i (Always p a b a_in b_in)) p a b a_in b_in false h r (always_looks (at p) tr a a_in b_in b))
+    window_node (Once p a b a_in b_in) w e h r =
+        same_window (tree_of at i (Once p a b a_in b_in)) (behind p a b a_in b_in true) w e (once_has p a b a_in b_in h r)
+    window_node (Historically p a b a_in b_in) w e h r =
+        same_window (tree_of at i (Historically p a b a_in b_in)) (behind p a b a_in b_in false) w e (historically_has p a b a_in b_in h r)
+    window_node n w e h r = absurd (let x : kind_of n ≡ Over w = e in cc)

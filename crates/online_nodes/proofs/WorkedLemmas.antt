@@ -22,8 +22,8 @@ use Rattle.online_nodes.specs.Operators.{KnowsBy, front_place, kind_of, place_of
 use Rattle.online_nodes.specs.Truths.{Is, Tells, Truths}
 use Rattle.online_nodes.specs.Working.{HasWorked}
 use Rattle.online_nodes.specs.Written.{HasGot, waiting}
-use Rattle.online_nodes.specs.declared.join.Join.{Join}
-use Rattle.online_nodes.specs.declared.join.Join.TheVariants.{And as Conjunction, Or as Disjunction, Implies as Implication}
+use Rattle.stl_syntax.specs.declared.operator.Join.{Join}
+use Rattle.stl_syntax.specs.declared.operator.Join.TheVariants.{And as Conjunction, Or as Disjunction, Implies as Implication}
 use Rattle.online_nodes.specs.declared.join.Inputs.{Inputs}
 use Rattle.online_nodes.specs.declared.kind.Kind.TheVariants.{Const as Constant, Not as Negation, Join as Connective}
 use Rattle.online_nodes.specs.declared.operator.Operator.{Operator}

@@ -17,7 +17,7 @@ use Rattle.online_nodes.specs.Kinds.{IsNear}
 use Rattle.online_nodes.specs.declared.answering.Outcome.{Outcome}
 use Rattle.online_nodes.specs.declared.answering.Marks.{Marks}
 use Rattle.online_nodes.specs.declared.kind.Kind.{Kind}
-use Rattle.online_nodes.specs.declared.kind.Kind.TheVariants.{Const, Not, Join, Ahead, Behind, Until, Since}
+use Rattle.online_nodes.specs.declared.kind.Kind.TheVariants.{Const, Not, Join, Over, Until, Since}
 use Rattle.online_nodes.specs.declared.window.Window.{Window}
 use Rattle.online_nodes.specs.declared.writer.Out.{Out}
 
@@ -26,8 +26,7 @@ abbrev pub IsInput : Kind → ℕ → Type 0
 IsInput (Const b) j = ⊥
 IsInput (Not p) j = p ≡ j
 IsInput (Join join inputs) j = (inputs.left ≡ j) ⊎ (inputs.right ≡ j)
-IsInput (Ahead w) j = w.of ≡ j
-IsInput (Behind w) j = w.of ≡ j
+IsInput (Over w) j = w.of ≡ j
 IsInput (Until u) j = (u.window.of ≡ j) ⊎ (u.right ≡ j)
 IsInput (Since s) j = (s.window.of ≡ j) ⊎ (s.right ≡ j)
 
@@ -36,8 +35,7 @@ abbrev pub IsOperand : Kind → Bool → ℕ → Type 0
 IsOperand (Not p) true j = p ≡ j
 IsOperand (Join join inputs) true j = inputs.left ≡ j
 IsOperand (Join join inputs) false j = inputs.right ≡ j
-IsOperand (Ahead w) true j = w.of ≡ j
-IsOperand (Behind w) true j = w.of ≡ j
+IsOperand (Over w) true j = w.of ≡ j
 IsOperand (Until u) true j = u.window.of ≡ j
 IsOperand (Until u) false j = u.right ≡ j
 IsOperand (Since s) true j = s.window.of ≡ j
@@ -67,8 +65,7 @@ abbrev pub CanAnswer : Kind → Held → ℕ → Marks → Type 0
 CanAnswer (Const b) e own marks = Unit {0}
 CanAnswer (Not p) e own marks = (p < length e.edges) × (p ≢ own)
 CanAnswer (Join join inputs) e own marks = HaveTwo inputs.left inputs.right e own
-CanAnswer (Ahead w) e own marks = CanSweep w e own
-CanAnswer (Behind w) e own marks = CanSweep w e own
+CanAnswer (Over w) e own marks = CanSweep w e own
 CanAnswer (Until u) e own marks =
     HaveTwo u.window.of u.right e own × ((k : ℕ) (v : Verdict) → slice_get (fresh_at e u.window.of) k ≡ Some v → FitsIn u.window v)
     × ((k : ℕ) (v : Verdict) → slice_get (fresh_at e u.right) k ≡ Some v → FitsIn u.window v)
@@ -96,8 +93,7 @@ abbrev pub HasBody : Kind → Held → Held → Out → Marks → Outcome → Ty
 HasBody (Const b) old new out marks a = HasToldAll old new b out marks a
 HasBody (Not p) old new out marks a = HasNegated old new p out a.out × (a.marks ≡ marks)
 HasBody (Join join inputs) old new out marks a = HasJoined old new join inputs out a.out × (a.marks ≡ marks)
-HasBody (Ahead w) old new out marks a = HasSweptAll w old new out marks a
-HasBody (Behind w) old new out marks a = HasSweptAll w old new out marks a
+HasBody (Over w) old new out marks a = HasSweptAll w old new out marks a
 HasBody (Until u) old new out marks a =
     HasUntilTold old new u (record { out = out; reach = marks.reach }) (record { out = a.out; reach = a.marks.reach }) × (a.marks.run ≡ marks.run)
 HasBody (Since s) old new out marks a =
@@ -129,8 +125,7 @@ abbrev pub looks_by : Kind → Bool → ℤ
 looks_by (Const b) left = pos 0
 looks_by (Not p) left = pos 0
 looks_by (Join join inputs) left = pos 0
-looks_by (Ahead w) left = neg_ℤ w.end_by
-looks_by (Behind w) left = neg_ℤ (back_by w)
+looks_by (Over w) left = neg_ℤ (back_by w)
 looks_by (Until u) true = pos 0
 looks_by (Until u) false = neg_ℤ u.window.end_by
 looks_by (Since s) left = neg_ℤ (back_by s.window)
@@ -165,7 +160,6 @@ abbrev pub CanRelease : Kind → Held → Type 0
 CanRelease (Const b) e = Unit {0}
 CanRelease (Not p) e = p < length e.edges
 CanRelease (Join join inputs) e = (inputs.left < length e.edges) × (inputs.right < length e.edges) × (inputs.left ≢ inputs.right)
-CanRelease (Ahead w) e = (w.of < length e.edges) × AreNearEnds w
-CanRelease (Behind w) e = (w.of < length e.edges) × AreNearEnds w
+CanRelease (Over w) e = (w.of < length e.edges) × AreNearEnds w
 CanRelease (Until u) e = (u.window.of < length e.edges) × (u.right < length e.edges) × (u.window.of ≢ u.right) × AreNearEnds u.window
 CanRelease (Since s) e = (s.window.of < length e.edges) × (s.right < length e.edges) × (s.window.of ≢ s.right) × AreNearEnds s.window

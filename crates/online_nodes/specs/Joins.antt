@@ -12,8 +12,8 @@ use Rattle.online_nodes.specs.Held.{Held, fresh_at}
 use Rattle.online_nodes.specs.Truths.{Is, Tells}
 use Rattle.online_nodes.specs.Written.{HasTold, IsSound}
 use Rattle.online_nodes.specs.Working.{HasWorked}
-use Rattle.online_nodes.specs.declared.join.Join.{Join}
-use Rattle.online_nodes.specs.declared.join.Join.TheVariants.{And, Or, Implies}
+use Rattle.stl_syntax.specs.declared.operator.Join.{Join}
+use Rattle.stl_syntax.specs.declared.operator.Join.TheVariants.{And, Or, Implies}
 use Rattle.online_nodes.specs.declared.join.Inputs.{Inputs}
 use Rattle.online_nodes.specs.declared.writer.Out.{Out}
 

@@ -3,15 +3,14 @@ use Rattle.std.specs.Prelude.{ℕ, ◌+◌, ◌<◌, Bool, true, false, ◌&&◌
 use Rattle.online_nodes.specs.Network.{least, moved_by, same_front}
 use Rattle.online_nodes.specs.Held.{Held, held_at, number_at}
 use Rattle.online_nodes.specs.declared.kind.Kind.{Kind}
-use Rattle.online_nodes.specs.declared.kind.Kind.TheVariants.{Const, Not, Join, Ahead, Behind, Until, Since}
+use Rattle.online_nodes.specs.declared.kind.Kind.TheVariants.{Const, Not, Join, Over, Until, Since}
 
 -- the inputs' places, the left one first
 abbrev pub inputs_of : Kind → List ℕ
 inputs_of (Const b) = []
 inputs_of (Not p) = p ∷ []
 inputs_of (Join join inputs) = inputs.left ∷ inputs.right ∷ []
-inputs_of (Ahead w) = w.of ∷ []
-inputs_of (Behind w) = w.of ∷ []
+inputs_of (Over w) = w.of ∷ []
 inputs_of (Until u) = u.window.of ∷ u.right ∷ []
 inputs_of (Since s) = s.window.of ∷ s.right ∷ []
 
@@ -20,8 +19,7 @@ abbrev pub keeps_marks : Kind → Bool
 keeps_marks (Const b) = false
 keeps_marks (Not p) = false
 keeps_marks (Join join inputs) = false
-keeps_marks (Ahead w) = true
-keeps_marks (Behind w) = true
+keeps_marks (Over w) = true
 keeps_marks (Until u) = true
 keeps_marks (Since s) = true
 
@@ -30,8 +28,7 @@ abbrev pub AreInputs : Kind → ℕ → Type 0
 AreInputs (Const b) n = Unit {0}
 AreInputs (Not p) n = p < n
 AreInputs (Join join inputs) n = (inputs.left < n) × (inputs.right < n)
-AreInputs (Ahead w) n = w.of < n
-AreInputs (Behind w) n = w.of < n
+AreInputs (Over w) n = w.of < n
 AreInputs (Until u) n = (u.window.of < n) × (u.right < n)
 AreInputs (Since s) n = (s.window.of < n) × (s.right < n)
 
@@ -47,8 +44,7 @@ abbrev pub AreNear : Kind → Held → Type 0
 AreNear (Const b) e = Unit {0}
 AreNear (Not p) e = Unit {0}
 AreNear (Join join inputs) e = Unit {0}
-AreNear (Ahead w) e = HasNear e w.of × IsNear w.begin_by
-AreNear (Behind w) e = HasNear e w.of × IsNear w.begin_by
+AreNear (Over w) e = HasNear e w.of × IsNear w.begin_by
 AreNear (Until u) e = HasNear e u.window.of × HasNear e u.right × IsNear u.window.begin_by
 AreNear (Since s) e = HasNear e s.right × IsNear s.window.begin_by
 
@@ -62,8 +58,7 @@ abbrev pub open_by : Kind → Held → ℕ → Option ℤ
 open_by (Const b) e now = Some (pos now)
 open_by (Not p) e now = number_at e p
 open_by (Join join inputs) e now = least (number_at e inputs.left) (number_at e inputs.right)
-open_by (Ahead w) e now = moved_by w.begin_by (number_at e w.of)
-open_by (Behind w) e now = least (moved_by w.begin_by (number_at e w.of)) (Some (pos now))
+open_by (Over w) e now = least (moved_by w.begin_by (number_at e w.of)) (Some (pos now))
 open_by (Until u) e now = moved_by u.window.begin_by (least (number_at e u.window.of) (number_at e u.right))
 open_by (Since s) e now = least (number_at e s.window.of) (moved_by s.window.begin_by (number_at e s.right))
 

@@ -21,7 +21,7 @@ use Rattle.online_nodes.specs.Truths.{Looks, IsUntilOf, IsSinceOf, KnowsUntil, K
 use Rattle.online_nodes.specs.Sweeps.{Counted}
 use Rattle.online_nodes.specs.Joins.{IsJoinOf}
 use Rattle.online_nodes.specs.Negations.{IsNotOf}
-use Rattle.online_nodes.specs.declared.join.Join.TheVariants.{And, Or, Implies}
+use Rattle.stl_syntax.specs.declared.operator.Join.TheVariants.{And, Or, Implies}
 
 -- the time moved by k, before or after it
 abbrev pub place_at : ℤ → Bool → Rational → Place

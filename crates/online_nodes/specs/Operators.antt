@@ -42,14 +42,20 @@ use Rattle.rational.specs.Places.{Place, begins, ends, After, Upto, AtMost, Befo
 use Rattle.online_nodes.specs.Held.{Held, fresh_at, number_at}
 use Rattle.online_nodes.specs.Truths.{Knows, KnowsUntil, KnowsSince}
 use Rattle.online_nodes.specs.Sweeps.{Counted, low_place, high_place}
-use Rattle.online_nodes.specs.declared.join.Join.TheVariants.{And as Conjunction, Or as Disjunction, Implies as Implication}
+use Rattle.stl_syntax.specs.declared.operator.Join.TheVariants.{And as Conjunction, Or as Disjunction, Implies as Implication}
+use Rattle.stl_syntax.specs.declared.operator.Asks.{Asks}
+use Rattle.stl_syntax.specs.declared.operator.Asks.TheVariants.{Any, Each}
+use Rattle.stl_syntax.specs.declared.operator.Offsets.{Offsets}
+use Rattle.stl_syntax.specs.declared.operator.View.{View}
+use Rattle.stl_syntax.specs.declared.operator.View.TheVariants as V
+use Rattle.stl_syntax.specs.declared.operator.Way.{Way}
+use Rattle.stl_syntax.specs.declared.operator.Way.TheVariants as W
 use Rattle.online_nodes.specs.declared.kind.Kind.{Kind}
 use Rattle.online_nodes.specs.declared.kind.Kind.TheVariants.{
   Const as Constant,
   Not as Negation,
   Join as Connective,
-  Ahead,
-  Behind,
+  Over,
   Until as UntilOf,
   Since as SinceOf,
 }
@@ -71,6 +77,33 @@ upper (Some b) = pos b
 abbrev pub behind : ℕ → ℕ → Option ℕ → Bool → Bool → Bool → Window
 behind p a b a_in b_in seeks = record { of = p; begin_by = pos a; begin_in = a_in; end_by = upper b; end_in = b_in; seeks = seeks }
 
+-- the window of an operator that looks at its operand over these offsets
+abbrev pub end_by : Option ℤ → ℤ
+end_by None = pos 8589934592
+end_by (Some k) = neg_ℤ k
+
+abbrev pub window_by : ℕ → Offsets → Bool → Window
+window_by p w seeks = record { of = p; begin_by = neg_ℤ w.high; begin_in = w.high_in; end_by = end_by w.low; end_in = w.low_in; seeks = seeks }
+
+-- which truth of its operand it seeks
+abbrev pub seeks_of : Asks → Bool
+seeks_of Any = true
+seeks_of Each = false
+
+-- what an until or a since does
+abbrev pub reach_by : Way → Window → ℕ → Kind
+reach_by W.Until w q = UntilOf (record { window = w; right = q })
+reach_by W.Since w q = SinceOf (record { window = w; right = q })
+
+-- what the operator of a view does
+abbrev pub kind_by : View → Kind
+kind_by (V.Const b) = Constant b
+kind_by V.Atom = Constant false
+kind_by (V.Not p) = Negation p
+kind_by (V.Two join p q) = Connective join (record { left = p; right = q })
+kind_by (V.Over asks w p) = Over (window_by p w (seeks_of asks))
+kind_by (V.Reach way w p q) = reach_by way (window_by p w true) q
+
 -- what the operator of a node does
 abbrev pub kind_of : Node → Kind
 kind_of (Const b) = Constant b
@@ -80,11 +113,11 @@ kind_of (And p q) = Connective Conjunction (record { left = p; right = q })
 kind_of (Or p q) = Connective Disjunction (record { left = p; right = q })
 kind_of (Implies p q) = Connective Implication (record { left = p; right = q })
 kind_of (Until p q a b) = UntilOf (record { window = ahead p a b true true true; right = q })
-kind_of (Eventually p a b a_in b_in) = Ahead (ahead p a b a_in b_in true)
-kind_of (Always p a b a_in b_in) = Ahead (ahead p a b a_in b_in false)
+kind_of (Eventually p a b a_in b_in) = Over (ahead p a b a_in b_in true)
+kind_of (Always p a b a_in b_in) = Over (ahead p a b a_in b_in false)
 kind_of (Since p q a b) = SinceOf (record { window = behind p a b true true true; right = q })
-kind_of (Once p a b a_in b_in) = Behind (behind p a b a_in b_in true)
-kind_of (Historically p a b a_in b_in) = Behind (behind p a b a_in b_in false)
+kind_of (Once p a b a_in b_in) = Over (behind p a b a_in b_in true)
+kind_of (Historically p a b a_in b_in) = Over (behind p a b a_in b_in false)
 
 -- just after a number; before every row, where there is none
 abbrev pub place_of : Option ℤ → Place
@@ -135,9 +168,7 @@ abbrev pub KnowsBy : Kind → List Node → Trace → Held → Place → Place �
 KnowsBy (Constant b) nodes tr e at reach run = Unit {0}
 KnowsBy (Negation p) nodes tr e at reach run = AtMost (read_upto e p) at
 KnowsBy (Connective join inputs) nodes tr e at reach run = AtMost (read_upto e inputs.left) at × AtMost (read_upto e inputs.right) at
-KnowsBy (Ahead w) nodes tr e at reach run =
-    Knows w.seeks (Counted w.seeks (subformula nodes w.of) tr) (low_place w) (high_place w) at reach (read_upto e w.of) (front_place e w.of)
-KnowsBy (Behind w) nodes tr e at reach run =
+KnowsBy (Over w) nodes tr e at reach run =
     Knows w.seeks (Counted w.seeks (subformula nodes w.of) tr) (low_place w) (high_place w) at reach (read_upto e w.of) (front_place e w.of)
 KnowsBy (UntilOf u) nodes tr e at reach run =
     IsUntilKnown (subformula nodes u.window.of) (subformula nodes u.right) tr u at reach (read_upto e u.window.of) (read_upto e u.right)

@@ -19,7 +19,7 @@ use Rattle.online_nodes.specs.Sinces.{IsSpent}
 use Rattle.online_nodes.specs.Sweeps.{CountsBeyond}
 use Rattle.online_nodes.specs.Written.{HasTold, IsSound, waiting}
 use Rattle.online_nodes.specs.declared.kind.Kind.{Kind}
-use Rattle.online_nodes.specs.declared.kind.Kind.TheVariants.{Ahead, Behind, Since}
+use Rattle.online_nodes.specs.declared.kind.Kind.TheVariants.{Over, Since}
 use Rattle.online_nodes.specs.declared.operator.Operator.{Operator}
 use Rattle.online_nodes.specs.declared.answering.Outcome.{Outcome}
 
@@ -73,8 +73,7 @@ pub record IsBegun (x : Situation) (op : Operator) (work : Outcome) : Type 0 whe
 -- what a window with a time in it has not read counts only after the stretch that ends there; of the inputs of since the left one's next
 -- verdict ends after it, and so does the right one's, moved by the window, or the run begins no earlier than there
 abbrev pub LeavesLater : Kind → Held → Place → Place → Type 0
-LeavesLater (Ahead w) e to run = is_empty w ≡ false → CountsBeyond e w to
-LeavesLater (Behind w) e to run = is_empty w ≡ false → CountsBeyond e w to
+LeavesLater (Over w) e to run = is_empty w ≡ false → CountsBeyond e w to
 LeavesLater (Since s) e to run =
     ((v : Verdict) → slice_get (fresh_at e s.window.of) 0 ≡ Some v → Before to (ends (interval v.on))) × IsSpent s (fresh_at e s.right) to run
 LeavesLater k e to run = Unit {0}

@@ -171,7 +171,7 @@ fn plain_body(edges: &mut Edges, kind: &Kind, out: Out) -> Result<Out, Memory>
             let end = connect(edges, *join, *inputs, out)?;
             Ok(end)
         }
-        Kind::Ahead(_) | Kind::Behind(_) | Kind::Until(_) | Kind::Since(_) => unreachable!(),
+        Kind::Over(_) | Kind::Until(_) | Kind::Since(_) => unreachable!(),
     }
 }
 
@@ -186,7 +186,7 @@ fn body(edges: &mut Edges, kind: Kind, out: Out, marks: Marks) -> Result<Outcome
     ensures memory { OnErr result (edges.old.spare < 2 * held_in edges.old (inputs_of kind) + 2) }
 {
     match kind {
-        Kind::Ahead(window) | Kind::Behind(window) => {
+        Kind::Over(window) => {
             let told = sweep_all(edges, window, out, marks)?;
             Ok(told)
         }
@@ -273,8 +273,7 @@ pub(crate) fn release(edges: &mut Edges, kind: Kind, front: i64)
         Kind::Const(_) => {}
         Kind::Not(of) => edges.drop_by(of, front),
         Kind::Join(_, inputs) => release_two(edges, inputs.left, front, inputs.right, front),
-        Kind::Ahead(window) => edges.drop_by(window.of, earlier_by(front, window.end_by)),
-        Kind::Behind(window) => edges.drop_by(window.of, earlier_by(front, window.back())),
+        Kind::Over(window) => edges.drop_by(window.of, earlier_by(front, window.back())),
         Kind::Until(until) => {
             let right_by = earlier_by(front, until.window.end_by);
             release_two(edges, until.window.of, front, until.right, right_by)

@@ -11,26 +11,16 @@ ghost use Rattle.online_nodes.specs.Joins.{joined, HasFilled, HasJoined, HasPaus
 use crate::edges::Edges;
 use crate::writer::Out;
 use frac128::{Cut, Memory};
-use stl_syntax::Verdict;
+use stl_syntax::{Join, Verdict};
 
-/// A connective of two inputs.
-#[derive(Clone, Copy)]
-pub(crate) enum Join {
-    And,
-    Or,
-    Implies,
-}
-
-impl Join {
-    /// Its truth by those of its inputs.
-    fn of(self, left: bool, right: bool) -> bool
-        ensures { result ≡ joined self left right }
-    {
-        match self {
-            Join::And => left && right,
-            Join::Or => left || right,
-            Join::Implies => !left || right,
-        }
+/// The truth of a connective by those of its inputs.
+fn joined(join: Join, left: bool, right: bool) -> bool
+    ensures { result ≡ joined join left right }
+{
+    match join {
+        Join::And => left && right,
+        Join::Or => left || right,
+        Join::Implies => !left || right,
     }
 }
 
@@ -68,7 +58,7 @@ fn read_first(
 {
     let v_end = Cut::end(&v.on);
     let w_end = Cut::end(&w.on);
-    let holds = join.of(v.holds, w.holds);
+    let holds = joined(join, v.holds, w.holds);
     if w_end.precedes(&v_end) {
         if !w_end.precedes(&out.end()) {
             return Ok(None);
@@ -123,7 +113,7 @@ fn read_together(
     if !end.precedes(&out.end()) {
         return Ok(None);
     }
-    let next = out.upto_within(edges, join.of(v.holds, w.holds), end)?;
+    let next = out.upto_within(edges, joined(join, v.holds, w.holds), end)?;
     let _ = edges.pass(inputs.left);
     let _ = edges.pass(inputs.right);
     Ok(Some(next))
@@ -176,7 +166,7 @@ fn end_join(edges: &mut Edges, join: Join, inputs: Inputs, out: Out) -> Result<O
     let Some(w) = edges.next(inputs.right) else {
         return Ok(out);
     };
-    let end = out.upto(edges, join.of(v.holds, w.holds), out.end())?;
+    let end = out.upto(edges, joined(join, v.holds, w.holds), out.end())?;
     Ok(end)
 }
 

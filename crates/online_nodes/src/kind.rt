@@ -3,16 +3,16 @@
 ghost use Rattle.std.specs.Prelude.{◌≡◌, ◌≤ℤ◌, ◌+◌, ◌*◌, ◌<◌, ◌^◌, ◌-◌, min, length, negsuc, pos, IfSome, Some};
 ghost use Rattle.online_nodes.specs.Network.{least, moved_by, same_front};
 ghost use Rattle.online_nodes.specs.Held.{Held, held_at, number_at};
-ghost use Rattle.online_nodes.specs.Operators.{ahead, behind, kind_of};
-ghost use Rattle.online_nodes.specs.declared.kind.Kind.TheVariants.{Join as Connective};
+ghost use Rattle.stl_syntax.specs.Views.{IsNear as IsNearBy, IsNearView};
+ghost use Rattle.online_nodes.specs.Operators.{kind_by, kind_of, reach_by, seeks_of, window_by};
 ghost use Rattle.online_nodes.specs.Kinds.{allowed_by, all_stand_at, held_in, keeps_marks, open_by, inputs_of, AreInputs, AreNear};
 
 use crate::edges::Edges;
-use crate::join::{Inputs, Join};
+use crate::join::Inputs;
 use crate::since::Since;
 use crate::until::Until;
 use crate::window::Window;
-use stl_syntax::Node;
+use stl_syntax::{Asks, Join, Node, Offsets, View, Way};
 
 /// What an operator does with its inputs.
 #[derive(Clone, Copy)]
@@ -20,121 +20,73 @@ pub(crate) enum Kind {
     Const(bool),
     Not(u32),
     Join(Join, Inputs),
-    /// A window of the future.
-    Ahead(Window),
-    /// A window of the past.
-    Behind(Window),
+    Over(Window),
     Until(Until),
     Since(Since),
 }
 
-/// Later than every row: so long counts what a window of the past with no upper bound found.
+/// Later than every row: so long counts what a window that has no beginning found.
 pub(crate) const FOR_EVER: i64 = 8_589_934_592;
 
-/// The window of a node that looks ahead for a time at which its input holds or fails, as `seeks` says.
-fn ahead_of(of: u32, low: u32, high: u32, low_in: bool, high_in: bool, seeks: bool) -> Window
-    ensures { result ≡ ahead of low high low_in high_in seeks }
+/// The window of an operator that looks at its operand over these offsets, for a time at which it holds or fails, as `seeks` says.
+fn window_of(of: u32, w: &Offsets, seeks: bool) -> Window
+    requires { IsNearBy w.now }
+    ensures { result ≡ window_by of w.now seeks }
 {
-    Window {
-        of,
-        begin_by: -i64::from(high),
-        begin_in: high_in,
-        end_by: -i64::from(low),
-        end_in: low_in,
-        seeks,
-    }
-}
-
-/// The window of a node that looks behind.
-fn behind_of(
-    of: u32,
-    low: u32,
-    high: Option<u32>,
-    low_in: bool,
-    high_in: bool,
-    seeks: bool,
-) -> Window
-    ensures { result ≡ behind of low high low_in high_in seeks }
-{
-    let end_by = match high {
-        Some(high) => i64::from(high),
+    let end_by = match w.low {
+        Some(low) => -low,
         None => FOR_EVER,
     };
     Window {
         of,
-        begin_by: i64::from(low),
-        begin_in: low_in,
+        begin_by: -w.high,
+        begin_in: w.high_in,
         end_by,
-        end_in: high_in,
+        end_in: w.low_in,
         seeks,
     }
 }
 
-/// A connective of these two inputs.
-fn join_of(join: Join, left: u32, right: u32) -> Kind
-    ensures { result ≡ Connective join (record { left = left; right = right }) }
+/// Which truth of its operand a window seeks.
+fn seeks_of(asks: Asks) -> bool
+    ensures { result ≡ seeks_of asks }
 {
-    Kind::Join(join, Inputs { left, right })
+    match asks {
+        Asks::Any => true,
+        Asks::Each => false,
+    }
 }
 
-/// What the operator of a node does. Atoms have none; theirs says false.
+/// What the operator of an until or a since does.
+fn kind_of_reach(way: Way, window: Window, right: u32) -> Kind
+    ensures { result ≡ reach_by way window right }
+{
+    match way {
+        Way::Until => Kind::Until(Until { window, right }),
+        Way::Since => Kind::Since(Since { window, right }),
+    }
+}
+
+/// What the operator of a view does. Atoms have none; theirs says false.
+fn kind_of_view(view: View) -> Kind
+    requires { IsNearView view }
+    ensures { result ≡ kind_by view }
+{
+    match view {
+        View::Const(holds) => Kind::Const(holds),
+        View::Atom => Kind::Const(false),
+        View::Not(of) => Kind::Not(of),
+        View::Two(join, left, right) => Kind::Join(join, Inputs { left, right }),
+        View::Over(asks, w, of) => Kind::Over(window_of(of, &w, seeks_of(asks))),
+        View::Reach(way, w, left, right) => kind_of_reach(way, window_of(left, &w, true), right),
+    }
+}
+
+/// What the operator of a node does.
 pub(crate) fn kind_of_node(node: &Node) -> Kind
     ensures { result ≡ kind_of node.now }
 {
-    match node {
-        Node::Const(holds) => Kind::Const(*holds),
-        Node::Atom(_) => Kind::Const(false),
-        Node::Not(of) => Kind::Not(*of),
-        Node::And(left, right) => join_of(Join::And, *left, *right),
-        Node::Or(left, right) => join_of(Join::Or, *left, *right),
-        Node::Implies(left, right) => join_of(Join::Implies, *left, *right),
-        Node::Until {
-            left,
-            right,
-            low,
-            high,
-        } => Kind::Until(Until {
-            window: ahead_of(*left, *low, *high, true, true, true),
-            right: *right,
-        }),
-        Node::Eventually {
-            of,
-            low,
-            high,
-            low_in,
-            high_in,
-        } => Kind::Ahead(ahead_of(*of, *low, *high, *low_in, *high_in, true)),
-        Node::Always {
-            of,
-            low,
-            high,
-            low_in,
-            high_in,
-        } => Kind::Ahead(ahead_of(*of, *low, *high, *low_in, *high_in, false)),
-        Node::Since {
-            left,
-            right,
-            low,
-            high,
-        } => Kind::Since(Since {
-            window: behind_of(*left, *low, *high, true, true, true),
-            right: *right,
-        }),
-        Node::Once {
-            of,
-            low,
-            high,
-            low_in,
-            high_in,
-        } => Kind::Behind(behind_of(*of, *low, *high, *low_in, *high_in, true)),
-        Node::Historically {
-            of,
-            low,
-            high,
-            low_in,
-            high_in,
-        } => Kind::Behind(behind_of(*of, *low, *high, *low_in, *high_in, false)),
-    }
+    kind_of_view(node.view())
 }
 
 /// The lesser of two numbers; nothing where one is nothing.
@@ -183,7 +135,7 @@ impl Kind {
     {
         match self {
             Kind::Const(_) | Kind::Not(_) | Kind::Join(_, _) => false,
-            Kind::Ahead(_) | Kind::Behind(_) | Kind::Until(_) | Kind::Since(_) => true,
+            Kind::Over(_) | Kind::Until(_) | Kind::Since(_) => true,
         }
     }
 
@@ -195,8 +147,7 @@ impl Kind {
         match self {
             Kind::Const(_) => true,
             Kind::Not(of) => stands_at(edges.number(of), now),
-            Kind::Ahead(window) => stands_at(edges.number(window.of), now),
-            Kind::Behind(window) => stands_at(edges.number(window.of), now),
+            Kind::Over(window) => stands_at(edges.number(window.of), now),
             Kind::Join(_, inputs) => {
                 stands_at(edges.number(inputs.left), now)
                     && stands_at(edges.number(inputs.right), now)
@@ -225,8 +176,7 @@ impl Kind {
             Kind::Join(_, inputs) => {
                 least_of(edges.number(inputs.left), edges.number(inputs.right))
             }
-            Kind::Ahead(window) => moved(edges.number(window.of), window.begin_by),
-            Kind::Behind(window) => {
+            Kind::Over(window) => {
                 least_of(moved(edges.number(window.of), window.begin_by), last)
             }
             Kind::Until(until) => {
@@ -260,8 +210,7 @@ impl Kind {
         let held = match self {
             Kind::Const(_) => 0,
             Kind::Not(of) => edges.held(of),
-            Kind::Ahead(window) => edges.held(window.of),
-            Kind::Behind(window) => edges.held(window.of),
+            Kind::Over(window) => edges.held(window.of),
             Kind::Join(_, inputs) => both_held(edges, inputs.left, inputs.right),
             Kind::Until(until) => both_held(edges, until.window.of, until.right),
             Kind::Since(since) => both_held(edges, since.window.of, since.right),

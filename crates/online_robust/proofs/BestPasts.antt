@@ -11,8 +11,6 @@ use Rattle.rational.proofs.Shift.{lt_whole}
 use Rattle.rational.proofs.WindowLemmas.{inf_over_alike, sup_over_alike}
 use Rattle.pl_signal.specs.declared.joining.Side.{Side}
 use Rattle.pl_signal.specs.declared.joining.Side.TheVariants.{Least, Greatest}
-use Rattle.window_ops.proofs.AheadOver.{shifted_pos}
-use Rattle.window_ops.proofs.BehindOver.{back_before, before_back, none_so_far}
 use Rattle.stl_syntax.specs.Trace.{Trace, start, stop}
 use Rattle.stl_syntax.specs.Formula.{Subformula, tree_of}
 use Rattle.stl_syntax.specs.SupInf.{Robustness, margin_setting}
@@ -21,9 +19,9 @@ use Rattle.stl_syntax.specs.declared.node.Node.{Node}
 use Rattle.stl_syntax.specs.declared.node.Node.TheVariants as N
 use Rattle.online_nodes.specs.StreamedWide.{BehindConstant, IsSettledConstant, front_at}
 use Rattle.online_robust.specs.Standing.{IsPastOf, past_window}
-use Rattle.online_robust.specs.Windows.{Holds, InPlayOver}
-use Rattle.online_robust.specs.declared.window.Window.{Window}
-use Rattle.online_robust.proofs.BestWindows.{SettledOver, best_over}
+use Rattle.online_robust.specs.Windows.{Holds, InPlayOver, SettledOver, best_over}
+use Rattle.online_robust.specs.declared.slide.Window.{Window}
+use Rattle.online_robust.proofs.MovedTimes.{back_before, before_back, none_so_far, shifted_pos}
 
 -- ---- times in a window
 

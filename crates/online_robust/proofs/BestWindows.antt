@@ -3,17 +3,14 @@ use Rattle.std.proofs.Common.{◌≡◌, inl, inr, ℕ, Bool, true, false, sym, 
 use Rattle.std.specs.Prelude.{◌⊎◌, neg_ℤ}
 use Rattle.rational.specs.Time.{Rational, shifted, later, whole, ◌<ʳ◌}
 use Rattle.rational.specs.Extended.{Affine, Extended, minus_infinity, infinity}
-use Rattle.rational.specs.InPlay.{IsInPlay, IsLimitWithin, IsValueWithin, IsLeftLimit}
+use Rattle.rational.specs.InPlay.{IsInPlay, IsLeftLimit}
 use Rattle.rational.specs.InPlay.{IsRightLimit, window_ahead, window_behind}
 use Rattle.rational.specs.Windows.{Function, Ahead, Behind}
 use Rattle.rational.proofs.Order.{le_of_same, ge_of_same, lt_of_le_of_lt, lt_of_lt_of_le}
 use Rattle.rational.proofs.WindowLemmas.{inf_over_alike, sup_over_alike}
 use Rattle.pl_signal.specs.declared.joining.Side.{Side}
 use Rattle.pl_signal.specs.declared.joining.Side.TheVariants.{Least, Greatest}
-use Rattle.window_ops.specs.Over.{IsBestOver}
-use Rattle.window_ops.proofs.AheadOver.{shifted_pos}
 use Rattle.rational.proofs.TimeLemmas.{precedes_after, precedes_before}
-use Rattle.window_ops.proofs.BehindOver.{after_back, back_after, back_before, before_back}
 use Rattle.stl_syntax.specs.Trace.{Trace, start, stop}
 use Rattle.stl_syntax.specs.Formula.{Subformula, eventually, always, once, historically, tree_of}
 use Rattle.stl_syntax.specs.SupInf.{Robustness, margin_setting}
@@ -22,8 +19,9 @@ use Rattle.stl_syntax.specs.declared.node.Node.{Node}
 use Rattle.stl_syntax.specs.declared.node.Node.TheVariants as N
 use Rattle.online_nodes.specs.StreamedWide.{AheadConstant, BehindConstant, IsSettledConstant, front_at}
 use Rattle.online_robust.specs.Standing.{IsWindowOf, ahead_window, behind_window}
-use Rattle.online_robust.specs.Windows.{Holds, InPlayOver, closed}
-use Rattle.online_robust.specs.declared.window.Window.{Window}
+use Rattle.online_robust.specs.Windows.{Holds, InPlayOver, SettledOver, best_over}
+use Rattle.online_robust.specs.declared.slide.Window.{Window}
+use Rattle.online_robust.proofs.MovedTimes.{after_back, back_after, back_before, before_back, shifted_pos}
 
 -- ---- times in a window
 
@@ -49,9 +47,6 @@ module _ (from to : Rational) (p : ℕ) (side : Side) (a b : ℕ) (a_in b_in : B
   behind_holds h = record { inside = h.inside; begins = back_after b_in t u b h.begins; ends = back_before a_in t u a h.ends }
 
 -- ---- the best over the window
-
-abbrev pub best_over : Trace → Function → Window → Function
-best_over tr P w t r = IsBestOver w.side minus_infinity infinity (Holds (start tr) (stop tr) w t) P r
 
 -- it is the margin of the node
 pub best_is : (f : ℕ → Subformula) (place : ℕ) (n : Node) (w : Window) (tr : Trace) → IsWindowOf n w → (t : Rational) (r : Extended)
@@ -175,12 +170,6 @@ in_play_is f place (N.Until p q a b) w tr is tau line h = absurd is
 in_play_is f place (N.Since p q a b) w tr is tau line h = absurd is
 
 -- ---- constants that are settled
-
--- a constant that the input has at a breakpoint before a time is in play
-abbrev pub SettledOver : Function → Rational → Rational → Rational → Window → Rational → Affine → Type 0
-SettledOver P from to front w tau line =
-    IsValueWithin P from to (λ u. Holds from to w tau u × (u <ʳ front)) line
-    ⊎ IsLimitWithin P from to (λ u. Holds from to (closed w) tau u × (u <ʳ front)) (λ u. shifted tau w.low <ʳ u) (λ u. u <ʳ shifted tau w.high) line
 
 settled_ahead : (ended : Bool) (now : ℤ) (p : Subformula) (tr : Trace) {of : ℕ} {side : Side} (a b : ℕ) (a_in b_in : Bool) (tau : Rational) (line : Affine)
     → SettledOver (Robustness p tr) (start tr) (stop tr) (whole (front_at ended now p)) (ahead_window of side a b a_in b_in) tau line

@@ -1,6 +1,5 @@
 mod EdgesLemmas
 pub mod DroppingLemmas
-mod QueueLemmas
 mod Refusing
 mod GivenOut
 mod Growing
@@ -15,6 +14,7 @@ mod Idling
 pub mod Leaves
 mod LeafMoved
 mod Loops
+mod MovedTimes
 mod BestWindows
 mod Bridging
 mod NodesAtStart
@@ -29,48 +29,35 @@ pub mod LinesGone
 pub mod Robustly
 pub mod Builts
 pub mod Choosing
-pub mod WindowLaw
 pub mod PointwiseLemmas
 pub mod NotLemmas
 pub mod TwoLemmas
-pub mod Marks
-pub mod Spreads
-pub mod Outcomes
-pub mod HighLemmas
-pub mod FrozenLemmas
-pub mod LowLemmas
-pub mod WindowFits
-pub mod WindowStops
-pub mod WindowPoints
-pub mod WindowTurns
-pub mod WindowCore
-pub mod WindowSteps
-pub mod Sheddings
-pub mod WindowBounds
-pub mod WindowTelling
-pub mod WindowFirst
-pub mod Countdown
-mod Glancing
-mod Instants
-mod NodeLooks
-pub mod Silences
 mod WindowNodes
-mod WindowBridging
-mod WindowTurnings
-pub mod WaitBridging
-pub mod WaitPast
 mod FirstWindows
-mod GlanceBridging
-pub mod WindowCauses
-pub mod WindowFaults
-pub mod WindowRuns
-pub mod WindowAgain
-pub mod PastLemmas
-pub mod PastSteps
-pub mod PastAgain
 pub mod BestPasts
 pub mod PastNodes
-pub mod PastBridging
-pub mod PastTurnings
-pub mod LazyTurns
-pub mod EndlessTurns
+pub mod SlideChains
+pub mod SlideParts
+pub mod SlidePlays
+mod SlideNodes
+mod SlideCauses
+mod SlideTelling
+mod SlideTold
+mod SlideAgain
+mod SlideTaking
+pub mod SlideWhole
+mod NodeLooks
+mod SlideCuts
+mod SlideBridging
+mod SlideReady
+mod SlideTurns
+mod SlideAll
+mod SlideOn
+mod SlideLeft
+mod SlideFirst
+mod SlideRefused
+mod SlideMeets
+mod SlideGone
+mod SlideBest
+mod SlideStretch
+mod SlideSweeps

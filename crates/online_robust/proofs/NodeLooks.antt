@@ -1,5 +1,5 @@
 -- How far a node looks over an input, and what it leaves of the one that it reads.
-use Rattle.std.proofs.Common.{◌≡◌, ◌⊎◌, inl, inr, ℕ, Bool, true, false, refl, sym, ap, subst, ◌∙◌, arith, Some, ℤ, pos, ◌+ℤ◌, ◌<ℤ◌, ◌≤ℤ◌}
+use Rattle.std.proofs.Common.{◌≡◌, ◌⊎◌, inl, inr, ℕ, Bool, true, false, refl, sym, ap, subst, ◌∙◌, arith, Some, ℤ, pos, ◌+ℤ◌, ◌≤ℤ◌}
 use Rattle.std.proofs.lemmas.Int.{ints}
 use Rattle.std.proofs.lemmas.Option.{same_Some}
 use Rattle.rational.specs.Time.{Rational, shifted, whole, ◌≈◌, ◌≤ʳ◌}
@@ -13,9 +13,8 @@ use Rattle.online_nodes.specs.Needed.{IsReader}
 use Rattle.online_nodes.specs.StreamedWide.{front_at}
 use Rattle.online_robust.specs.Held.{Held, edge_at}
 use Rattle.online_robust.specs.Steps.{Step, Belongs, HasSwept, IsCut, back_of, begin_of}
-use Rattle.online_robust.specs.Windows.{Sheds}
+use Rattle.online_robust.specs.Slides.{Sheds}
 use Rattle.online_robust.specs.declared.operator.Operator.{Operator}
-use Rattle.online_robust.proofs.Bridging.{small_to}
 
 -- a whole time moved by an offset
 pub shifted_whole : (k j : ℤ) → shifted (whole k) j ≈ whole (k +ℤ j)
@@ -26,7 +25,7 @@ module _ (t : Step) (op : Operator) (e : Held) (to : ℕ) (b : Belongs t op e to
   front_of = front_at t.ended (pos t.now) (subformula t.nodes of)
 
   -- the input stands by the last row
-  front_by : front_of ≤ℤ pos t.now
+  pub front_by : front_of ≤ℤ pos t.now
   front_by = by_end t.ended
     where
       by_end : (c : Bool) → front_at c (pos t.now) (subformula t.nodes of) ≤ℤ pos t.now
@@ -89,15 +88,3 @@ module _ (t : Step) (op : Operator) (e : Held) (to : ℕ) (b : Belongs t op e to
           subst (λ k. whole k ≈ stop t.trace) (sym (at_now ended)) (at_stop ended),
           subst (λ k. whole k ≈ stop t.trace) (sym (to_now ended)) (at_stop ended),
         )
-
-    -- where the input has given out nothing, all that is looked at lies before the start
-    pub looks_before : front_of <ℤ pos (begin_of t) → (pos to +ℤ by) <ℤ pos (begin_of t)
-    looks_before lt = by_limit limit
-      where
-        by_limit : ((pos to +ℤ by) ≤ℤ front_of) ⊎ (t.ended ≡ true) → (pos to +ℤ by) <ℤ pos (begin_of t)
-        by_limit (inl le) = omega (arith, ints, le, lt)
-        by_limit (inr ended) =
-            let now = at_now ended in
-            let small = small_to t op e to b in
-            let from = b.from_start in
-            absurd (omega (arith, ints, now, small, from, lt))

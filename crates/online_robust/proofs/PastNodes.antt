@@ -13,7 +13,7 @@ use Rattle.online_robust.specs.Held.{Held, edge_at}
 use Rattle.online_robust.specs.Standing.{IsPastOf, past_window}
 use Rattle.online_robust.specs.Steps.{seen_by}
 use Rattle.online_robust.specs.Windows.{IsOwned}
-use Rattle.online_robust.specs.declared.window.Window.{Window}
+use Rattle.online_robust.specs.declared.slide.Window.{Window}
 
 -- what is so of the window's node
 pub record IsPastNode (f : ℕ → Subformula) (place : ℕ) (n : Node) (w : Window) : Type 0 where

@@ -1,20 +1,14 @@
 -- What is said of a refusal that is put beside an answer.
-use Rattle.std.proofs.Common.{◌≡◌, Option, Some, None, refl, sym, subst}
+use Rattle.std.proofs.Common.{◌≡◌, Option, Some, None, sym, subst}
 use Rattle.std.specs.Prelude.{IfSome}
 use Rattle.pl_signal.specs.declared.faults.WidePair.{WidePair}
 use Rattle.pl_signal.specs.declared.faults.OpFault.{OpFault}
 use Rattle.pl_signal.specs.declared.faults.OpFault.TheVariants as F
-use Rattle.pl_signal.specs.Faults.{IsKept}
 use Rattle.online_robust.specs.Refusing.{told_by}
 
 -- where nothing was put beside it tells want of memory
 pub memory_told : {P : Type 0} (Of : OpFault P → Type 0) (kept : Option (WidePair P)) → kept ≡ None → Of F.Memory → Of (told_by kept)
 memory_told Of kept none h = subst (λ o. Of (told_by o)) (sym none) h
-
--- what was put beside is what is kept of the fault that it tells
-pub told_kept : {P : Type 0} (kept : Option (WidePair P)) → IsKept (told_by kept) kept
-told_kept None = refl
-told_kept (Some pair) = refl
 
 -- what follows for each pair that was put beside, and holds of want of memory, holds of the fault that is told
 pub each_told : {P : Type 0} (Of : OpFault P → Type 0) (kept : Option (WidePair P)) {Has : WidePair P → Type 0} → Of F.Memory → IfSome kept Has

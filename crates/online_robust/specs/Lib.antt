@@ -1,6 +1,5 @@
 pub mod Lines
 pub mod Held
-pub mod Queues
 pub mod Told
 pub mod Standing
 pub mod Steps
@@ -12,9 +11,6 @@ pub mod Nets
 pub mod Lining
 pub mod ReadLines
 pub mod Couples
-pub mod Sweeping
 pub mod Windows
-pub mod WindowPasts
-pub mod Glances
-pub mod Waiting
+pub mod Slides
 pub mod Refusing

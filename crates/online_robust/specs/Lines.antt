@@ -2,7 +2,6 @@
 use Rattle.std.specs.Prelude.{◌≡◌, IsTrue}
 use Rattle.rational.specs.Rational.{Rational}
 use Rattle.rational.specs.Extended.{value_at, opposite, ◌≈ᵉ◌}
-use Rattle.rational.specs.Affine.{AreSame}
 use Rattle.frac128.specs.declared.frac.Frac.{Frac}
 use Rattle.value_laws.specs.Margins.{is_ramp, margin_base, margin_function}
 use Rattle.value_laws.specs.declared.margin.Margin.{Margin}
@@ -30,12 +29,3 @@ pub record IsNegated (old new : MarginLine) : Type 0 where
   pub at_once : AreAtOnce old new
   pub value : (t : Rational) → value_at (margin_function (margin_of new)) t ≈ᵉ opposite (value_at (margin_function (margin_of old)) t)
   pub base : IsTrue (is_ramp (margin_of new)) → IsTrue (is_ramp (margin_of old)) × (margin_base (margin_of new) ≡ margin_base (margin_of old))
-
--- the two have one value at the time
-abbrev pub IsOneValue : Margin → Margin → Rational → Type 0
-IsOneValue p q t = value_at (margin_function p) t ≈ᵉ value_at (margin_function q) t
-
--- the two gaps and the point between them, at the time, are of one function: the point is no knot
-pub record IsOneLine (before point after : Margin) (t : Rational) : Type 0 where
-  pub gaps : AreSame (margin_function before) (margin_function after)
-  pub there : IsOneValue before point t

@@ -179,17 +179,6 @@ impl Edges {
         self.pool.spare()
     }
 
-    /// The first part of an edge that its reader has not read.
-    pub(crate) fn next(&self, edge: u32) -> Option<MarginLine>
-        requires { edge < length self.now.edges }
-        ensures { result ≡ slice_get (fresh_at self.now edge) 0 }
-    {
-        match self.pool.front(2 * edge + 1) {
-            Some(v) => Some(*v),
-            None => None,
-        }
-    }
-
     /// The first part of an edge that its reader has not read, where it stands in the pool.
     pub(crate) fn unread(&self, edge: u32) -> Option<&MarginLine>
         requires { edge < length self.now.edges }
@@ -207,17 +196,6 @@ impl Edges {
         ensures spare { self.old.spare ≤ self.new.spare }
     {
         self.pool.pass(2 * edge + 1, 2 * edge);
-    }
-
-    /// The first part of an edge.
-    pub(crate) fn first(&self, edge: u32) -> Option<MarginLine>
-        requires { edge < length self.now.edges }
-        ensures { result ≡ slice_get (held_at self.now edge) 0 }
-    {
-        match self.pool.front(2 * edge) {
-            Some(v) => Some(*v),
-            None => self.next(edge),
-        }
     }
 
     /// The first part of an edge, read or not, where it stands in the pool.

@@ -13,17 +13,17 @@ ghost use Rattle.online_robust.specs.Firsts.{AreFirstStations};
 ghost use Rattle.online_nodes.specs.StreamedWide.{IsUnstreamed};
 ghost use Rattle.online_robust.specs.Pasts.{Past, shown_of, with_row, with_end};
 ghost use Rattle.online_robust.specs.Nets.{begun, CanGoByRow, CanGoByEnd, HasGone, IsFaultAt, IsGoFault, Passing};
+ghost use Rattle.online_robust.specs.Refusing.{told_by};
 ghost use Rattle.online_robust.specs.declared.line.MarginLine.{MarginLine as Line};
 
 use crate::edges::Edges;
 use crate::line::MarginLine;
 use crate::room::Room;
 use crate::station::{Station, from_start, work_of};
-use crate::window::refused;
 use atom_lines::Bound;
 use frac128::Memory;
 use offline_eval::WideCause;
-use pl_signal::OpFault;
+use pl_signal::{OpFault, WidePair};
 use std::alloc::Global;
 use std::marker::Model;
 use stl_syntax::{Formula, horizon_of};
@@ -74,6 +74,16 @@ impl Model for RobustNet {
       closed = n.closed;
       stopped = n.stopped;
     }) };
+}
+
+/// What was refused, or want of memory.
+fn refused(fault: Option<WidePair<Margin>>) -> OpFault<Margin>
+    ensures { result ≡ told_by fault }
+{
+    match fault {
+        Some(pair) => OpFault::Wide(pair),
+        None => OpFault::Memory,
+    }
 }
 
 /// The fault of a node.

@@ -1,20 +1,17 @@
 //! The operator of a node: what it keeps in mind of its inputs, and how it goes on.
-ghost use Rattle.std.specs.Prelude.{◌≡◌, ◌≤◌, ◌≤ℤ◌, if◌then◌else◌, false, IfOk, IfSome, MatchOption, OnOk, Some, None, OnErr};
-ghost use Rattle.stl_syntax.specs.WellFormed.{HasBounds, IsInOrder};
+ghost use Rattle.std.specs.Prelude.{◌≡◌, false, IfOk, IfSome, MatchOption, OnOk, Some, None, OnErr};
+ghost use Rattle.stl_syntax.specs.WellFormed.{HasBounds};
 ghost use Rattle.online_nodes.specs.StreamedWide.{IsUnstreamed};
-ghost use Rattle.online_robust.specs.Standing.{IsWindowOperator, ahead_window, behind_window, past_window};
-ghost use Rattle.online_robust.specs.Waiting.{endless_of};
+ghost use Rattle.online_robust.specs.Standing.{ahead_window, behind_window, past_window};
+ghost use Rattle.online_robust.specs.Slides.{slide_of};
 ghost use Rattle.online_robust.specs.declared.operator.Operator.TheVariants as Op;
 ghost use Rattle.online_robust.specs.Steps.{Step, Belongs, BelongsSomewhere, HasSwept, IsFirstOperator, IsStreamedFault, IsSwept, StandsNow};
 ghost use Rattle.online_robust.specs.Refusing.{told_by};
 
 use crate::edges::Edges;
-use crate::endless::Endless;
-use crate::glance::Moved;
-use crate::lazy::Lazy;
 use crate::pointwise::{Not, Two};
 use crate::room::Room;
-use crate::window::Window;
+use crate::slide::{Slide, Window};
 use frac128::{Frac, Memory};
 use pl_signal::{Side, Signal, WidePair};
 use stl_syntax::Node;
@@ -25,9 +22,7 @@ use value_laws::Margin;
 pub(crate) enum Operator {
     Not(Not),
     Two(Two),
-    Moved(Moved),
-    Sweep(Lazy),
-    Ever(Endless),
+    Slide(Slide),
 }
 
 /// A negation before anything was told.
@@ -50,65 +45,37 @@ fn two(left: u32, right: u32, side: Side, turned: bool) -> Option<Operator>
     }))
 }
 
-/// The operator of a window from one offset to another, each in or out: of a stretch, of one instant, or empty.
-fn window(of: u32, side: Side, low: i64, high: i64, low_in: bool, high_in: bool) -> Operator
-    requires { low ≤ℤ high }
-    ensures { IsWindowOperator (record { of = of; side = side; low = low; high = high; low_in = low_in; high_in = high_in }) result }
-{
-    if low < high {
-        return Operator::Sweep(Lazy::new(Window {
-            of,
-            side,
-            low,
-            high,
-            low_in,
-            high_in,
-        }));
-    }
-    Operator::Moved(Moved {
-        of,
-        side,
-        by: low,
-        inside: both(low_in, high_in),
-        last: None,
-    })
-}
-
 /// That of a window ahead.
 fn ahead(of: u32, side: Side, low: u32, high: u32, low_in: bool, high_in: bool) -> Operator
-    requires { low ≤ high }
-    ensures { IsWindowOperator (ahead_window of side low high low_in high_in) result }
+    ensures { result ≡ Op.Slide (slide_of (ahead_window of side low high low_in high_in)) }
 {
-    window(of, side, i64::from(low), i64::from(high), low_in, high_in)
+    Operator::Slide(Slide::new(Window {
+        of,
+        side,
+        low: i64::from(low),
+        high: i64::from(high),
+        low_in,
+        high_in,
+    }))
 }
 
-/// That of a window behind: without a low end where it has no far bound.
+/// That of a window behind: its low end lies before any time where it has no far bound.
 fn behind(of: u32, side: Side, low: u32, high: Option<u32>, low_in: bool, high_in: bool) -> Operator
-    requires { IsInOrder low high }
-    ensures { MatchOption high (result ≡ Op.Ever (endless_of (past_window of side low low_in)))
-        (λ b. IsWindowOperator (behind_window of side low b low_in high_in) result) }
+    ensures { MatchOption high (result ≡ Op.Slide (slide_of (past_window of side low low_in)))
+        (λ b. result ≡ Op.Slide (slide_of (behind_window of side low b low_in high_in))) }
 {
-    match high {
-        Some(high) => window(of, side, -i64::from(high), -i64::from(low), high_in, low_in),
-        None => Operator::Ever(Endless::new(Window {
-            of,
-            side,
-            low: -4294967296,
-            high: -i64::from(low),
-            low_in: true,
-            high_in: low_in,
-        })),
-    }
-}
-
-/// Whether both are in.
-fn both(low_in: bool, high_in: bool) -> bool
-    ensures { result ≡ (if low_in then high_in else false) }
-{
-    if low_in {
-        return high_in;
-    }
-    false
+    let (far, far_in) = match high {
+        Some(high) => (-i64::from(high), high_in),
+        None => (-4294967296, true),
+    };
+    Operator::Slide(Slide::new(Window {
+        of,
+        side,
+        low: far,
+        high: -i64::from(low),
+        low_in: far_in,
+        high_in: low_in,
+    }))
 }
 
 /// A negation goes on to a number.
@@ -148,28 +115,6 @@ fn sweep_two(
 {
     let end = Frac::of(i64::from(to));
     match two.sweep(room, edges, &end, fault) {
-        Ok(swept) => Ok(swept),
-        Err(Memory) => Err(Memory),
-    }
-}
-
-/// A window of one instant goes on to a number.
-fn sweep_moved(
-    moved: &mut Moved,
-    room: &mut Room,
-    edges: &mut Edges,
-    to: u32,
-) -> Result<Signal<Margin>, Memory>
-    requires { BelongsSomewhere (Op.Moved moved.old) edges.old to }
-    ensures told { (t : Step) → Belongs t (Op.Moved moved.old) edges.old to → IfOk result (IsSwept t to) }
-    ensures edges { (t : Step) → Belongs t (Op.Moved moved.old) edges.old to → OnOk result (HasSwept t edges.old edges.new to) }
-    ensures stands { (t : Step) → Belongs t (Op.Moved moved.old) edges.old to → OnOk result (StandsNow t (Op.Moved moved.new) edges.new to) }
-{
-    let Some(start) = edges.start() else {
-        unreachable!()
-    };
-    let end = Frac::of(i64::from(to));
-    match moved.sweep(room, edges, start, &end) {
         Ok(swept) => Ok(swept),
         Err(Memory) => Err(Memory),
     }
@@ -244,9 +189,7 @@ impl Operator {
         match self {
             Operator::Not(not) => sweep_not(not, room, edges, to),
             Operator::Two(two) => sweep_two(two, room, edges, to, fault),
-            Operator::Moved(moved) => sweep_moved(moved, room, edges, to),
-            Operator::Sweep(window) => window.sweep(room, edges, to, fault),
-            Operator::Ever(window) => window.sweep(room, edges, to, fault),
+            Operator::Slide(slide) => slide.sweep(room, edges, to, fault),
         }
     }
 }

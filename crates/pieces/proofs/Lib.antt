@@ -41,3 +41,4 @@ pub mod Following
 pub mod Stretches
 pub mod PlayAlong
 pub mod SignalChains
+pub mod LevelsLemmas

@@ -1,6 +1,7 @@
 pub mod Chains
 pub mod Building
 pub mod Joining
+pub mod Levels
 pub mod Negating
 pub mod Knots
 pub mod Sinces

@@ -6,6 +6,7 @@
 
 mod joining;
 pub mod laws;
+mod levels;
 mod negation;
 mod next;
 mod piece;

@@ -9,8 +9,9 @@ ghost use Rattle.pieces.specs.Over.{BasesAhead, BasesBehind, BasesOver, HasCause
 ghost use Rattle.pieces.specs.Windows.{AreNear, BestOver, InfAhead, InfBehind, IsSmall, SupAhead, SupBehind};
 
 use crate::Pieces;
+use crate::levels::{are_levels, over_levels};
 use crate::reach::Reach;
-use crate::window::over_window;
+use crate::window::{is_empty, over_window};
 use pl_signal::{OpFault, Side};
 use value_laws::Shape;
 
@@ -153,6 +154,9 @@ fn best_over<P: Shape>(side: Side, s: &Pieces<P>, over: Reach) -> Result<Pieces<
     let _ = s.len();
     if is_now(&over) {
         return Ok(s.copy()?);
+    }
+    if !is_empty(&over) && are_levels(s) {
+        return Ok(over_levels(side, s, over)?);
     }
     over_window(side, s, over)
 }

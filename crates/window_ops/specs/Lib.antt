@@ -1,3 +1,1 @@
 pub mod Conditions
-pub mod Over
-pub mod Going

@@ -13,8 +13,8 @@ give_up-requires-clause-inside g c =
     let old = c.args.done.now.items in
     let pushed : c.push.new.self.items ≡ old ++ c.args.chain ∷ [] = search (rules, c.push.ensures.items, c.if-is_err.false, c.is_err.ensures) in
     let longer = pushed_count old c.push.new.self.items c.args.chain (length old) refl pushed in
-    left_inside c.operands-left.result.0 c.operands-left.result.1 (children c.args.node.now) (length old) (length c.push.new.self.items)
-    c.operands-left.ensures c.requires.children (omega (arith, longer))
+    left_inside c.inputs-left.result.0 c.inputs-left.result.1 (children c.args.node.now) (length old) (length c.push.new.self.items)
+    c.inputs-left.ensures.all c.requires.children (omega (arith, longer))
 
 pub give_up-requires-2-clause-inside : goal.give_up-requires-2-clause-inside
 give_up-requires-2-clause-inside g c =
@@ -22,20 +22,20 @@ give_up-requires-2-clause-inside g c =
     let pushed : c.push.new.self.items ≡ old ++ c.args.chain ∷ [] = search (rules, c.push.ensures.items, c.if-is_err.false, c.is_err.ensures) in
     let longer = pushed_count old c.push.new.self.items c.args.chain (length old) refl pushed in
     let as_long = c.in_ok-give_up.ensures.count in
-    right_inside c.operands-left.result.0 c.operands-left.result.1 (children c.args.node.now) (length old) (length c.give_up.new.done.items)
-    c.operands-left.ensures c.requires.children (omega (arith, longer, as_long))
+    right_inside c.inputs-left.result.0 c.inputs-left.result.1 (children c.args.node.now) (length old) (length c.give_up.new.done.items)
+    c.inputs-left.ensures.all c.requires.children (omega (arith, longer, as_long))
 
 pub returns : goal.returns
 returns g c =
     let shape = g.P.Shape in
-    let left = option_to_list c.operands-left.result.0 in
-    let right = option_to_list c.operands-left.result.1 in
+    let left = option_to_list c.inputs-left.result.0 in
+    let right = option_to_list c.inputs-left.result.1 in
     let new = c.give_up-2.new.done.items in
     let pushed : c.push.new.self.items ≡ c.args.done.now.items ++ c.args.chain ∷ [] = search
     (rules, c.push.ensures.items, c.if-is_err.false, c.is_err.ensures) in
     on_ok_weaker c.give_up-2.result
     (λ h. subst (λ (ps : List ℕ). AreGivenUp (of_pieces shape) c.args.from c.args.to ps
-    (c.args.done.now.items ++ c.args.chain ∷ []) new) c.operands-left.ensures
+    (c.args.done.now.items ++ c.args.chain ∷ []) new) c.inputs-left.ensures.all
     (subst (λ xs. AreGivenUp (of_pieces shape) c.args.from c.args.to (left ++ right) xs new) pushed
     (more_given_up (of_pieces shape) c.args.from c.args.to left right c.push.new.self.items c.give_up.new.done.items new c.in_ok-give_up.ensures h)))
     c.give_up-2.ensures

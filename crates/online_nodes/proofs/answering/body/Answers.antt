@@ -1,5 +1,5 @@
 -- The body of a node by its kind.
-use Rattle.std.proofs.Common.{subst, sym, inl, inr}
+use Rattle.std.proofs.Common.{subst, sym}
 use Rattle.online_nodes.specs.Answering.{CanAnswer, HasBody}
 use Rattle.online_nodes.specs.declared.kind.Kind.{Kind}
 use Rattle.online_nodes.proofs.answering.body.Goals as goal
@@ -25,10 +25,7 @@ sweep_all-requires c = record {
   own = c.requires.own;
   sound = c.requires.sound;
   inside = c.requires.inside;
-  input = elim c.in-Ahead.is [
-    | inl e ↦ subst (λ (k : Kind). CanAnswer k c.args.edges.now c.args.out.edge c.args.marks) e c.requires.able
-    | inr e ↦ subst (λ (k : Kind). CanAnswer k c.args.edges.now c.args.out.edge c.args.marks) e c.requires.able
-  ];
+  input = subst (λ (k : Kind). CanAnswer k c.args.edges.now c.args.out.edge c.args.marks) c.in-Over.is c.requires.able;
 }
 
 pub returns-in_ok-told-in-Until-clause-told : goal.returns-in_ok-told-in-Until-clause-told
@@ -41,11 +38,7 @@ returns-in_ok-told-in-Since-clause-told c =
     subst (λ (k : Kind). HasBody k c.args.edges.now c.since_all.new.edges c.args.out c.args.marks c.in_ok-told-in-Since.told) (sym c.in-Since.is)
     c.in_ok-told-in-Since.ensures.told
 
-pub returns-in_ok-told-in-Ahead-clause-told : goal.returns-in_ok-told-in-Ahead-clause-told
-returns-in_ok-told-in-Ahead-clause-told c =
-    elim c.in-Ahead.is [
-      | inl e ↦ subst (λ (k : Kind). HasBody k c.args.edges.now c.sweep_all.new.edges c.args.out c.args.marks c.in_ok-told-in-Ahead.told) (sym e)
-          c.in_ok-told-in-Ahead.ensures.swept
-      | inr e ↦ subst (λ (k : Kind). HasBody k c.args.edges.now c.sweep_all.new.edges c.args.out c.args.marks c.in_ok-told-in-Ahead.told) (sym e)
-          c.in_ok-told-in-Ahead.ensures.swept
-    ]
+pub returns-in_ok-told-in-Over-clause-told : goal.returns-in_ok-told-in-Over-clause-told
+returns-in_ok-told-in-Over-clause-told c =
+    subst (λ (k : Kind). HasBody k c.args.edges.now c.sweep_all.new.edges c.args.out c.args.marks c.in_ok-told-in-Over.told) (sym c.in-Over.is)
+    c.in_ok-told-in-Over.ensures.swept

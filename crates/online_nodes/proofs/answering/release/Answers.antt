@@ -2,7 +2,7 @@ use Rattle.std.proofs.Common.{rules, true, false, sym, ap, subst, ◌≡◌, ◌
 use Rattle.std.specs.Int.{w64}
 use Rattle.online_nodes.specs.Answering.{back_by, looks_by, HasReleased, IsOperand}
 use Rattle.online_nodes.specs.declared.kind.Kind.{Kind}
-use Rattle.online_nodes.specs.declared.kind.Kind.TheVariants.{Ahead, Behind, Until, Since}
+use Rattle.online_nodes.specs.declared.kind.Kind.TheVariants.{Over, Until, Since}
 use Rattle.online_nodes.proofs.AnsweringLemmas.{front_itself, released_one, released_two}
 use Rattle.online_nodes.proofs.answering.release.Goals as goal
 
@@ -10,33 +10,19 @@ use Rattle.online_nodes.proofs.answering.release.Goals as goal
 by_machine : (r f k f' k' : ℤ) → r ≡ f' +ℤ neg_ℤ k' → f' ≡ f → k' ≡ k → r ≡ f +ℤ neg_ℤ k
 by_machine r f k f' k' e a b = e ∙ ap (λ x. x +ℤ neg_ℤ k') a ∙ ap (λ x. f +ℤ neg_ℤ x) b
 
-pub returns-in-Ahead : goal.returns-in-Ahead
-returns-in-Ahead c =
-    let able = rw c.in-Ahead.is at c.requires.able in
-    let g = c.drop_by-in-Ahead.ensures in
-    let w = c.in-Ahead.window in
-    let limit : to_z w64 (of_z w64 c.earlier_by.result) ≡ c.args.front +ℤ neg_ℤ w.end_by =
-    (search (rules, to_z-of_z)) ∙ by_machine c.earlier_by.result c.args.front w.end_by (to_z w64 (of_z w64 c.args.front)) (to_z w64 (of_z w64 w.end_by))
-    c.earlier_by.ensures (search (rules, to_z-of_z)) (search (rules, to_z-of_z)) in
-    subst (λ (k : Kind). HasReleased k c.args.front c.args.edges.now c.drop_by-in-Ahead.new.self) (sym c.in-Ahead.is)
-    (released_one (Ahead w) c.args.front w.of (to_z w64 (of_z w64 c.earlier_by.result))
-    (λ left k. elim left as (λ b. IsOperand (Ahead w) b k → (w.of ≡ k) × (to_z w64 (of_z w64 c.earlier_by.result) ≡ c.args.front +ℤ looks_by (Ahead w) b))
-    [ true ↦ λ side. (side, limit) | false ↦ λ side. absurd side ])
-    (λ k same. same) able.0 g.dropped g.others g.start g.spare)
-
-pub returns-in-Behind : goal.returns-in-Behind
-returns-in-Behind c =
-    let able = rw c.in-Behind.is at c.requires.able in
-    let g = c.drop_by-in-Behind.ensures in
-    let w = c.in-Behind.window in
-    let limit : to_z w64 (of_z w64 c.earlier_by-in-Behind.result) ≡ c.args.front +ℤ neg_ℤ (back_by w) =
-    (search (rules, to_z-of_z)) ∙ by_machine c.earlier_by-in-Behind.result c.args.front (back_by w) (to_z w64 (of_z w64 c.args.front))
+pub returns-in-Over : goal.returns-in-Over
+returns-in-Over c =
+    let able = rw c.in-Over.is at c.requires.able in
+    let g = c.drop_by-in-Over.ensures in
+    let w = c.in-Over.window in
+    let limit : to_z w64 (of_z w64 c.earlier_by.result) ≡ c.args.front +ℤ neg_ℤ (back_by w) =
+    (search (rules, to_z-of_z)) ∙ by_machine c.earlier_by.result c.args.front (back_by w) (to_z w64 (of_z w64 c.args.front))
     (to_z w64 (of_z w64 c.back.result))
-    c.earlier_by-in-Behind.ensures (search (rules, to_z-of_z)) ((search (rules, to_z-of_z)) ∙ c.back.ensures) in
-    subst (λ (k : Kind). HasReleased k c.args.front c.args.edges.now c.drop_by-in-Behind.new.self) (sym c.in-Behind.is)
-    (released_one (Behind w) c.args.front w.of (to_z w64 (of_z w64 c.earlier_by-in-Behind.result))
+    c.earlier_by.ensures (search (rules, to_z-of_z)) ((search (rules, to_z-of_z)) ∙ c.back.ensures) in
+    subst (λ (k : Kind). HasReleased k c.args.front c.args.edges.now c.drop_by-in-Over.new.self) (sym c.in-Over.is)
+    (released_one (Over w) c.args.front w.of (to_z w64 (of_z w64 c.earlier_by.result))
     (λ left k.
-    elim left as (λ b. IsOperand (Behind w) b k → (w.of ≡ k) × (to_z w64 (of_z w64 c.earlier_by-in-Behind.result) ≡ c.args.front +ℤ looks_by (Behind w) b))
+    elim left as (λ b. IsOperand (Over w) b k → (w.of ≡ k) × (to_z w64 (of_z w64 c.earlier_by.result) ≡ c.args.front +ℤ looks_by (Over w) b))
     [ true ↦ λ side. (side, limit) | false ↦ λ side. absurd side ])
     (λ k same. same) able.0 g.dropped g.others g.start g.spare)
 

@@ -22,7 +22,7 @@ returns-in_default-next-clause-filled c =
 pub returns-clause-filled : goal.returns-clause-filled
 returns-clause-filled c =
     let said : HasAnswer c.args.edges.now c.upto.new.edges c.args.out (joined c.args.join c.in-Some.v.holds c.in-Some-next.w.holds) c.in_ok-end.end =
-    subst (λ b. HasAnswer c.args.edges.now c.upto.new.edges c.args.out b c.in_ok-end.end) c.of.ensures c.in_ok-end.ensures.said in
+    subst (λ b. HasAnswer c.args.edges.now c.upto.new.edges c.args.out b c.in_ok-end.end) c.joined.ensures c.in_ok-end.ensures.said in
     let first_left = sym c.next.ensures ∙ c.in-Some.is in
     let first_right = sym c.next-2.ensures ∙ c.in-Some-next.is in
     let reaches = c.in_ok-end.ensures.reaches in

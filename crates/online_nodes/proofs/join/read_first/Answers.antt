@@ -63,7 +63,7 @@ returns-then-precedes-clause-read c =
     upto_of_before (place end) (place c.args.out.to) t
     (subst (λ (q : Cut). Before (place end) (place q)) c.end.ensures (c.precedes-then-precedes.ensures.0 c.if-not-precedes.false)) h in
     let said = said_of_both c.requires.first_left c.requires.first_right c.requires.own c.requires.left_apart c.requires.right_apart c.requires.apart
-    (subst (λ b. HasAnswer c.args.edges.now c.upto_within.new.edges c.args.out b c.in_ok-next.next) c.of-holds.ensures c.in_ok-next.ensures.said)
+    (subst (λ b. HasAnswer c.args.edges.now c.upto_within.new.edges c.args.out b c.in_ok-next.next) c.joined-holds.ensures c.in_ok-next.ensures.said)
     c.in_ok-next.ensures.reaches
     (right_before here (c.precedes.ensures.0 c.if-precedes.true)) (λ t h. subst (λ (q : Place). Upto q t) c.end-w_end.ensures h) to_end in
     let passed : HasPassed c.upto_within.new.edges c.pass.new.self c.args.inputs.right c.pass.result =
@@ -108,7 +108,7 @@ returns-clause-read c =
     upto_of_before (place end) (place c.args.out.to) t
     (subst (λ (q : Cut). Before (place end) (place q)) c.end-2.ensures (c.precedes-2.ensures.0 c.if-not-precedes-2.false)) h in
     let said = said_of_both c.requires.first_left c.requires.first_right c.requires.own c.requires.left_apart c.requires.right_apart c.requires.apart
-    (subst (λ b. HasAnswer c.args.edges.now c.upto_within-2.new.edges c.args.out b c.in_ok-next-2.next) c.of-holds.ensures c.in_ok-next-2.ensures.said)
+    (subst (λ b. HasAnswer c.args.edges.now c.upto_within-2.new.edges c.args.out b c.in_ok-next-2.next) c.joined-holds.ensures c.in_ok-next-2.ensures.said)
     c.in_ok-next-2.ensures.reaches
     (λ t h. subst (λ (q : Place). Upto q t) c.end-v_end.ensures h)
     (left_before here (λ b. true≢false (sym (c.precedes.ensures.1 b) ∙ c.if-precedes.false))) to_end in

@@ -51,7 +51,7 @@ returns-clause-read c =
     λ t h. upto_of_before (place end) (place c.args.out.to) t
     (subst (λ (q : Cut). Before (place end) (place q)) c.end.ensures (c.precedes.ensures.0 c.if-not-precedes.false)) h in
     let said = said_of_both c.requires.first_left c.requires.first_right c.requires.own c.requires.left_apart c.requires.right_apart c.requires.apart
-    (subst (λ b. HasAnswer c.args.edges.now c.upto_within.new.edges c.args.out b c.in_ok-next.next) c.of.ensures c.in_ok-next.ensures.said)
+    (subst (λ b. HasAnswer c.args.edges.now c.upto_within.new.edges c.args.out b c.in_ok-next.next) c.joined.ensures c.in_ok-next.ensures.said)
     c.in_ok-next.ensures.reaches (of_left here) (of_right here) to_end in
     let passed : HasPassed c.upto_within.new.edges c.pass.new.self c.args.inputs.left c.pass.result =
     record {

@@ -8,9 +8,3 @@ returns-in-Not-clause-still c = on_ok_anyway c.sweep_not.result c.requires.unset
 
 pub returns-in-Not-clause-wide : goal.returns-in-Not-clause-wide
 returns-in-Not-clause-wide c = λ t b. on_err_anyway c.sweep_not.result (memory_told (IsStreamedFault t) c.args.fault.now c.requires.unset tt)
-
-pub returns-in-Moved-clause-still : goal.returns-in-Moved-clause-still
-returns-in-Moved-clause-still c = on_ok_anyway c.sweep_moved.result c.requires.unset
-
-pub returns-in-Moved-clause-wide : goal.returns-in-Moved-clause-wide
-returns-in-Moved-clause-wide c = λ t b. on_err_anyway c.sweep_moved.result (memory_told (IsStreamedFault t) c.args.fault.now c.requires.unset tt)

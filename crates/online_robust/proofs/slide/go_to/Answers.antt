@@ -1,0 +1,309 @@
+use Rattle.std.proofs.Common.{◌≡◌, ◌<◌, ◌^◌, false, sym, ap, ◌∙◌, subst, arith, length, Option, None, ℤ, pos, to_z, of_z, ◌≤ℤ◌, Bool, true}
+use Rattle.std.specs.Prelude.{IfSome, cond, int_lt, neg_ℤ, option_map}
+use Rattle.std.specs.Int.{w64}
+use Rattle.std.proofs.lemmas.Int.{ints, to_z-of_z}
+use Rattle.rational.specs.Rational.{FitsFloor, IsWithin, add, whole}
+use Rattle.rational.specs.Time.{Rational, shifted, ◌≈◌, ◌≤ʳ◌, ◌<ʳ◌}
+use Rattle.rational.specs.Extended.{value_at}
+use Rattle.rational.specs.Places.{AtMost, Same, Upto}
+use Rattle.rational.proofs.Lists.{on_err_anyway}
+use Rattle.rational.proofs.Mixed.{within_same}
+use Rattle.rational.proofs.Order.{le_trans, same_refl, same_sym, same_trans}
+use Rattle.rational.proofs.PlaceLemmas.{same_places, same_trans_places, upto_same}
+use Rattle.rational.proofs.Shift.{le_whole}
+use Rattle.rational.proofs.TimeLemmas.{shifted-add}
+use Rattle.frac128.specs.Value.{value}
+use Rattle.frac128.specs.Cuts.{place}
+use Rattle.value_laws.specs.Kinds.{margin_shape}
+use Rattle.value_laws.specs.Margins.{margin_function}
+use Rattle.value_laws.specs.declared.margin.Margin.{Margin}
+use Rattle.pieces.specs.declared.piece.Piece.{Piece}
+use Rattle.pieces.specs.declared.reach.Way.{Way}
+use Rattle.pieces.specs.declared.stream.Stream.{Stream}
+use Rattle.pieces.specs.Chains.{Chain, Tells, stop}
+use Rattle.pieces.specs.Streaming.{Follows, HasAll, IsAt, IsCauseBelow, IsNextSeen, before_time}
+use Rattle.pieces.specs.Windows.{BestOver}
+use Rattle.pieces.proofs.ChainLemmas.{to_stop}
+use Rattle.pieces.proofs.Shifts.{fits}
+use Rattle.online_robust.specs.Held.{Held}
+use Rattle.online_robust.specs.Slides.{CanSlide, Course, DropsBy, IsOnWay, IsRefused, IsStretchOf, IsTakenIn, IsUnder}
+use Rattle.online_robust.specs.Slides.{after_time, back_offset}
+use Rattle.online_robust.specs.declared.slide.Window.{Window}
+use Rattle.online_robust.proofs.Builts.{tick_between, tick_within}
+use Rattle.online_robust.proofs.SlideCuts.{read_drops, reads_both}
+use Rattle.online_robust.proofs.SlideGone.{all_under, follows_under, gone, has_all, next_seen, none_early, read_same}
+use Rattle.online_robust.proofs.SlideRefused.{some_of_none, tell_refused}
+use Rattle.online_robust.proofs.SlideTelling.{best_told}
+use Rattle.online_robust.proofs.slide.go_to.Goals.{After-read_under, In_ok-tell}
+use Rattle.online_robust.proofs.slide.go_to.Goals as goal
+
+pub meet_kept-requires-clause-can : goal.meet_kept-requires-clause-can
+meet_kept-requires-clause-can c =
+    let (x, from, can, window, to) = c.requires.can in
+    (x, c.args.edges.now, can.on, can.below)
+
+pub returns-in_err-meet_kept-clause-wide : goal.returns-in_err-meet_kept-clause-wide
+returns-in_err-meet_kept-clause-wide c x from can window to =
+    on_err_anyway c.from_residual.result (c.in_err-meet_kept.ensures.wide x c.args.edges.now can.on can.below)
+
+pub take_in-requires-clause-can : goal.take_in-requires-clause-can
+take_in-requires-clause-can c =
+    let (x, from, can, window, to) = c.requires.can in
+    (x, c.in_ok-meet_kept.ensures.on x c.args.edges.now can.on can.below, ap (λ (w : Window). w.of) window, to)
+
+pub returns-in_err-take_in-clause-wide : goal.returns-in_err-take_in-clause-wide
+returns-in_err-take_in-clause-wide c x from can window to =
+    on_err_anyway c.from_residual-in_err-take_in.result
+    (c.in_err-take_in.ensures.wide x (c.in_ok-meet_kept.ensures.on x c.args.edges.now can.on can.below) (ap (λ (w : Window). w.of) window) to)
+
+pub read_under-requires : goal.read_under-requires
+read_under-requires c =
+    let (x, from, can, window, to) = c.requires.can in
+    let of = ap (λ (w : Window). w.of) window in
+    let taken = c.in_ok-take_in.ensures.on x (c.in_ok-meet_kept.ensures.on x c.args.edges.now can.on can.below) of to in
+    record { can = (x, taken.0, taken.1, of, to) }
+
+-- what counts before the time was met, and the point under the high end was read
+module _ (x : Course) (w : Stream Margin) (kept : Option (Piece Margin)) (e : Held)
+    (under : IsOnWay x w kept e × IsTakenIn x w e × IsUnder x w kept) (t : Rational) (to : x.to ≡ t) where
+  -- the chain of all that was met and that is to come
+  abbrev chain_of_all : Chain Margin
+  chain_of_all = all_under x w kept e under.0 under.1 under.2
+
+  follows : Follows margin_shape chain_of_all w
+  follows = follows_under x w kept e under.0 under.1 under.2
+
+  all : HasAll margin_shape chain_of_all w t
+  all = subst (HasAll margin_shape chain_of_all w) to (has_all x w kept e under.0 under.1 under.2)
+
+module _ (c : After-read_under) (x : Course) (from : Rational) (can : CanSlide x from c.args.stream.now c.args.kept.now c.args.edges.now)
+    (window : x.window ≡ c.args.window.now) (to : x.to ≡ value c.args.to.now) where
+  under_before : IsOnWay x c.take_in.new.stream c.read_under.result c.read_under.new.edges × IsTakenIn x c.take_in.new.stream c.read_under.new.edges
+      × IsUnder x c.take_in.new.stream c.read_under.result
+  under_before =
+      let of = ap (λ (w : Window). w.of) window in
+      let taken = c.in_ok-take_in.ensures.on x (c.in_ok-meet_kept.ensures.on x c.args.edges.now can.on can.below) of to in
+      c.read_under.ensures.on x taken.0 taken.1 of to
+
+pub tell-requires-clause-all : goal.tell-requires-clause-all
+tell-requires-clause-all c =
+    let (x, from, can, window, to) = c.requires.can in
+    let u = under_before (goal.at.tell-requires-clause-all c).After-read_under x from can window to in
+    let w = c.take_in.new.stream in
+    let kept = c.read_under.result in
+    let e = c.read_under.new.edges in
+    (chain_of_all x w kept e u (value c.args.to.now) to, follows x w kept e u (value c.args.to.now) to, all x w kept e u (value c.args.to.now) to)
+
+pub tell-requires-clause-order : goal.tell-requires-clause-order
+tell-requires-clause-order c =
+    let (x, from, can, window, to) = c.requires.can in
+    let u = under_before (goal.at.tell-requires-clause-order c).After-read_under x from can window to in
+    subst (λ t. AtMost (stop c.take_in.new.stream.sliding.out) (before_time t)) to u.0.told
+
+pub returns-in_err-tell-clause-wide : goal.returns-in_err-tell-clause-wide
+returns-in_err-tell-clause-wide c x from can window to =
+    let u = under_before (goal.at.returns-in_err-tell-clause-wide c).After-read_under x from can window to in
+    let on = u.0 in
+    let w = c.take_in.new.stream in
+    let kept = c.read_under.result in
+    let e = c.read_under.new.edges in
+    let fault = c.tell.new.fault in
+    let chain = chain_of_all x w kept e u (value c.args.to.now) to in
+    let known = follows x w kept e u (value c.args.to.now) to in
+    let has = all x w kept e u (value c.args.to.now) to in
+    let told = c.in_err-tell.ensures in
+    let early : x.to ≤ʳ chain.from.at → add x.to (whole w.way.over.high) ≤ʳ (place w.met).at → fault ≡ None =
+    subst (λ t. t ≤ʳ chain.from.at → add t (whole w.way.over.high) ≤ʳ (place w.met).at → fault ≡ None) (sym to) (told.early chain known has) in
+    on_err_anyway c.from_residual-in_err-tell.result
+    (tell_refused x w.way chain on.is_whole on.way.over on.started on.last on.small.order fault
+    (subst (λ t. chain.from.at <ʳ t → IfSome fault (IsCauseBelow margin_shape chain w.way.over t)) (sym to) (told.wide chain known has))
+    (none_early x w kept e on u.1 u.2 fault early (told.one chain known has)))
+
+-- ---- it has told
+
+-- the offset by which it needs its input no more is small
+back_small : (w : Window) → neg_ℤ (pos (2 ^ 32)) ≤ℤ w.low → w.low ≤ℤ w.high → w.high ≤ℤ pos (2 ^ 32)
+    → (neg_ℤ (pos (2 ^ 32)) ≤ℤ back_offset w) × (back_offset w ≤ℤ pos (2 ^ 32))
+back_small w from order to = by_test (int_lt w.low (neg_ℤ (pos 4294967295)))
+  where
+    by_test : (b : Bool) → (neg_ℤ (pos (2 ^ 32)) ≤ℤ cond b w.high w.low) × (cond b w.high w.low ≤ℤ pos (2 ^ 32))
+    by_test true = (omega (arith, ints, from, order), to)
+    by_test false = (from, omega (arith, ints, order, to))
+
+-- it is passed as it is
+back_passed : (x : Course) (from : Rational) (w : Stream Margin) (kept : Option (Piece Margin)) (e : Held) (now : Window) (back : ℤ) → CanSlide x from w kept e
+    → x.window ≡ now → back ≡ back_offset now
+    → ((neg_ℤ (pos (2 ^ 32)) ≤ℤ back) × (back ≤ℤ pos (2 ^ 32))) × (to_z w64 (of_z w64 back) ≡ back)
+back_passed x from w kept e now back can window is = (small, to_z-of_z w64 back (let low = small.0 in let high = small.1 in omega (arith, ints, low, high)))
+  where
+    small : (neg_ℤ (pos (2 ^ 32)) ≤ℤ back) × (back ≤ℤ pos (2 ^ 32))
+    small = subst (λ k. (neg_ℤ (pos (2 ^ 32)) ≤ℤ k) × (k ≤ℤ pos (2 ^ 32))) (sym is)
+        (subst (λ (v : Window). (neg_ℤ (pos (2 ^ 32)) ≤ℤ back_offset v) × (back_offset v ≤ℤ pos (2 ^ 32))) window
+        (back_small x.window can.on.small.from can.on.small.order can.on.small.to))
+
+-- by when the window needs its input no more
+limit_is : (t : Rational) (k by : ℤ) (limit : Rational) → by ≡ k → limit ≈ add t (whole by) → limit ≈ shifted t k
+limit_is t k by limit is e = same_trans e (same_trans (subst (λ j. add t (whole by) ≈ add t (whole j)) is (same_refl (add t (whole by))))
+    (same_sym (shifted-add t k)))
+
+module _ (c : In_ok-tell) (x : Course) (from : Rational) (can : CanSlide x from c.args.stream.now c.args.kept.now c.args.edges.now)
+    (window : x.window ≡ c.args.window.now) (to : x.to ≡ value c.args.to.now) where
+  under : IsOnWay x c.take_in.new.stream c.read_under.result c.read_under.new.edges × IsTakenIn x c.take_in.new.stream c.read_under.new.edges
+      × IsUnder x c.take_in.new.stream c.read_under.result
+  under =
+      let of = ap (λ (w : Window). w.of) window in
+      let taken = c.in_ok-take_in.ensures.on x (c.in_ok-meet_kept.ensures.on x c.args.edges.now can.on can.below) of to in
+      c.read_under.ensures.on x taken.0 taken.1 of to
+
+  abbrev chain : Chain Margin
+  chain = chain_of_all x c.take_in.new.stream c.read_under.result c.read_under.new.edges under (value c.args.to.now) to
+
+  known : Follows margin_shape chain c.take_in.new.stream
+  known = follows x c.take_in.new.stream c.read_under.result c.read_under.new.edges under (value c.args.to.now) to
+
+  has : HasAll margin_shape chain c.take_in.new.stream (value c.args.to.now)
+  has = all x c.take_in.new.stream c.read_under.result c.read_under.new.edges under (value c.args.to.now) to
+
+  is_at : IsAt margin_shape chain c.tell.new.self (value c.args.to.now)
+  is_at = c.in_ok-tell.ensures.at chain known has
+
+  -- the point that is seen
+  next : IsNextSeen margin_shape chain c.tell.new.self (value c.args.to.now)
+      (cond c.args.window.now.high_in (option_map (λ p. p.shape) c.read_under.result) None)
+  next = subst (λ (w : Window). IsNextSeen margin_shape chain c.tell.new.self (value c.args.to.now)
+      (cond w.high_in (option_map (λ p. p.shape) c.read_under.result) None)) window
+      (subst (λ t. IsNextSeen margin_shape chain c.tell.new.self t (cond x.window.high_in (option_map (λ p. p.shape) c.read_under.result) None)) to
+      (next_seen x c.take_in.new.stream c.read_under.result c.read_under.new.edges under.0 under.1 under.2 c.tell.new.self c.in_ok-tell.ensures.way
+      c.in_ok-tell.ensures.met))
+
+  inside : Upto (place c.tell.new.self.way.to) (value c.args.to.now)
+  inside = subst (λ (v : Way). Upto (place v.to) (value c.args.to.now)) (sym c.in_ok-tell.ensures.way)
+      (upto_same (after_time (whole (pos 4294967295))) (place c.take_in.new.stream.way.to) (value c.args.to.now) (same_places under.0.way.to)
+      (subst (λ t. t ≤ʳ whole (pos 4294967295)) to can.to_tick.1))
+
+  told_up_to : Tells margin_shape (BestOver margin_shape chain c.take_in.new.stream.way.over c.take_in.new.stream.way.side)
+      c.take_in.new.stream.sliding.out.from (before_time (value c.args.to.now)) c.tell.new.self.sliding.out
+  told_up_to = c.in_ok-tell.ensures.told chain known has
+
+  -- it began to tell where it was told before
+  begun : Same c.tell.new.self.sliding.out.from (before_time from)
+  begun = same_trans_places told_up_to.begins (subst (λ d. Same d (before_time from))
+      (sym (c.in_ok-take_in.ensures.kept.from ∙ c.in_ok-meet_kept.ensures.kept.from ∙ ap (λ (o : Chain Margin). o.from) can.out)) can.told)
+
+  from_within : IsWithin (2 ^ 34) c.tell.new.self.sliding.out.from.at
+  from_within = within_same (2 ^ 34) (same_sym begun.0) (tick_within (tick_between can.from_tick can.to_tick can.first can.order))
+
+  to_within : IsWithin (2 ^ 34) (value c.args.to.now)
+  to_within = subst (IsWithin (2 ^ 34)) to (tick_within can.to_tick)
+
+pub point-point-requires-clause-seen : goal.point-point-requires-clause-seen
+point-point-requires-clause-seen c =
+    let (x, from, can, window, to) = c.requires.can in
+    let k = (goal.at.point-point-requires-clause-seen c).In_ok-tell in (
+      chain k x from can window to,
+      is_at k x from can window to,
+      subst (λ o. IsNextSeen margin_shape (chain k x from can window to) c.tell.new.self (value c.args.to.now) o) (sym c.seen_under.ensures)
+          (next k x from can window to),
+    )
+
+pub point-point-requires-clause-inside : goal.point-point-requires-clause-inside
+point-point-requires-clause-inside c =
+    let (x, from, can, window, to) = c.requires.can in
+    inside (goal.at.point-point-requires-clause-inside c).In_ok-tell x from can window to
+
+pub shift-requires : goal.shift-requires
+shift-requires c =
+    let (x, from, can, window, to) = c.requires.can in
+    let passed = back_passed x from c.args.stream.now c.args.kept.now c.args.edges.now c.args.window.now c.back.result can window c.back.ensures in
+    let tick = subst (λ t. (whole (pos 0) ≤ʳ t) × (t ≤ʳ whole (pos 4294967295))) to can.to_tick in
+    subst (λ k. FitsFloor w64 (add (value c.args.to.now) (whole k))) (sym passed.1)
+    (fits (value c.args.to.now) c.back.result tick.0 (le_trans tick.1 (le_whole {j = pos 4294967295} {k = pos (2 ^ 32)} (omega arith))) passed.0.0 passed.0.1)
+
+pub drop_by-requires : goal.drop_by-requires
+drop_by-requires c =
+    let (x, from, can, window, to) = c.requires.can in
+    let k = (goal.at.drop_by-requires c).In_ok-tell in
+    subst (λ n. n < length c.read_under.new.edges.edges) (ap (λ (w : Window). w.of) window) (under k x from can window to).0.within
+
+pub stretch_of-requires-clause-begins : goal.stretch_of-requires-clause-begins
+stretch_of-requires-clause-begins c =
+    let (x, from, can, window, to) = c.requires.can in
+    let k = (goal.at.stretch_of-requires-clause-begins c).In_ok-tell in
+    subst (λ (o : Chain Margin). o.from.after ≡ false) (sym c.told.ensures) (begun k x from can window to).1
+
+pub stretch_of-requires-clause-ends : goal.stretch_of-requires-clause-ends
+stretch_of-requires-clause-ends c =
+    let (x, from, can, window, to) = c.requires.can in
+    let k = (goal.at.stretch_of-requires-clause-ends c).In_ok-tell in
+    subst (λ (o : Chain Margin). Same (stop o) (before_time (value c.args.to.now))) (sym c.told.ensures) (is_at k x from can window to).at
+
+pub stretch_of-requires-clause-from_within : goal.stretch_of-requires-clause-from_within
+stretch_of-requires-clause-from_within c =
+    let (x, from, can, window, to) = c.requires.can in
+    let k = (goal.at.stretch_of-requires-clause-from_within c).In_ok-tell in
+    subst (λ (o : Chain Margin). IsWithin (2 ^ 34) o.from.at) (sym c.told.ensures) (from_within k x from can window to)
+
+pub stretch_of-requires-clause-to_within : goal.stretch_of-requires-clause-to_within
+stretch_of-requires-clause-to_within c =
+    let (x, from, can, window, to) = c.requires.can in
+    to_within (goal.at.stretch_of-requires-clause-to_within c).In_ok-tell x from can window to
+
+pub stretch_of-requires-clause-order : goal.stretch_of-requires-clause-order
+stretch_of-requires-clause-order c =
+    let (x, from, can, window, to) = c.requires.can in
+    let k = (goal.at.stretch_of-requires-clause-order c).In_ok-tell in
+    let out = c.tell.new.self.sliding.out in
+    subst (λ (o : Chain Margin). AtMost o.from (stop o)) (sym c.told.ensures) (to_stop out.from out.pieces (told_up_to k x from can window to).normal.rising)
+
+pub returns-in_err-stretch-clause-wide : goal.returns-in_err-stretch-clause-wide
+returns-in_err-stretch-clause-wide c x from can window to =
+    on_err_anyway c.from_residual-in_err-stretch.result (some_of_none c.tell.new.fault (IsRefused x) c.in_ok-tell.ensures.still)
+
+pub returns-clause-told : goal.returns-clause-told
+returns-clause-told c x from can window to =
+    let k = (goal.at.returns-clause-told c).In_ok-tell in
+    let u = under k x from can window to in
+    let w = c.take_in.new.stream in
+    let told = c.tell.new.self in
+    let point = c.point-point.result in
+    let ks = c.in_ok-stretch.stretch in
+    let line = chain k x from can window to in
+    let at = is_at k x from can window to in
+    let seen = subst (λ o. IsNextSeen margin_shape line told (value c.args.to.now) o) (sym c.seen_under.ensures) (next k x from can window to) in
+    let there = c.point-point.ensures.value line at seen in
+    let is = subst (λ (o : Chain Margin). IsStretchOf o (value c.args.to.now) point ks) c.told.ensures c.in_ok-stretch.ensures in
+    best_told x w told u.0.way line u.0.is_whole c.in_ok-tell.ensures.way from point ks
+    (subst (λ t. Tells margin_shape (BestOver margin_shape line w.way.over w.way.side) w.sliding.out.from (before_time t) told.sliding.out) (sym to)
+    (told_up_to k x from can window to))
+    (c.in_ok-tell.ensures.bases line (known k x from can window to) (has k x from can window to))
+    (subst (λ t. BestOver margin_shape line told.way.over told.way.side t (value_at (margin_function point) t)) (sym to) there)
+    (c.point-point.ensures.base line at seen) (subst (λ t. IsStretchOf told.sliding.out t point ks) (sym to) is) (begun k x from can window to).0
+
+pub returns-clause-on : goal.returns-clause-on
+returns-clause-on c x from can window to =
+    let u = under (goal.at.returns-clause-on c).In_ok-tell x from can window to in
+    let w = c.take_in.new.stream in
+    let told = c.tell.new.self in
+    let tells = c.in_ok-tell.ensures in
+    let again = c.restart.ensures in
+    let passed = back_passed x from c.args.stream.now c.args.kept.now c.args.edges.now c.args.window.now c.back.result can window c.back.ensures in
+    gone x w c.read_under.result c.read_under.new.edges u.0 u.1 u.2 told c.restart.new.self c.drop_by.new.edges (value c.shift.result)
+    (λ line known all. subst (IsAt margin_shape line told) (sym to) (tells.at line known (subst (HasAll margin_shape line w) to all)))
+    again.follows (again.way ∙ tells.way) (again.met ∙ tells.met) again.told
+    (subst (λ n. DropsBy (value c.shift.result) n c.read_under.new.edges c.drop_by.new.edges) (sym (ap (λ (v : Window). v.of) window)) c.drop_by.ensures)
+    (subst (λ t. value c.shift.result ≈ shifted t (back_offset x.window)) (sym to)
+    (subst (λ (v : Window). value c.shift.result ≈ shifted (value c.args.to.now) (back_offset v)) (sym window) (limit_is (value c.args.to.now)
+    (back_offset c.args.window.now) (to_z w64 (of_z w64 c.back.result)) (value c.shift.result) (passed.1 ∙ c.back.ensures) c.shift.ensures.value)))
+
+pub returns-clause-kept : goal.returns-clause-kept
+returns-clause-kept c =
+    c.restart.ensures.way ∙ c.in_ok-tell.ensures.way ∙ c.in_ok-take_in.ensures.kept.way ∙ c.in_ok-meet_kept.ensures.kept.way
+
+pub returns-clause-dropped : goal.returns-clause-dropped
+returns-clause-dropped c =
+    let (x, from, can, window, to) = c.requires.can in
+    let passed = back_passed x from c.args.stream.now c.args.kept.now c.args.edges.now c.args.window.now c.back.result can window c.back.ensures in
+    read_same (value c.shift.result) (shifted (value c.args.to.now) (back_offset c.args.window.now))
+    (limit_is (value c.args.to.now) (back_offset c.args.window.now) (to_z w64 (of_z w64 c.back.result)) (value c.shift.result)
+    (passed.1 ∙ c.back.ensures) c.shift.ensures.value)
+    (read_drops (reads_both c.in_ok-take_in.ensures.read c.read_under.ensures.read) c.drop_by.ensures)
