@@ -33,7 +33,7 @@ pub mod PointwiseLemmas
 pub mod NotLemmas
 pub mod TwoLemmas
 mod WindowNodes
-mod FirstWindows
+mod FirstOperators
 pub mod BestPasts
 pub mod PastNodes
 pub mod SlideChains

@@ -14,3 +14,4 @@ pub mod Couples
 pub mod Windows
 pub mod Slides
 pub mod Refusing
+pub mod Operators

@@ -1,9 +1,8 @@
 //! The operator of a node: what it keeps in mind of its inputs, and how it goes on.
-ghost use Rattle.std.specs.Prelude.{◌≡◌, false, IfOk, IfSome, MatchOption, OnOk, Some, None, OnErr};
-ghost use Rattle.stl_syntax.specs.WellFormed.{HasBounds};
+ghost use Rattle.std.specs.Prelude.{◌≡◌, IfOk, OnOk, None, OnErr};
 ghost use Rattle.online_nodes.specs.StreamedWide.{IsUnstreamed};
-ghost use Rattle.online_robust.specs.Standing.{ahead_window, behind_window, past_window};
 ghost use Rattle.online_robust.specs.Slides.{slide_of};
+ghost use Rattle.online_robust.specs.Operators.{two_by, window_by};
 ghost use Rattle.online_robust.specs.declared.operator.Operator.TheVariants as Op;
 ghost use Rattle.online_robust.specs.Steps.{Step, Belongs, BelongsSomewhere, HasSwept, IsFirstOperator, IsStreamedFault, IsSwept, StandsNow};
 ghost use Rattle.online_robust.specs.Refusing.{told_by};
@@ -14,7 +13,7 @@ use crate::room::Room;
 use crate::slide::{Slide, Window};
 use frac128::{Frac, Memory};
 use pl_signal::{Side, Signal, WidePair};
-use stl_syntax::Node;
+use stl_syntax::{Asks, Join, Node, Offsets, View};
 use value_laws::Margin;
 
 /// What a node that has inputs does.
@@ -26,55 +25,49 @@ pub(crate) enum Operator {
 }
 
 /// A negation before anything was told.
-fn negation(of: u32) -> Option<Operator>
-    ensures { result ≡ Some (Op.Not (record { of = of; last = None })) }
+fn negation(of: u32) -> Operator
+    ensures { result ≡ Op.Not (record { of = of; last = None }) }
 {
-    Some(Operator::Not(Not { of, last: None }))
+    Operator::Not(Not { of, last: None })
 }
 
 /// A connective before anything was told.
-fn two(left: u32, right: u32, side: Side, turned: bool) -> Option<Operator>
-    ensures { result ≡ Some (Op.Two (record { left = left; right = right; side = side; turned = turned; last = None })) }
+fn two(join: Join, left: u32, right: u32) -> Operator
+    ensures { result ≡ Op.Two (two_by join left right) }
 {
-    Some(Operator::Two(Two {
+    let (side, turned) = match join {
+        Join::And => (Side::Least, false),
+        Join::Or => (Side::Greatest, false),
+        Join::Implies => (Side::Greatest, true),
+    };
+    Operator::Two(Two {
         left,
         right,
         side,
         turned,
         last: None,
-    }))
+    })
 }
 
-/// That of a window ahead.
-fn ahead(of: u32, side: Side, low: u32, high: u32, low_in: bool, high_in: bool) -> Operator
-    ensures { result ≡ Op.Slide (slide_of (ahead_window of side low high low_in high_in)) }
+/// A window before anything was told: its low end lies before any time where it has none.
+fn over(asks: Asks, window: &Offsets, of: u32) -> Operator
+    ensures { result ≡ Op.Slide (slide_of (window_by asks window.now of)) }
 {
-    Operator::Slide(Slide::new(Window {
-        of,
-        side,
-        low: i64::from(low),
-        high: i64::from(high),
-        low_in,
-        high_in,
-    }))
-}
-
-/// That of a window behind: its low end lies before any time where it has no far bound.
-fn behind(of: u32, side: Side, low: u32, high: Option<u32>, low_in: bool, high_in: bool) -> Operator
-    ensures { MatchOption high (result ≡ Op.Slide (slide_of (past_window of side low low_in)))
-        (λ b. result ≡ Op.Slide (slide_of (behind_window of side low b low_in high_in))) }
-{
-    let (far, far_in) = match high {
-        Some(high) => (-i64::from(high), high_in),
-        None => (-4294967296, true),
+    let side = match asks {
+        Asks::Any => Side::Greatest,
+        Asks::Each => Side::Least,
+    };
+    let (low, low_in) = match window.low {
+        Some(low) => (low, window.low_in),
+        None => (-4_294_967_296, true),
     };
     Operator::Slide(Slide::new(Window {
         of,
         side,
-        low: far,
-        high: -i64::from(low),
-        low_in: far_in,
-        high_in: low_in,
+        low,
+        high: window.high,
+        low_in,
+        high_in: window.high_in,
     }))
 }
 
@@ -124,44 +117,15 @@ impl Operator {
     /// The operator of a node before it gave out anything; none at a constant and at an atom.
     pub(crate) fn new(node: &Node) -> Option<Operator>
         requires streamed { ¬ IsUnstreamed node.now }
-        requires bounds { HasBounds node.now }
         ensures { IsFirstOperator node.now result }
     {
-        match node {
-            Node::Const(_) | Node::Atom(_) => None,
-            Node::Not(of) => negation(*of),
-            Node::And(left, right) => two(*left, *right, Side::Least, false),
-            Node::Or(left, right) => two(*left, *right, Side::Greatest, false),
-            Node::Implies(left, right) => two(*left, *right, Side::Greatest, true),
-            Node::Until { .. } | Node::Since { .. } => unreachable!(),
-            Node::Eventually {
-                of,
-                low,
-                high,
-                low_in,
-                high_in,
-            } => Some(ahead(*of, Side::Greatest, *low, *high, *low_in, *high_in)),
-            Node::Always {
-                of,
-                low,
-                high,
-                low_in,
-                high_in,
-            } => Some(ahead(*of, Side::Least, *low, *high, *low_in, *high_in)),
-            Node::Once {
-                of,
-                low,
-                high,
-                low_in,
-                high_in,
-            } => Some(behind(*of, Side::Greatest, *low, *high, *low_in, *high_in)),
-            Node::Historically {
-                of,
-                low,
-                high,
-                low_in,
-                high_in,
-            } => Some(behind(*of, Side::Least, *low, *high, *low_in, *high_in)),
+        match node.view() {
+            View::Const(_) => None,
+            View::Atom => None,
+            View::Not(of) => Some(negation(of)),
+            View::Two(join, left, right) => Some(two(join, left, right)),
+            View::Over(asks, window, of) => Some(over(asks, &window, of)),
+            View::Reach(..) => unreachable!(),
         }
     }
 

@@ -3,7 +3,6 @@ ghost use Rattle.std.specs.Prelude.{◌≡◌, ◌<◌, ◌≤◌, ◌≤ℤ◌,
 ghost use Rattle.std.specs.Prelude.{None, false, true};
 ghost use Rattle.stl_syntax.specs.Trace.{Header};
 ghost use Rattle.stl_syntax.specs.declared.node.Node.{Node as ANode};
-ghost use Rattle.stl_syntax.specs.WellFormed.{HasBounds};
 ghost use Rattle.online_nodes.specs.StreamedWide.{IsUnstreamed};
 ghost use Rattle.online_robust.specs.Steps.{IsLeaf};
 ghost use Rattle.online_robust.specs.Putting.{lines_of, HasPutOut};
@@ -53,7 +52,6 @@ fn leaf_of(node: &Node) -> Work
 /// What a node does, before any row.
 pub(crate) fn work_of(node: &Node) -> Work
     requires streamed { ¬ IsUnstreamed node.now }
-    requires bounds { HasBounds node.now }
     ensures { IsFirstWork node.now result }
 {
     match Operator::new(node) {

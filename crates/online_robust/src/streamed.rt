@@ -3,25 +3,15 @@ ghost use Rattle.std.specs.Prelude.{◌≡◌, ℕ, slice_get, MatchBool, MatchO
 ghost use Rattle.stl_syntax.specs.declared.node.Node.{Node as ANode};
 ghost use Rattle.online_nodes.specs.StreamedWide.{IsFirstUnstreamed, IsUnstreamed};
 
-use stl_syntax::{Formula, Node};
+use stl_syntax::{Formula, Node, View};
 
 /// Whether the node has an operator of margins, or needs none: all but until and since.
 fn is_streamed(node: &Node) -> bool
     ensures { MatchBool result (¬ IsUnstreamed node.now) (IsUnstreamed node.now) }
 {
-    match node {
-        Node::Const(_) => true,
-        Node::Atom(_) => true,
-        Node::Not(_) => true,
-        Node::And(_, _) => true,
-        Node::Or(_, _) => true,
-        Node::Implies(_, _) => true,
-        Node::Until { .. } => false,
-        Node::Since { .. } => false,
-        Node::Eventually { .. } => true,
-        Node::Always { .. } => true,
-        Node::Once { .. } => true,
-        Node::Historically { .. } => true,
+    match node.view() {
+        View::Reach(..) => false,
+        _ => true,
     }
 }
 
