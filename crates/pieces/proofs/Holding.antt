@@ -224,22 +224,67 @@ holds_first trend known = record {
   plays = known.plays;
 }
 
--- what comes next may be climbed
-pub passes_rising : {P : Type 0} {shape : ShapeOf P} {chain : Chain P} {way : Way} {c : Place} {p : Piece P} {s : Sliding P} → ShapeLaws shape
-    → Passes shape chain way c p s → Rises shape chain way c p s
-passes_rising {shape = shape} {chain} {way} {c} {p} {s} laws known = record {
-  can = known.meets.can;
-  to = known.meets.to;
-  within = known.meets.within;
-  some = known.meets.some;
-  piece = known.meets.piece;
-  breaks = known.last;
-  ahead = reaches_past shape chain way (end p) known.ahead;
-  keeps = keeps_further shape laws chain way known.meets.can.rising c c (end p) c s (at_most_of_before c (end p) known.meets.piece.order)
-      known.meets.stands;
-  entered = known.meets.entered;
-  plays = known.meets.plays;
+-- what comes next is met
+pub met_next : {P : Type 0} {shape : ShapeOf P} {chain : Chain P} {way : Way} {c : Place} {p : Piece P} {old new : Sliding P}
+    → Passes shape chain way c p old → Stands shape chain way (end p) (end p) new → Plays shape chain way.over (place way.to) new
+    → HasMet shape chain way (end p) new
+met_next known stands plays = record {
+  can = known.met.can;
+  to = known.met.to;
+  within = known.met.within;
+  begins = piece_begun known.piece;
+  ends = known.piece.ends;
+  stands = stands;
+  plays = plays;
 }
+
+-- where what comes next begins
+module _ {P : Type 0} {shape : ShapeOf P} {chain : Chain P} {way : Way} {c : Place} {p : Piece P} {old : Sliding P}
+    (known : Passes shape chain way c p old) where
+  -- the chain goes past there
+  pub ahead_here : Reaches shape chain way c
+  ahead_here = elim known.ahead [
+    | inl h ↦ inl h
+    | inr h ↦ inr (lt_of_le_of_lt (le_of_before c (end p) known.piece.order) h.1)
+  ]
+
+  pub below_here : IsBelow shape chain way (stop chain).at c.at
+  below_here = below_sooner shape chain way (stop chain).at c.at (end p).at (le_of_before c (end p) known.piece.order)
+      (stop_below shape chain way (end p) known.ahead)
+
+  -- a place within limits
+  pub within_here : IsWithin (2 ^ 34) c.at
+  within_here = within_between (2 ^ 34) known.met.can.limited.begins known.met.can.limited.ends (le_of_at_most chain.from c known.met.begins)
+      (le_of_at_most c (stop chain) known.met.ends)
+
+  -- once the window has told on, and reaches past there, it may count
+  pub meets_entered : {new : Sliding P} → HasMet shape chain way c new → HasEntered shape chain way c new → Meets shape chain way c p new
+  meets_entered {new} met entered = record {
+    can = met.can;
+    to = met.to;
+    within = met.within;
+    some = known.some;
+    piece = known.piece;
+    breaks = known.breaks.first;
+    stands = met.stands;
+    entered = entered;
+    plays = met.plays;
+  }
+
+  -- or be climbed
+  pub rises_entered : {new : Sliding P} → ShapeLaws shape → HasMet shape chain way c new → HasEntered shape chain way c new → Rises shape chain way c p new
+  rises_entered {new} laws met entered = record {
+    can = met.can;
+    to = met.to;
+    within = met.within;
+    some = known.some;
+    piece = known.piece;
+    breaks = known.breaks.last;
+    ahead = reaches_past shape chain way (end p) known.ahead;
+    keeps = keeps_further shape laws chain way met.can.rising c c (end p) c new (at_most_of_before c (end p) known.piece.order) met.stands;
+    entered = entered;
+    plays = met.plays;
+  }
 
 -- a piece that gets no worse is held at its end, once the window reaches past that
 module _ {P : Type 0} {shape : ShapeOf P} {chain : Chain P} {way : Way} {c : Place} {p : Piece P} {old : Sliding P} (laws : ShapeLaws shape)

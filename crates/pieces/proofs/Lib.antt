@@ -36,6 +36,7 @@ pub mod Meeting
 pub mod Holding
 pub mod Refusals
 pub mod OverWindow
+pub mod Lagging
 pub mod Hands
 pub mod Following
 pub mod Stretches

@@ -5,11 +5,11 @@ use Rattle.rational.specs.Time.{Rational, ◌≤ʳ◌, ◌<ʳ◌, add, whole}
 use Rattle.rational.proofs.Order.{le_trans, lt_of_le_of_lt}
 use Rattle.rational.proofs.Shift.{le_shift}
 use Rattle.rational.specs.Extended.{Extended, ◌≈ᵉ◌, value_at, Passes}
-use Rattle.rational.specs.Places.{Place, After, Upto, Before, AtMost}
+use Rattle.rational.specs.Places.{Place, After, Upto, Before, AtMost, Same}
 use Rattle.rational.proofs.AffineLemmas.{same_reflᵉ}
 use Rattle.rational.proofs.Sames.{symᵉ, transᵉ}
 use Rattle.rational.proofs.PlaceLemmas.{after_at_most, before_through, before_trans, before_at_most, before_of_at_most, upto_same}
-use Rattle.rational.proofs.PlaceLemmas.{after_same, upto_of_before}
+use Rattle.rational.proofs.PlaceLemmas.{after_same, not_both, place_order, same_places, upto_of_before}
 use Rattle.frac128.specs.Cuts.{place}
 use Rattle.value_laws.specs.Members.{ShapeOf, ShapeLaws}
 use Rattle.pieces.specs.declared.piece.Piece.{Piece}
@@ -21,7 +21,7 @@ use Rattle.pieces.specs.Steps.{AreSteps, FallOff, HasCounted, HasSlid, HideTo, S
 use Rattle.pieces.specs.Sliding.{HasTold, IsBestWith, last_end}
 use Rattle.pieces.specs.Windows.{Sees, IsNonEmpty, IsPieceFrom, Best, BestTo, Keeps, Stands, HasEntered}
 use Rattle.pieces.proofs.Bests.{Values, nw_trans, nw_back, better_is_first, better_is_second, better_alike, same_of_nw, best_value, best_of_fewer}
-use Rattle.pieces.proofs.Bests.{best_over, over_best}
+use Rattle.pieces.proofs.Bests.{best_none, best_over, over_best}
 use Rattle.pieces.proofs.Ends.{at_most_trans}
 use Rattle.pieces.proofs.StepLemmas.{all_above, give_after, give_upto, hide_upto, to_end}
 use Rattle.pieces.proofs.Seeing.{low, high, none, BestOf, floor, OfPiece, falling_within, met_more, all_seen, none_seen}
@@ -119,6 +119,28 @@ module _ {P : Type 0} (shape : ShapeOf P) (laws : ShapeLaws shape) (chain : Chai
       of_best met t v (best_value (symᵉ (transᵉ w (is t))) (none_seen shape laws chain way rising met t
       (λ x y s k. st.none t a u x y s (most x k))))
 
+  -- the best goes on over a piece of which the best is no better, or that is not seen yet
+  pub best_on : (some : IsNonEmpty way.over) (c : Place) (p : Piece P) (is : IsPieceFrom shape chain c p) (t : Rational) (x v : Extended)
+      → BestTo shape chain way c t x
+      → (Before c (high shape laws chain way rising t) → BestOf shape laws chain way rising (OfPiece shape laws chain way rising some c p is t) v)
+      → IsNoWorse way.side x v → BestTo shape chain way (end p) t x
+  best_on some c p is t x v best part above = of_best (end p) t x (by_order (place_order c (high shape laws chain way rising t)))
+    where
+      met : BestOf shape laws chain way rising (SeenTo c t) x
+      met = to_best c t x best
+
+      unseen : ((u : Rational) → Upto (high shape laws chain way rising t) u → Upto c u) → BestOf shape laws chain way rising (SeenTo (end p) t) x
+      unseen upto = met_more shape laws chain way rising some c p is t met
+          (best_none way.side (none shape laws chain way rising) (Values (OfPiece shape laws chain way rising some c p is t) (IsWorth shape chain))
+          (λ y m. not_both c m.0 (upto m.0 m.1.0.1) m.1.1))
+          (better_is_first way.side x (none shape laws chain way rising) met.floor)
+
+      by_order : Before c (high shape laws chain way rising t) ⊎ Same c (high shape laws chain way rising t) ⊎ Before (high shape laws chain way rising t) c
+          → BestOf shape laws chain way rising (SeenTo (end p) t) x
+      by_order (inl h) = met_more shape laws chain way rising some c p is t met (part h) (better_is_first way.side x v above)
+      by_order (inr (inl s)) = unseen (λ u. upto_same (high shape laws chain way rising t) c u (same_places s))
+      by_order (inr (inr b)) = unseen (λ u. upto_of_before (high shape laws chain way rising t) c u b)
+
   module _ (some : IsNonEmpty way.over) (c reach left : Place) (p : Piece P) (is : IsPieceFrom shape chain c p) (old new : Sliding P)
       (st : Keeps shape chain way c reach c old) (further : AtMost reach (end p)) (out : new.out ≡ old.out) where
     -- the piece counts by a constant
@@ -200,7 +222,7 @@ module _ {P : Type 0} (shape : ShapeOf P) (laws : ShapeLaws shape) (chain : Chai
     pub stands_hidden : new.steps.items ≡ old.steps.items → (v : Extended) (e : Place) → FallOff shape way.side (stop old.out) old.steps.items
         → HideTo shape way.side old.steps.items v e
         → ((t : Rational) → After (stop old.out) t → Upto (place way.to) t → Before (low shape laws chain way rising t) left
-        → BestOf shape laws chain way rising (OfPiece shape laws chain way rising some c p is t) v)
+        → Before c (high shape laws chain way rising t) → BestOf shape laws chain way rising (OfPiece shape laws chain way rising some c p is t) v)
         → ((t : Rational) → After e t → Upto (place way.to) t → ¬ Before (low shape laws chain way rising t) left) → AtMost c left
         → Stands shape chain way (end p) left new
     stands_hidden same v e falls hides part past most = record {
@@ -228,10 +250,10 @@ module _ {P : Type 0} (shape : ShapeOf P) (laws : ShapeLaws shape) (chain : Chai
         by_old : (t : Rational) (x : Extended) → StepsGive shape way.side (stop old.out) old.steps.items t x → BestTo shape chain way (end p) t x
         by_old t x g =
             let s = st.sees t x g in
-            of_best (end p) t x (met_more shape laws chain way rising some c p is t (to_best c t x (st.gives t x g))
+            best_on some c p is t x v (st.gives t x g)
             (part t (give_after shape way.side (stop old.out) old.steps.items t x st.steps g) s.1
             (before_at_most (low shape laws chain way rising t) c left s.0 most))
-            (better_is_first way.side x v (all_above shape way.side (stop old.out) old.steps.items v e st.steps falls hides t x g)))
+            (all_above shape way.side (stop old.out) old.steps.items v e st.steps falls hides t x g)
 
   module _ (some : IsNonEmpty way.over) (c : Place) (p : Piece P) (is : IsPieceFrom shape chain c p) (old new : Sliding P)
       (st : Stands shape chain way (end p) c old) (out : new.out ≡ old.out)

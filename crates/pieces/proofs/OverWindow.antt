@@ -163,17 +163,10 @@ module _ {P : Type 0} {shape : ShapeOf P} {chain : Chain P} {way : Way} where
 pub passes_next : {P : Type 0} {shape : ShapeOf P} {chain : Chain P} {c : Place} {w : Window P} {p : Piece P} → IsNonEmpty w.way.over
     → StandsFor shape chain c w → IsNext shape chain w.way c p → Passes shape chain w.way c p w.sliding
 passes_next some st next = record {
-  meets = record {
-    can = st.met.can;
-    to = st.met.to;
-    within = st.met.within;
-    some = some;
-    piece = next.piece;
-    breaks = next.breaks.first;
-    stands = st.met.stands;
-    entered = (st.ready some).entered;
-    plays = st.met.plays;
-  };
-  last = next.breaks.last;
+  met = st.met;
+  some = some;
+  piece = next.piece;
+  breaks = next.breaks;
+  falls = (st.ready some).falls;
   ahead = next.ahead;
 }

@@ -1,5 +1,6 @@
 -- What the trend of a function says of its later values, for a side.
-use Rattle.std.proofs.Common.{◌⊎◌, inl, inr}
+use Rattle.std.proofs.Common.{◌≡◌, ◌⊎◌, inl, inr, refl}
+use Rattle.std.specs.declared.cmp.Ordering.{Ordering}
 use Rattle.std.specs.declared.cmp.Ordering.TheVariants.{Less, Equal, Greater}
 use Rattle.rational.specs.Time.{Rational, ◌≤ʳ◌, ◌<ʳ◌}
 use Rattle.rational.specs.Extended.{Affine, value_at, ◌≤ᵉ◌}
@@ -10,6 +11,7 @@ use Rattle.rational.proofs.Order.{le_or_lt, same_of_le}
 use Rattle.pl_signal.specs.declared.joining.Side.{Side}
 use Rattle.pl_signal.specs.declared.joining.Side.TheVariants.{Least, Greatest}
 use Rattle.pieces.specs.Best.{GetsNoBetter, GetsNoWorse, IsTrendFor}
+use Rattle.pieces.proofs.Bests.{nw_same}
 
 -- a function without a trend is steady
 pub steady_of : (side : Side) (f : Affine) → IsTrendFor side Equal f → IsSteady f
@@ -39,3 +41,15 @@ no_worse_of Least f h t u order = record { order = shrunk f t u h order }
 pub no_better_of : (side : Side) (f : Affine) → IsTrendFor side Less f → GetsNoBetter side f
 no_better_of Greatest f h t u order = record { order = shrunk f t u h order }
 no_better_of Least f h t u order = record { order = grown f t u h order }
+
+-- what does not go towards better values gets no better
+pub falls_of : (side : Side) (o : Ordering) (f : Affine) → IsTrendFor side o f → ¬ (o ≡ Greater) → GetsNoBetter side f
+falls_of side Less f h n = no_better_of side f h
+falls_of side Equal f h n = λ t u order. nw_same side (steady_of side f h t u)
+falls_of side Greater f h n = absurd (n refl)
+
+-- and what does not go away from them no worse
+pub rises_of : (side : Side) (o : Ordering) (f : Affine) → IsTrendFor side o f → ¬ (o ≡ Less) → GetsNoWorse side f
+rises_of side Less f h n = absurd (n refl)
+rises_of side Equal f h n = λ t u order. nw_same side (steady_of side f h u t)
+rises_of side Greater f h n = no_worse_of side f h

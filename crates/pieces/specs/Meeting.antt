@@ -1,5 +1,5 @@
 -- A window on its way over a chain of which it has met the pieces up to a place: what it stands for, and what comes next.
-use Rattle.std.specs.Prelude.{◌≡◌, ◌⊎◌, ◌^◌}
+use Rattle.std.specs.Prelude.{◌≡◌, ◌⊎◌, ◌^◌, List, ◌∷◌, None}
 use Rattle.rational.specs.Rational.{IsWithin, add, whole}
 use Rattle.rational.specs.Time.{Rational, ◌≤ʳ◌, ◌<ʳ◌}
 use Rattle.rational.specs.Extended.{Affine, Extended, value_at}
@@ -16,16 +16,29 @@ use Rattle.pieces.specs.declared.piece.Piece.{Piece}
 use Rattle.pieces.specs.declared.reach.Reach.{Reach}
 use Rattle.pieces.specs.declared.reach.Way.{Way}
 use Rattle.pieces.specs.declared.sliding.Sliding.{Sliding}
+use Rattle.pieces.specs.declared.steps.Step.{Step}
 use Rattle.pieces.specs.declared.window.Window.{Window}
+use Rattle.pl_signal.specs.declared.joining.Side.{Side}
+use Rattle.pieces.specs.Best.{IsNoWorse}
 use Rattle.pieces.specs.Chains.{Chain, IsWorth, end, stop}
 use Rattle.pieces.specs.Over.{HasBreaks, Plays}
 use Rattle.pieces.specs.Causes.{IsHeldAt}
+use Rattle.pieces.specs.Steps.{FallOff, step_end}
 use Rattle.pieces.specs.Windows.{CanSlide, HasEntered, IsBestEnd, IsLeft, IsNonEmpty, IsPieceFrom, Keeps, Stands, high_place}
 
 -- a window has told no more, or no further than to where its high end comes to the place
 abbrev pub HasToldTo : {P : Type 0} → Way → Place → Sliding P → Sliding P → Type 0
 HasToldTo way met old new = (stop new.out ≡ stop old.out)
     ⊎ ((t : Rational) → Upto (stop new.out) t → ¬ Before met (high_place way.over.high way.over.high_in t))
+
+-- the first of the steps has one shape, and goes on past the place, where it is no worse than the function at the window's high end
+pub record IsUnder {P : Type 0} (shape : ShapeOf P) (side : Side) (over : Reach) (steps : List (Step P)) (f : Affine) (next : Place) : Type 0 where
+  pub first : Step P
+  pub rest : List (Step P)
+  pub are : steps ≡ first ∷ rest
+  pub alone : first.other ≡ None
+  pub later : Before next (step_end first)
+  pub above : IsNoWorse side (value_at (shape.function first.shape) next.at) (value_at f (add next.at (whole over.high)))
 
 module _ {P : Type 0} (shape : ShapeOf P) (chain : Chain P) where
   -- between two times each constant with the value is in play, and held at a breakpoint up to the time `last`
@@ -123,16 +136,19 @@ module _ {P : Type 0} (shape : ShapeOf P) (chain : Chain P) where
       pub entered : HasEntered shape chain way best s
       pub plays : Plays shape chain way.over (place way.to) s
 
-    -- the piece comes next where it stands, and the chain goes past it
+    -- the piece comes next where the pieces up to there were met, and the chain goes past it; the steps that the window has still to tell fall off
     pub record Passes (from : Place) (p : Piece P) (s : Sliding P) : Type 0 where
-      pub meets : Meets from p s
-      pub last : IsBreakpoint (IsWorth shape chain) chain.from.at (stop chain).at (end p).at
+      pub met : HasMet from s
+      pub some : IsNonEmpty way.over
+      pub piece : IsPieceFrom shape chain from p
+      pub breaks : HasBreaks shape chain from p
+      pub falls : FallOff shape way.side (stop s.out) s.steps.items
       pub ahead : GoesPast (end p)
 
-    -- where some time may lie in the window, it knows where it has left the place, and reaches past it from where it has told on
+    -- where some time may lie in the window, it knows where it has left the place, and its steps fall off
     pub record IsReady (met gone : Place) (s : Sliding P) : Type 0 where
       pub left : IsLeft way met gone
-      pub entered : HasEntered shape chain way met s
+      pub falls : FallOff shape way.side (stop s.out) s.steps.items
 
   -- the window stands for the chain: it has met the pieces up to the place, and may meet the next one
   pub record StandsFor (at : Place) (w : Window P) : Type 0 where

@@ -1,5 +1,5 @@
 //! The least and the greatest of two shapes from one place to another.
-ghost use Rattle.std.specs.Prelude.{◌≡◌, ◌^◌, ◌<◌, ◌≤◌, ◌+◌, if◌then◌else◌, IfSome, None, MatchResult, OnErr, OnOk, IfOk, vec_len, vec_capacity};
+ghost use Rattle.std.specs.Prelude.{◌≡◌, IsTrue, ◌^◌, ◌<◌, ◌≤◌, ◌+◌, if◌then◌else◌, IfSome, None, MatchResult, OnErr, OnOk, IfOk, vec_len, vec_capacity};
 ghost use Rattle.rational.specs.Rational.{IsWithin};
 ghost use Rattle.rational.specs.Affine.{HasBoundedLevel};
 ghost use Rattle.rational.specs.Places.{Before};
@@ -10,12 +10,13 @@ ghost use Rattle.pl_signal.specs.declared.faults.OpFault.TheVariants as F;
 ghost use Rattle.pl_signal.specs.declared.joining.Side.{Side as Wanted};
 ghost use Rattle.pl_signal.specs.Joining.{IsGapFault, IsTurn, TurnsOver};
 ghost use Rattle.rational.specs.Time.{◌<ʳ◌, ◌≤ʳ◌};
-ghost use Rattle.pieces.specs.Best.{FallsFrom, RisesFrom};
+ghost use Rattle.pieces.specs.Best.{FallsFrom, GetsNoBetter, GetsNoWorse, RisesFrom};
 ghost use Rattle.pieces.specs.Chains.{Chain, IsNormal, stop};
 ghost use Rattle.pieces.specs.Building.{GoesOn};
 ghost use Rattle.pieces.specs.Joining.{IsTakenOn, Joins};
 
 use crate::pieces::go_on;
+use crate::window::trend;
 use crate::{Piece, Pieces};
 use frac128::{Cut, Memory};
 use pl_signal::{Side, WidePair, crossing, favour, keep};
@@ -187,9 +188,43 @@ fn put_two<P: Shape>(
 }
 
 /// Whether the first of the two is taken at each time between the places, or the second. Where they cross there, `Err` says whether the
-/// first is taken before, and the second after.
+/// first is taken before, and the second after. Where the one gets no better and the other no worse, mostly one comparison tells it.
 #[inline(always)]
 fn takes_first<P: Shape>(side: Side, p: &P, q: &P, from: &Cut, until: &Cut) -> Result<bool, bool>
+    requires order { value from.now.time ≤ʳ value until.now.time }
+    requires from_within { IsWithin (2 ^ 34) (value from.now.time) }
+    requires to_within { IsWithin (2 ^ 34) (value until.now.time) }
+    ensures { MatchResult result
+        (λ first. IsTakenOn P.Shape side p.now q.now (place from.now) (place until.now) (if first then p.now else q.now))
+        (IsTurn P.Shape side p.now q.now (value from.now.time) (value until.now.time)) }
+{
+    if falls_beside(side, p, q) {
+        return takes_falling(side, p, q, from, until);
+    }
+    if falls_beside(side, q, p) {
+        return takes_rising(side, p, q, from, until);
+    }
+    takes_either(side, p, q, from, until)
+}
+
+/// Whether the first of two shapes gets no better with time, and the second no worse.
+#[inline(always)]
+fn falls_beside<P: Shape>(side: Side, p: &P, q: &P) -> bool
+    ensures falls { IsTrue result → GetsNoBetter side (P.function p.now) }
+    ensures rises { IsTrue result → GetsNoWorse side (P.function q.now) }
+{
+    match trend(side, p) {
+        Ordering::Greater => false,
+        _ => match trend(side, q) {
+            Ordering::Less => false,
+            _ => true,
+        },
+    }
+}
+
+/// The same for any two.
+#[inline(always)]
+fn takes_either<P: Shape>(side: Side, p: &P, q: &P, from: &Cut, until: &Cut) -> Result<bool, bool>
     requires from_within { IsWithin (2 ^ 34) (value from.now.time) }
     requires to_within { IsWithin (2 ^ 34) (value until.now.time) }
     ensures { MatchResult result
@@ -230,5 +265,26 @@ fn takes_falling<P: Shape>(side: Side, p: &P, q: &P, from: &Cut, until: &Cut) ->
             _ => Ok(false),
         },
         _ => Ok(true),
+    }
+}
+
+/// The same for a shape that gets no worse on the way and one that gets no better.
+#[inline(always)]
+fn takes_rising<P: Shape>(side: Side, p: &P, q: &P, from: &Cut, until: &Cut) -> Result<bool, bool>
+    requires rises { RisesFrom side (value from.now.time) (value until.now.time) (P.function p.now) }
+    requires falls { FallsFrom side (value from.now.time) (value until.now.time) (P.function q.now) }
+    requires order { value from.now.time ≤ʳ value until.now.time }
+    requires from_within { IsWithin (2 ^ 34) (value from.now.time) }
+    requires to_within { IsWithin (2 ^ 34) (value until.now.time) }
+    ensures { MatchResult result
+        (λ first. IsTakenOn P.Shape side p.now q.now (place from.now) (place until.now) (if first then p.now else q.now))
+        (IsTurn P.Shape side p.now q.now (value from.now.time) (value until.now.time)) }
+{
+    match favour(side, p, q, &until.time) {
+        Ordering::Less => match favour(side, p, q, &from.time) {
+            Ordering::Greater => Err(false),
+            _ => Ok(true),
+        },
+        _ => Ok(false),
     }
 }

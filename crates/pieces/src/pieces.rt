@@ -125,11 +125,21 @@ impl<P: Shape> Pieces<P> {
         ensures value { place result ≡ stop self.now }
         ensures normal { IsNormal P.Shape self.now }
     {
+        // For the proof alone: that the chain is normal.
+        let _ = &self.alloc;
+        *self.until_in_place()
+    }
+
+    /// The same by reference, so that only what is read of the place is loaded.
+    #[inline(always)]
+    fn until_in_place(&self) -> &Cut
+        ensures { place result.now ≡ stop self.now }
+    {
         let count = self.items.len();
         if count == 0 {
-            return self.from;
+            return &self.from;
         }
-        self.items[count - 1].until
+        &self.items[count - 1].until
     }
 
     /// Goes on with a shape up to a place. Without memory for it the chain stays as it was.

@@ -75,6 +75,7 @@ impl<P: Shape> Sliding<P> {
 }
 
 /// Goes on with the better of what a step gives and of a shape that gets no worse, up to a place.
+#[inline(always)]
 fn write<P: Shape>(
     side: Side,
     out: &mut Pieces<P>,
@@ -111,6 +112,7 @@ fn write<P: Shape>(
 
 /// The same for a step of two shapes. What the two shapes that move have in common is looked for first: behind it the falling one is
 /// never the best.
+#[inline(never)]
 fn write_three<P: Shape>(
     side: Side,
     out: &mut Pieces<P>,

@@ -28,6 +28,7 @@ pub(crate) struct Step<P> {
 /// # Errors
 ///
 /// `Memory` where memory is wanting.
+#[inline(always)]
 pub(crate) fn count<P: Shape>(
     side: Side,
     from: &Cut,
@@ -64,6 +65,7 @@ pub(crate) fn count<P: Shape>(
 /// # Errors
 ///
 /// `Memory` where memory is wanting.
+#[inline(always)]
 pub(crate) fn slide<P: Shape>(
     side: Side,
     from: &Cut,

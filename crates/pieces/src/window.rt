@@ -11,11 +11,11 @@ ghost use Rattle.pl_signal.specs.declared.faults.OpFault.TheVariants as F;
 ghost use Rattle.courses.specs.Courses.{IsFixed, IsValueFault};
 ghost use Rattle.pieces.specs.Best.{GetsNoBetter, GetsNoWorse, IsNoWorse, IsTrendFor, none_of};
 ghost use Rattle.pieces.specs.Chains.{Chain, IsLimited, Tells, end, stop};
-ghost use Rattle.pieces.specs.Meeting.{CanBegin, HasMet, HasToldTo, Holds, IsBelow, IsHeldFault, IsNext, Meets, Passes, Reaches, Rises, StandsFor};
+ghost use Rattle.pieces.specs.Meeting.{CanBegin, HasMet, HasToldTo, Holds, IsBelow, IsHeldFault, IsNext, IsUnder, Meets, Passes, Reaches, Rises, StandsFor};
 ghost use Rattle.pieces.specs.Causes.{HasPassed, IsCauseBelow};
 ghost use Rattle.pieces.specs.Over.{BasesOver, HasCauseOver, IsCauseOver, Plays};
 ghost use Rattle.pieces.specs.Sliding.{last_end};
-ghost use Rattle.pieces.specs.Steps.{AreSteps, HideTo};
+ghost use Rattle.pieces.specs.Steps.{AreSteps, FallOff, HideTo, step_end};
 ghost use Rattle.pieces.specs.Windows.{AreNear, Best, BestOver, CanSlide, HasEntered, IsAtEnd, IsBestEnd, IsLeft, IsNonEmpty, IsPieceFrom, IsReached, IsSmall};
 ghost use Rattle.pieces.specs.Windows.{Keeps, Stands, high_place, low_place};
 
@@ -68,7 +68,7 @@ impl<P: Shape> Window<P> {
             to: *to,
         };
         let out = Pieces::with_room(alloc, from, room)?;
-        let mut sliding = Sliding {
+        let sliding = Sliding {
             out,
             steps: VecDeque::new(alloc),
         };
@@ -79,8 +79,6 @@ impl<P: Shape> Window<P> {
                 sliding,
             });
         }
-        let mut fault = None;
-        enter(&way, from, &mut sliding, &mut fault)?;
         Ok(Window {
             way,
             gone: left(&way, from),
@@ -226,8 +224,7 @@ fn pass<P: Shape>(
     requires none { fault.old ≡ None }
     ensures met { (s : Chain P) → Passes P.Shape s way.now (place from.now) piece.now window.old
         → OnOk result (HasMet P.Shape s way.now (end piece.now) window.new) }
-    ensures entered { (s : Chain P) → Passes P.Shape s way.now (place from.now) piece.now window.old
-        → OnOk result (HasEntered P.Shape s way.now (end piece.now) window.new) }
+    ensures falls { OnOk result (FallOff P.Shape way.now.side (stop window.new.out) window.new.steps.items) }
     ensures from { OnOk result (window.new.out.from ≡ window.old.out.from) }
     ensures still { OnOk result (fault.new ≡ None) }
     ensures wide { (s : Chain P) → Passes P.Shape s way.now (place from.now) piece.now window.old
@@ -235,15 +232,123 @@ fn pass<P: Shape>(
 {
     match trend(way.side, &piece.shape) {
         Ordering::Equal => {
-            steady(way, piece, until, window)?;
-            enter(way, &piece.until, window, fault)
+            enter(way, from, window, fault)?;
+            steady(way, piece, until, window)
         }
-        Ordering::Greater => rising(way, piece, until, window, fault),
-        Ordering::Less => {
-            falling(way, from, gone, piece, until, window, fault)?;
-            enter(way, &piece.until, window, fault)
-        }
+        Ordering::Greater => meet_rising(way, from, piece, until, window, fault),
+        Ordering::Less => meet_falling(way, from, gone, piece, until, window, fault),
     }
+}
+
+/// Lets a piece that gets better count. As long as the first of the steps is no worse under the window's high end, that alone is told.
+fn meet_rising<P: Shape>(
+    way: &Way,
+    from: &Cut,
+    piece: &Piece<P>,
+    until: &Cut,
+    window: &mut Sliding<P>,
+    fault: &mut Option<WidePair<P>>,
+) -> Result<(), Memory>
+    requires met { (s : Chain P) × Passes P.Shape s way.now (place from.now) piece.now window.old }
+    requires trend { GetsNoWorse way.now.side (P.function piece.now.shape) }
+    requires left { IsLeft way.now (end piece.now) (place until.now) }
+    requires none { fault.old ≡ None }
+    ensures met { (s : Chain P) → Passes P.Shape s way.now (place from.now) piece.now window.old
+        → OnOk result (HasMet P.Shape s way.now (end piece.now) window.new) }
+    ensures falls { OnOk result (FallOff P.Shape way.now.side (stop window.new.out) window.new.steps.items) }
+    ensures from { OnOk result (window.new.out.from ≡ window.old.out.from) }
+    ensures still { OnOk result (fault.new ≡ None) }
+    ensures wide { (s : Chain P) → Passes P.Shape s way.now (place from.now) piece.now window.old
+        → OnErr result (IfSome fault.new (IsCauseBelow P.Shape s way.now.over (stop s).at)) }
+{
+    let Some(next) = under(way, piece, window) else {
+        enter(way, from, window, fault)?;
+        return rising(way, piece, until, window, fault);
+    };
+    window.tell(way.side, &of_none(way.side), true, &next, fault)?;
+    hold(way, piece, &piece.until, until, window, fault)
+}
+
+/// The place from which on the window reaches past a piece that gets better, in the domain, where the first of the steps goes on past that
+/// and is no worse than the piece under the window's high end.
+#[inline(always)]
+fn under<P: Shape>(way: &Way, piece: &Piece<P>, window: &Sliding<P>) -> Option<Cut>
+    requires met { (s : Chain P) × (c : Place) × Passes P.Shape s way.now c piece.now window.now }
+    ensures reached { IfSome result (λ e. IsReached way.now (end piece.now) (place e)) }
+    ensures on { IfSome result (λ e. AtMost (stop window.now.out) (place way.now.to) → AtMost (stop window.now.out) (place e)) }
+    ensures under { IfSome result (λ e. IsUnder P.Shape way.now.side way.now.over window.now.steps.items (P.function piece.now.shape) (place e)) }
+{
+    let Some(first) = window.steps.front() else {
+        return None;
+    };
+    let Some(next) = reached(way, &piece.until, &window.out.until()) else {
+        return None;
+    };
+    if covers(way, first, &piece.shape, &next) {
+        return Some(next);
+    }
+    None
+}
+
+/// Whether a step has one shape, goes on past the place, and is there no worse than another shape at the window's high end.
+#[inline(always)]
+fn covers<P: Shape>(way: &Way, step: &Step<P>, shape: &P, next: &Cut) -> bool
+    requires small { IsSmall way.now.over }
+    requires near { (neg_ℤ (pos (2 ^ 32)) ≤ℤ P.base shape.now) × (P.base shape.now ≤ℤ pos (2 ^ 33)) }
+    requires within { IsWithin (2 ^ 34) (value_of next.now.time) }
+    ensures alone { IsTrue result → step.now.other ≡ None }
+    ensures later { IsTrue result → Before (place next.now) (step_end step.now) }
+    ensures above { IsTrue result → IsNoWorse way.now.side (value_at (P.function step.now.shape) (value_of next.now.time))
+        (value_at (P.function shape.now) (add (value_of next.now.time) (whole way.now.over.high))) }
+{
+    if !next.precedes(&step.until) {
+        return false;
+    }
+    if let Some(_) = &step.other {
+        return false;
+    }
+    match favour(
+        way.side,
+        &step.shape,
+        &at_high(&way.over, shape),
+        &next.time,
+    ) {
+        Ordering::Greater => false,
+        _ => true,
+    }
+}
+
+/// Lets a piece that gets worse count. Where the steps hide its begin nothing need be told before.
+fn meet_falling<P: Shape>(
+    way: &Way,
+    from: &Cut,
+    gone: &Cut,
+    piece: &Piece<P>,
+    until: &Cut,
+    window: &mut Sliding<P>,
+    fault: &mut Option<WidePair<P>>,
+) -> Result<(), Memory>
+    requires met { (s : Chain P) × Passes P.Shape s way.now (place from.now) piece.now window.old }
+    requires trend { GetsNoBetter way.now.side (P.function piece.now.shape) }
+    requires gone { IsLeft way.now (place from.now) (place gone.now) }
+    requires left { IsLeft way.now (end piece.now) (place until.now) }
+    requires none { fault.old ≡ None }
+    ensures met { (s : Chain P) → Passes P.Shape s way.now (place from.now) piece.now window.old
+        → OnOk result (HasMet P.Shape s way.now (end piece.now) window.new) }
+    ensures falls { OnOk result (FallOff P.Shape way.now.side (stop window.new.out) window.new.steps.items) }
+    ensures from { OnOk result (window.new.out.from ≡ window.old.out.from) }
+    ensures still { OnOk result (fault.new ≡ None) }
+    ensures wide { (s : Chain P) → Passes P.Shape s way.now (place from.now) piece.now window.old
+        → OnErr result (IfSome fault.new (IsCauseBelow P.Shape s way.now.over (stop s).at)) }
+{
+    let at = window.out.until();
+    if is_hidden(way, &at, &window.steps, &piece.shape, &from.time, gone) {
+        let slope = at_low(&way.over, &piece.shape);
+        return slide(way.side, &at, &mut window.steps, &slope, until);
+    }
+    enter(way, from, window, fault)?;
+    falling(way, from, gone, piece, until, window, fault)?;
+    enter(way, &piece.until, window, fault)
 }
 
 /// Tells up to where the window reaches past the place: up to there no more comes into it.
@@ -286,6 +391,7 @@ pub(crate) fn steady<P: Shape>(
     ensures met { (s : Chain P) (c : Place) → Meets P.Shape s way.now c piece.now window.old
         → OnOk result (HasMet P.Shape s way.now (end piece.now) window.new) }
     ensures past { OnOk result (HasPassed way.now (end piece.now) window.new) }
+    ensures falls { OnOk result (FallOff P.Shape way.now.side (stop window.new.out) window.new.steps.items) }
     ensures out { window.new.out ≡ window.old.out }
 {
     let at = window.out.until();
@@ -395,6 +501,7 @@ fn hold<P: Shape>(
 
 /// Whether the last step goes on to the place, and what it gives is no worse than the value of the shape at the time, which then need not
 /// be known.
+#[inline(always)]
 fn is_hidden<P: Shape>(
     way: &Way,
     from: &Cut,

@@ -71,7 +71,7 @@ returns-then-is_hidden-clause-stands g c chain from known =
     stands_hidden g.P.Shape laws chain way known.can.rising known.some from best best piece known.piece c.args.window.now c.args.window.now
     known.keeps (held_ends laws known) refl refl (value_at (g.P.Shape.function piece.shape) best.at) (place c.args.until.now) (held_falls laws known)
     (c.is_hidden.ensures c.if-is_hidden.true)
-    (λ t a u l. best_there g.P.Shape laws chain way known.can.rising from piece known.piece best known.is_best known.some t
+    (λ t a u l h. best_there g.P.Shape laws chain way known.can.rising from piece known.piece best known.is_best known.some t
     (known.entered t a u) l)
     c.requires.left.after (held_begins laws known)
 

@@ -17,6 +17,7 @@ use Rattle.pieces.specs.Windows.{low_place}
 use Rattle.pieces.proofs.Bests.{best_value}
 use Rattle.pieces.proofs.Ends.{at_most_of_before}
 use Rattle.pieces.proofs.Holding.{met_piece, told_within}
+use Rattle.pieces.proofs.Lagging.{counted_falls}
 use Rattle.pieces.proofs.StepLemmas.{give_some, to_end}
 use Rattle.pieces.proofs.Seeing.{steady_met}
 use Rattle.pieces.proofs.Moving.{falls_off, stands_counted, stands_left}
@@ -128,6 +129,26 @@ returns-clause-past g c t a u =
     c.requires.left.after t (after_at_most e at t (at_most_of_not_before e at (λ b. false≢true (sym c.if-precedes.false ∙ c.precedes.ensures.1
     (subst (λ x. Before x e) (sym c.until-at.ensures.value) b))))
     (after_at_most at (last_end c.args.window.now) t (to_end g.P.Shape c.args.way.now.side at c.args.window.now.steps.items known.stands.steps) a)) u
+
+pub returns-then-precedes-clause-falls : goal.returns-then-precedes-clause-falls
+returns-then-precedes-clause-falls g c =
+    let (chain, from, known) = c.requires.met in
+    let side = c.args.way.now.side in
+    let old = c.args.window.now in
+    let until = place c.args.until.now in
+    let at = c.until-at.ensures.value in
+    on_ok_weaker c.count.result (λ counted. subst (λ b. FallOff g.P.Shape side b c.count.new.steps.items) at
+    (counted_falls g.P.Shape side (place c.until-at.result) old.steps.items c.count.new.steps.items c.at_high-level.result until
+    (subst (λ b. AreSteps g.P.Shape side b old.steps.items) (sym at) known.stands.steps)
+    (subst (λ s. FallOff g.P.Shape side s old.steps.items) (sym at) (falls_off g.P.Shape (assumption g.met.P.Shape) chain c.args.way.now
+    known.can.rising from from from old known.stands known.entered))
+    (λ t u a b d e. transᵉ (c.at_high-level.ensures.value t) (transᵉ (c.requires.trend (add t (whole c.args.way.now.over.high))
+    (add u (whole c.args.way.now.over.high))) (symᵉ (c.at_high-level.ensures.value u)))) counted)) c.count.ensures
+
+pub returns-clause-falls : goal.returns-clause-falls
+returns-clause-falls g c =
+    let (chain, from, known) = c.requires.met in
+    falls_off g.P.Shape (assumption g.met.P.Shape) chain c.args.way.now known.can.rising from from from c.args.window.now known.stands known.entered
 
 pub at_high-level-requires-clause-room : goal.at_high-level-requires-clause-room
 at_high-level-requires-clause-room g c =

@@ -6,18 +6,9 @@ use Rattle.frac128.specs.Cuts.{place}
 use Rattle.value_laws.specs.Members.{ShapeLaws}
 use Rattle.pieces.specs.Chains.{stop}
 use Rattle.pieces.proofs.ChainLemmas.{to_stop}
-use Rattle.pieces.proofs.Holding.{reaches_past}
+use Rattle.pieces.proofs.Lagging.{none_falls}
 use Rattle.pieces.proofs.OverWindow.{empty_or_some, met_none}
 use Rattle.pieces.proofs.window.Window.begin.Goals as goal
-
-pub enter-requires-clause-met : goal.enter-requires-clause-met
-enter-requires-clause-met g c =
-    let laws : ShapeLaws g.P.Shape = assumption g.met.P.Shape in
-    let (s, can) = c.requires.can in (
-      s,
-      met_none laws (place c.args.from.now) _ can c.in_ok-out.ensures c.new.ensures.items,
-      reaches_past g.P.Shape s (record { side = c.args.side; over = c.args.over; to = c.args.to.now }) (place c.args.from.now) can.ahead,
-    )
 
 pub left-requires-clause-from : goal.left-requires-clause-from
 left-requires-clause-from g c =
@@ -52,11 +43,10 @@ returns-then-is_empty-clause-stands g c s can =
 pub returns-clause-stands : goal.returns-clause-stands
 returns-clause-stands g c s can =
     let laws : ShapeLaws g.P.Shape = assumption g.met.P.Shape in
-    let begun = met_none laws (place c.args.from.now) _ can c.in_ok-out.ensures c.new.ensures.items in
     record {
-      from = c.in_ok-enter.ensures.from ∙ (ap (λ o. o.from) c.in_ok-out.ensures ∙ can.begins);
-      met = c.in_ok-enter.ensures.met s begun (reaches_past g.P.Shape s (record { side = c.args.side; over = c.args.over; to = c.args.to.now }) (place c.args.from.now) can.ahead);
-      ready = λ some. record { left = c.left.ensures; entered = c.in_ok-enter.ensures.entered s };
+      from = ap (λ o. o.from) c.in_ok-out.ensures ∙ can.begins;
+      met = met_none laws (place c.args.from.now) _ can c.in_ok-out.ensures c.new.ensures.items;
+      ready = λ some. record { left = c.left.ensures; falls = none_falls g.P.Shape c.args.side _ _ c.new.ensures.items };
     }
 
 pub is_empty-requires : goal.is_empty-requires

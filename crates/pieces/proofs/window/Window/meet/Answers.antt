@@ -54,7 +54,7 @@ returns-clause-stands g c s st next =
     record {
       from = c.in_ok-pass.ensures.from ∙ st.from;
       met = c.in_ok-pass.ensures.met s known;
-      ready = λ some. record { left = c.left-until.ensures; entered = c.in_ok-pass.ensures.entered s known };
+      ready = λ some. record { left = c.left-until.ensures; falls = c.in_ok-pass.ensures.falls };
     }
 
 pub returns-in_err-pass-clause-wide : goal.returns-in_err-pass-clause-wide
