@@ -1,5 +1,5 @@
 -- What the body of any node leaves of a step that is due.
-use Rattle.std.proofs.Common.{◌≡◌, inl, inr, refl}
+use Rattle.std.proofs.Common.{◌≡◌, refl}
 use Rattle.online_nodes.specs.Answering.{HasBody}
 use Rattle.online_nodes.specs.Held.{Held}
 use Rattle.online_nodes.specs.Stepping.{Situation, HasWorkedOut, IsBegun, IsDue}

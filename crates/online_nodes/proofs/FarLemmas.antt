@@ -249,18 +249,6 @@ far_read_whole old bs b far is some whole = record {
   filled = (filled_more old b is.filled.0 is.filled.1.0, is.filled.1.1);
 }
 
--- the counts once some of the first block are gone, which was read whole
-pub far_gone : (bs waiting : List Block) (b : Block) (far : Far) (count : ℕ) → IsFar (b ∷ bs) waiting far → far.gone + count < length b.items
-    → IsFar (b ∷ bs) waiting (record { gone = far.gone + count; begun = far.begun; seen = far.seen - count; waits = far.waits })
-far_gone bs waiting b far count is within = record {
-  begun = is.begun;
-  gone = within;
-  seen = omega (arith, is.seen, within, length-append b.items (flat bs));
-  waits = is.waits;
-  few = omega (arith, is.few);
-  filled = is.filled;
-}
-
 -- and once all of it is gone
 pub far_gone_whole : (bs waiting : List Block) (b : Block) (far : Far) (count : ℕ) → IsFar (b ∷ bs) waiting far → far.gone + count ≡ length b.items
     → IsFar bs waiting (record { gone = 0; begun = far.begun; seen = far.seen - count; waits = far.waits })
@@ -271,31 +259,6 @@ far_gone_whole bs waiting b far count is whole = record {
   waits = is.waits;
   few = omega (arith, is.few);
   filled = (is.filled.0.1, is.filled.1);
-}
-
--- the counts once some are gone of what was read of the first block that waits
-pub far_gone_read : (waiting : List Block) (far : Far) (count : ℕ) → IsFar [] waiting far → far.gone + count ≤ far.begun
-    → IsFar [] waiting (record { gone = far.gone + count; begun = far.begun; seen = far.seen - count; waits = far.waits })
-far_gone_read waiting far count is within = record {
-  begun = is.begun;
-  gone = within;
-  seen = omega (arith, is.seen, within);
-  waits = is.waits;
-  few = omega (arith, is.few);
-  filled = is.filled;
-}
-
--- once more of it are gone than were read
-pub far_gone_unread : (bs : List Block) (b : Block) (far : Far) (count : ℕ) → IsFar [] (b ∷ bs) far → far.begun ≤ far.gone + count
-    → far.gone + count < length b.items
-    → IsFar [] (b ∷ bs) (record { gone = far.gone + count; begun = far.gone + count; seen = 0; waits = far.waits - (far.gone + count - far.begun) })
-far_gone_unread bs b far count is beyond within = record {
-  begun = within;
-  gone = omega arith;
-  seen = refl;
-  waits = omega (arith, is.waits, beyond, within, length-append b.items (flat bs));
-  few = omega (arith, is.few);
-  filled = is.filled;
 }
 
 -- and once all of it is gone

@@ -2,10 +2,8 @@
 use Rattle.std.proofs.Common.{◌≡◌, refl, ap, ◌∙◌, ℕ, ℤ, pos, neg_ℤ, Bool, true, false, Option, Some, None}
 use Rattle.stl_syntax.specs.Views.{behind as back, view_of}
 use Rattle.stl_syntax.specs.declared.node.Node.{Node}
-use Rattle.stl_syntax.specs.declared.node.Node.TheVariants.{Const, Atom as Leaf, Not, And, Or, Implies, Until, Eventually}
-use Rattle.stl_syntax.specs.declared.node.Node.TheVariants.{Always, Since, Once, Historically}
+use Rattle.stl_syntax.specs.declared.node.Node.TheVariants.{Since, Once, Historically}
 use Rattle.online_nodes.specs.Operators.{behind, kind_by, kind_of, window_by}
-use Rattle.online_nodes.specs.declared.kind.Kind.{Kind}
 use Rattle.online_nodes.specs.declared.kind.Kind.TheVariants.{Over, Since as SinceOf}
 use Rattle.online_nodes.specs.declared.window.Window.{Window}
 use Rattle.online_nodes.proofs.ReaderLemmas.{twice_negated}

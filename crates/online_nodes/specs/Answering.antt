@@ -10,7 +10,7 @@ use Rattle.online_nodes.specs.Written.{HasAnswer, HasFinished}
 use Rattle.online_nodes.specs.Working.{IsReadOn}
 use Rattle.online_nodes.specs.Joins.{HasJoined}
 use Rattle.online_nodes.specs.Negations.{HasNegated}
-use Rattle.online_nodes.specs.Sweeps.{FitsIn, HasSwept}
+use Rattle.online_nodes.specs.Sweeps.{FitsIn, HasSwept, for_ever}
 use Rattle.online_nodes.specs.Untils.{HasUntilTold}
 use Rattle.online_nodes.specs.Sinces.{CanMove, CanMoveRun, IsBackward, HasSinceTold}
 use Rattle.online_nodes.specs.Kinds.{IsNear}
@@ -119,7 +119,7 @@ pub record HasAnswered (kind : Kind) (old new : Held) (out : Out) (marks after :
 
 -- by how much a reader looks back or ahead from its front, at its left input or the right one
 abbrev pub back_by : Window → ℤ
-back_by w = if int_lt w.end_by (pos 8589934592) then w.end_by else w.begin_by
+back_by w = if int_lt w.end_by (pos for_ever) then w.end_by else w.begin_by
 
 abbrev pub looks_by : Kind → Bool → ℤ
 looks_by (Const b) left = pos 0

@@ -41,7 +41,7 @@ use Rattle.stl_syntax.specs.declared.node.Node.TheVariants.{
 use Rattle.rational.specs.Places.{Place, begins, ends, After, Upto, AtMost, Before}
 use Rattle.online_nodes.specs.Held.{Held, fresh_at, number_at}
 use Rattle.online_nodes.specs.Truths.{Knows, KnowsUntil, KnowsSince}
-use Rattle.online_nodes.specs.Sweeps.{Counted, low_place, high_place}
+use Rattle.online_nodes.specs.Sweeps.{Counted, for_ever, low_place, high_place}
 use Rattle.stl_syntax.specs.declared.operator.Join.TheVariants.{And as Conjunction, Or as Disjunction, Implies as Implication}
 use Rattle.stl_syntax.specs.declared.operator.Asks.{Asks}
 use Rattle.stl_syntax.specs.declared.operator.Asks.TheVariants.{Any, Each}
@@ -68,9 +68,9 @@ abbrev pub ahead : ℕ → ℕ → ℕ → Bool → Bool → Bool → Window
 ahead p a b a_in b_in seeks =
     record { of = p; begin_by = neg_ℤ (pos b); begin_in = b_in; end_by = neg_ℤ (pos a); end_in = a_in; seeks = seeks }
 
--- for so long counts what was found, where a window of the past has no upper bound: no row comes so much later
+-- until when counts what was found
 abbrev pub upper : Option ℕ → ℤ
-upper None = pos 8589934592
+upper None = pos for_ever
 upper (Some b) = pos b
 
 -- the window of a node that looks behind: a time that is found counts for the node from a later to b later
@@ -79,7 +79,7 @@ behind p a b a_in b_in seeks = record { of = p; begin_by = pos a; begin_in = a_i
 
 -- the window of an operator that looks at its operand over these offsets
 abbrev pub end_by : Option ℤ → ℤ
-end_by None = pos 8589934592
+end_by None = pos for_ever
 end_by (Some k) = neg_ℤ k
 
 abbrev pub window_by : ℕ → Offsets → Bool → Window

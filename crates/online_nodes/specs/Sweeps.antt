@@ -1,5 +1,5 @@
 -- How a window is swept over its input, one verdict at a time.
-use Rattle.std.specs.Prelude.{◌≡◌, ◌⊎◌, Some, slice_get, suc, ◌+◌, ◌*◌, ◌≤◌, Bool, true, false, not, neg_ℤ, List, ◌++◌, drop, length}
+use Rattle.std.specs.Prelude.{◌≡◌, ◌⊎◌, Some, slice_get, ℕ, suc, ◌+◌, ◌*◌, ◌≤◌, Bool, true, false, not, neg_ℤ, List, ◌++◌, drop, length}
 use Rattle.std.specs.Int.{w64}
 use Rattle.rational.specs.Rational.{Rational, FitsFloor, add, whole}
 use Rattle.frac128.specs.Value.{value}
@@ -17,6 +17,10 @@ use Rattle.online_nodes.specs.Written.{HasTold, HasGot, IsSound, waiting}
 use Rattle.online_nodes.specs.Working.{HasWorked}
 use Rattle.online_nodes.specs.declared.window.Window.{Window}
 use Rattle.online_nodes.specs.declared.window.Sweep.{Sweep}
+
+-- for so many ticks counts what a window without a beginning found: no row comes so much later
+abbrev pub for_ever : ℕ
+for_ever = 8589934592
 
 -- the window at t
 abbrev pub low_place : Window → Rational → Place

@@ -177,18 +177,6 @@ module _ (on : Domain) (tr : Trace) (nodes : List Node) (i : ℕ) (n : Node) (th
   pub children_apart : (order : IsPostOrder nodes) (p q : ℕ) → first_of (view_of n) ≡ Some p → second_of (view_of n) ≡ Some q → p ≢ q
   children_apart order p q e f = inputs_apart nodes i n p q order there (two_children n p q e f)
 
-  -- the first child stands within the sets
-  pub first_inside : (order : IsPostOrder nodes) (sets : List NodeSet) → length sets ≡ length nodes → (o : Option ℕ) → o ≡ first_of (view_of n)
-      → IfSome o (λ p. p < length sets)
-  first_inside order sets count None e = tt
-  first_inside order sets count (Some p) e = child_within order sets count p (inl (sym e))
-
-  -- and so does the second
-  pub second_inside : (order : IsPostOrder nodes) (sets : List NodeSet) → length sets ≡ length nodes → (o : Option ℕ) → o ≡ second_of (view_of n)
-      → IfSome o (λ p. p < length sets)
-  second_inside order sets count None e = tt
-  second_inside order sets count (Some p) e = child_within order sets count p (inr (sym e))
-
   -- what is taken out for the first child tells it
   pub first_operand : (order : IsPostOrder nodes) (sets : List NodeSet) → AreReady on tr nodes i sets → (o : Option ℕ) → o ≡ first_of (view_of n) → (p : Times)
       → (o ≡ None → IsOf on p) → ((q : ℕ) (s : NodeSet) → o ≡ Some q → slice_get sets q ≡ Some s → p ≡ s.times)

@@ -76,6 +76,7 @@ fn over(alloc: Global, on: &Domain, asks: Asks, w: &Window, p: Times) -> Result<
 }
 
 /// What a node that is no atom makes of the sets of its operands, by its view.
+#[inline(never)]
 fn made_by(alloc: Global, on: &Domain, view: View, p: Times, q: Times) -> Result<Times, Memory>
     requires domain { IsDomain on.now }
     requires near { IsNearView view }

@@ -165,6 +165,7 @@ fn root_atom<P: AtomShape>(alloc: Global, case: &Case) -> Result<Signal<P>, Eval
 ///
 /// # Errors
 /// Want of memory, or a denominator of 2^60 or more that a node needs.
+#[inline(never)]
 fn root_of_nodes<P: AtomShape>(alloc: Global, case: &Case) -> Result<Signal<P>, EvalFault<P>>
     requires bound { IsBound case.now.bound case.now.formula case.now.trace.header }
     requires some { 0 < length case.now.trace.rows }
