@@ -32,7 +32,7 @@ use Rattle.online_nodes.specs.Written.{Lead}
 use Rattle.online_nodes.proofs.GotLemmas.{more_given}
 use Rattle.online_nodes.proofs.Stretches.{some_verdict, stand_again, stand_given, stand_more}
 use Rattle.online_nodes.proofs.Writing.{joined, told_same, same_itself, lead_on, lead_to}
-use Rattle.online_net.specs.Stretches.{after_time, before_time, HasMoreAt, HasPutRun, HasRun, HasTurned, HasPassed, HasGone, HasCome, HasPutStretch, HasPutTwo, StaysOver, CanGoAlong}
+use Rattle.online_net.specs.Stretches.{after_time, before_time, HasMoreAt, HasPutRun, HasRun, HasTurned, HasPassed, HasGone, HasCome, HasPutStretch, HasPutTwo, StaysOver, StaysFrom, CanGoAlong}
 use Rattle.online_net.specs.declared.stretch.Run.{Run}
 use Rattle.online_net.specs.declared.stretch.Along.{Along}
 use Rattle.online_net.proofs.Saying.{is_test}
@@ -367,19 +367,31 @@ steady_put b block i k next v got begin end stays = record {
   );
 }
 
--- a way that has one truth to its last gap, on it and at the row behind it
-pub stays_even : (b : Binding) (block : Trace) (i from to : ℕ) (w : Way) (holds : Bool) → CanGoAlong b block from to i holds w → w.row ≡ to
-    → w.passage ≡ Steady holds → w.last ≡ holds → StaysOver b i block from to holds
-stays_even b block i from to w holds can row steady last a tr for has t low high =
+-- a way that has one truth to its last gap, on it and at the row behind it has it at each time, the first row's with them
+even_at : (b : Binding) (block : Trace) (i from to : ℕ) (w : Way) (holds : Bool) → CanGoAlong b block from to i holds w → w.row ≡ to
+    → w.passage ≡ Steady holds → w.last ≡ holds → (a : Atom) (tr : Trace) → IsFor b i a tr → HasBlock tr block → (t : Rational)
+    → row_time (row_of block from) ≤ʳ t → t ≤ʳ row_time (row_of block to) → holds_at a tr t ≡ holds
+even_at b block i from to w holds can row steady last a tr for has t low high =
     let v = can.way.tells a tr for has in
     let before = row_time (row_of block (w.row - 1)) in
     let there = row_time (row_of block w.row) in
     let passes = subst (λ p. TellsPassage before there (holds_at a tr) p) steady v.passes in
     let upto = subst (λ n. t ≤ʳ row_time (row_of block n)) (sym row) high in
     elim (le_or_lt t before) [
-      | inl x ↦ v.stays t (le_of_lt low) x ∙ can.holds a tr for has
+      | inl x ↦ v.stays t low x ∙ can.holds a tr for has
       | inr x ↦ elim (le_or_lt there t) [ inl y ↦ v.there t (same_of_le upto y) ∙ last | inr y ↦ passes t x y ]
     ]
+
+pub stays_even : (b : Binding) (block : Trace) (i from to : ℕ) (w : Way) (holds : Bool) → CanGoAlong b block from to i holds w → w.row ≡ to
+    → w.passage ≡ Steady holds → w.last ≡ holds → StaysOver b i block from to holds
+stays_even b block i from to w holds can row steady last a tr for has t low high =
+    even_at b block i from to w holds can row steady last a tr for has t (le_of_lt low) high
+
+pub stays_from : (b : Binding) (block : Trace) (i from to : ℕ) (w : Way) (holds : Bool) → CanGoAlong b block from to i holds w → w.row ≡ to
+    → w.passage ≡ Steady holds → w.last ≡ holds → StaysFrom b i block from to
+stays_from b block i from to w holds can row steady last a tr for has t u at_t at_u =
+    even_at b block i from to w holds can row steady last a tr for has t at_t.above at_t.below
+    ∙ sym (even_at b block i from to w holds can row steady last a tr for has u at_u.above at_u.below)
 
 -- two verdicts were put where the truth stays on a gap and turns over at the row behind it
 pub two_put : (b : Binding) (block : Trace) (i r : ℕ) (w : Way) (holds : Bool) {old new : Held} → IsWay b i block r w → w.passage ≡ Steady holds

@@ -2,7 +2,7 @@
 -- not the verdicts of each row by itself.
 use Rattle.std.specs.Prelude.{◌≡◌, ◌≢◌, ℕ, suc, ◌-◌, ◌<◌, ◌≤◌, Bool, true, false, not, List, [], ◌∷◌, ◌++◌, length, take, drop, Option, Some, None, pos}
 use Rattle.std.specs.Prelude.{slice_get}
-use Rattle.rational.specs.Time.{Rational, ◌≈◌, ◌<ʳ◌, ◌≤ʳ◌, whole, left_open}
+use Rattle.rational.specs.Time.{Rational, Within, ◌≈◌, ◌<ʳ◌, ◌≤ʳ◌, whole, left_open}
 use Rattle.rational.specs.Places.{Place, begins, ends, Before, Same}
 use Rattle.frac128.specs.Cuts.{place}
 use Rattle.frac128.specs.Spans.{interval}
@@ -147,6 +147,13 @@ abbrev pub StaysOver : Binding → ℕ → Trace → ℕ → ℕ → Bool → Ty
 StaysOver b i block from to holds =
     (a : Atom) (tr : Trace) → IsFor b i a tr → HasBlock tr block → (t : Rational) → row_time (row_of block from) <ʳ t → t ≤ʳ row_time (row_of block to)
     → holds_at a tr t ≡ holds
+
+-- the atom at node i has one truth from the time of row `at` of the block to that of row `to`
+abbrev pub StaysFrom : Binding → ℕ → Trace → ℕ → ℕ → Type 0
+StaysFrom b i block at to =
+    (a : Atom) (tr : Trace) → IsFor b i a tr → HasBlock tr block → (t u : Rational)
+    → Within (row_time (row_of block at)) (row_time (row_of block to)) t → Within (row_time (row_of block at)) (row_time (row_of block to)) u
+    → holds_at a tr t ≡ holds_at a tr u
 
 -- a way leads from row `from`, where the atom at node i has this truth, to row `to` or one before it
 pub record CanGoAlong (b : Binding) (block : Trace) (from to i : ℕ) (truth : Bool) (w : Way) : Type 0 where

@@ -125,7 +125,7 @@ fn is_even(piece: &TruthPiece, holds: bool) -> bool
 
 /// The times after one number of ticks, up to another.
 #[inline(always)]
-pub(crate) fn span_after(first: u32, last: u32) -> Span
+pub fn span_after(first: u32, last: u32) -> Span
     requires { first < last }
     ensures begin { Same (record { at = whole (pos first); after = true }) (begins (interval result)) }
     ensures end { Same (ends (interval result)) (record { at = whole (pos last); after = true }) }

@@ -5,4 +5,5 @@ mod atom;
 mod net;
 mod stretch;
 
+pub use atom::span_after;
 pub use net::{Net, NetFault};

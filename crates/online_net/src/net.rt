@@ -3,8 +3,8 @@
 //! A network stands for a run of events, a row, a step of a node, the end, a verdict taken, in whatever order they came. It stores
 //! no history: what it shows is, for each run that it stands for, what the run says.
 
-ghost use Rattle.std.specs.Prelude.{◌≡◌, ◌<◌, ◌+◌, ◌-◌, ◌↔◌, ◌++◌, ◌∷◌, [], List, length, IfOk, OnOk, IfSome, IfNone};
-ghost use Rattle.std.specs.Prelude.{IsTrue, MatchBool, MatchResult, Some, None, true, false, pos, option_map, ◌≢◌};
+ghost use Rattle.std.specs.Prelude.{ℕ, ◌≡◌, ◌<◌, ◌+◌, ◌-◌, ◌↔◌, ◌++◌, ◌∷◌, [], List, length, IfOk, OnOk, IfSome, IfNone};
+ghost use Rattle.std.specs.Prelude.{slice_get, IsTrue, MatchBool, MatchResult, Some, None, true, false, pos, option_map, ◌≢◌};
 ghost use Rattle.stl_syntax.specs.Trace.{Header};
 ghost use Rattle.stl_syntax.specs.WellFormed.{IsWellFormed};
 ghost use Rattle.stl_syntax.specs.declared.node.Node.{Node as ANode};
@@ -17,10 +17,10 @@ ghost use Rattle.online_net.specs.Steps.{AreFirstOperators, AreNewEdges, IsFirst
 ghost use Rattle.stl_syntax.specs.Trace.{Row as ARow, IsTrace};
 ghost use Rattle.online_nodes.specs.Driven.{rows_of};
 ghost use Rattle.atom_lines.specs.Rows.{row_of};
-ghost use Rattle.online_net.specs.Stretches.{rows_between};
+ghost use Rattle.online_net.specs.Stretches.{rows_between, StaysFrom};
 
 use crate::atom::put_row;
-use crate::stretch::put_rows;
+use crate::stretch::{all_stay, put_rows};
 use atom_lines::Bound;
 use frac128::Memory;
 use online_nodes::{Edges, Operator};
@@ -307,6 +307,19 @@ impl Net {
         };
         keep_row_of(&mut self.last, block, to);
         Ok(())
+    }
+
+    /// Whether each atom has one truth from row `at` of a block on, up to row `to`. It takes no memory, and changes nothing.
+    pub fn stays(&self, block: &Trace, at: usize, to: usize) -> bool
+        requires columns { length block.now.header.columns ≡ self.now.bound.width }
+        requires order { at < to }
+        requires within { to < length block.now.rows }
+        ensures { IsTrue result → (j : ℕ) → slice_get self.now.operators j ≡ Some None → StaysFrom self.now.bound j block.now at to }
+    {
+        if self.stopped {
+            return false;
+        }
+        all_stay(&self.operators, &self.bound, block, at, to)
     }
 
     /// The end of the rows. It takes no memory.

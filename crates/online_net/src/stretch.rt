@@ -10,7 +10,7 @@ ghost use Rattle.atom_lines.specs.Binding.{IsAtomNode};
 ghost use Rattle.atom_lines.specs.Passages.{TurnsInside, crossing_time};
 ghost use Rattle.atom_lines.specs.Rows.{row_of};
 ghost use Rattle.online_net.specs.Stretches.{after_time, first_truth, HasPutRun, HasTurned, HasPassed, HasGone, HasCome};
-ghost use Rattle.online_net.specs.Stretches.{HasPutStretch, HasPutRows, HaveRows, HasPutTwo, StaysOver, CanGoAlong, CanPutInside, HasComeTo};
+ghost use Rattle.online_net.specs.Stretches.{HasPutStretch, HasPutRows, HaveRows, HasPutTwo, StaysOver, StaysFrom, CanGoAlong, CanPutInside, HasComeTo};
 ghost use Rattle.atom_lines.specs.Binding.{Binding};
 ghost use Rattle.atom_lines.specs.Passages.{IsWay};
 ghost use Rattle.atom_lines.specs.declared.passage.Passage.TheVariants.{Steady};
@@ -607,4 +607,43 @@ pub(crate) fn put_rows(
         }
     }
     Ok(())
+}
+
+/// Whether an atom has one truth from row `at` of a block on, up to row `to`.
+#[inline(always)]
+fn stays(bound: &Bound, node: u32, block: &Trace, at: usize, to: usize) -> bool
+    requires atom { IsAtomNode bound.now node }
+    requires columns { length block.now.header.columns ≡ bound.now.width }
+    requires order { at < to }
+    requires within { to < length block.now.rows }
+    ensures { IsTrue result → StaysFrom bound.now node block.now at to }
+{
+    let (sum, holds) = standing(bound, node, block, at);
+    let way = way_from(bound, node, block, at, to, sum);
+    is_even(&way, to, holds)
+}
+
+/// Whether each atom does.
+pub(crate) fn all_stay(
+    operators: &[Option<Operator>],
+    bound: &Bound,
+    block: &Trace,
+    at: usize,
+    to: usize,
+) -> bool
+    requires few { length operators.now ≤ 256 }
+    requires atoms { (j : ℕ) → slice_get operators.now j ≡ Some None → IsAtomNode bound.now j }
+    requires columns { length block.now.header.columns ≡ bound.now.width }
+    requires order { at < to }
+    requires within { to < length block.now.rows }
+    ensures { IsTrue result → (j : ℕ) → slice_get operators.now j ≡ Some None → StaysFrom bound.now j block.now at to }
+{
+    for i in 0..operators.len() {
+        if operators[i].is_none() {
+            if !stays(bound, i as u32, block, at, to) {
+                return false;
+            }
+        }
+    }
+    true
 }

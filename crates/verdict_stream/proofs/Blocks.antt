@@ -119,13 +119,13 @@ module _ (block t : Trace) (k : KeepsLast block t) where
   rows_kept = ap (λ (x : Trace). x.rows) k
 
   -- with a row there is a last one of the trace, which it is
-  record HasOne : Type 0 where
-    before : List Row
-    r : Row
-    own : block.rows ≡ r ∷ []
-    of : t.rows ≡ before ++ r ∷ []
+  pub record HasOne : Type 0 where
+    pub before : List Row
+    pub r : Row
+    pub own : block.rows ≡ r ∷ []
+    pub of : t.rows ≡ before ++ r ∷ []
 
-  has_one : 0 < length block.rows → HasOne
+  pub has_one : 0 < length block.rows → HasOne
   has_one some =
       let l = last_of t.rows (omega (arith, some, ap length rows_kept, length-drop (length t.rows - 1) t.rows)) in
       record { before = l.front; r = l.last; own = rows_kept ∙ drop_last t.rows l.front l.last l.is; of = l.is }

@@ -85,7 +85,7 @@ module _ (p : Subformula) (header : Header) (all : List Row) (are : AreRows (len
           }
 
   -- within what a row answers the truth is that in all rows
-  agree_by : (before more : List Row) (r : Row) (g : ℤ) → all ≡ before ++ r ∷ more → g ≡ pos r.time -ℤ pos (horizon p)
+  pub agree_by : (before more : List Row) (r : Row) (g : ℤ) → all ≡ before ++ r ∷ more → g ≡ pos r.time -ℤ pos (horizon p)
       → (t : Rational) → whole (pos (first_time all)) ≤ʳ t → t ≤ʳ whole g → Agree p whole_trace (record { header = header; rows = before ++ r ∷ [] }) t
   agree_by before more r g e is t from to = by_before before e
     where

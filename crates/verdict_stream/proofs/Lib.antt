@@ -6,5 +6,10 @@ pub mod RowsTogether
 pub mod WatchedRows
 pub mod CutRows
 pub mod Owing
-pub mod Opening
 pub mod Blocks
+pub mod SteadyNodes
+pub mod QuietRows
+pub mod LastTruths
+pub mod Quiets
+pub mod CaughtUp
+pub mod Opening

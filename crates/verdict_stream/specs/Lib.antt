@@ -1,2 +1,3 @@
 pub mod Pendings
+pub mod Quieting
 pub mod Watching

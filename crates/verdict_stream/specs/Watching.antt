@@ -1,5 +1,5 @@
 -- When the network of a formula stands for the rows of a case, and what was taken of what its root gave out.
-use Rattle.std.specs.Prelude.{◌≡◌, ℕ, ◌+◌, ◌-◌, ◌<◌, ◌≤◌, Bool, true, false, List, [], ◌∷◌, ◌++◌, length, map, take, drop, Option, Some, None}
+use Rattle.std.specs.Prelude.{◌≡◌, ◌⊎◌, ℕ, suc, ◌+◌, ◌-◌, ◌<◌, ◌≤◌, Bool, true, false, List, [], ◌∷◌, ◌++◌, length, map, take, drop, Option, Some, None}
 use Rattle.stl_syntax.specs.Formula.{Formula, horizon, root}
 use Rattle.stl_syntax.specs.Trace.{Header, Row, Trace}
 use Rattle.atom_lines.specs.Rows.{row_of}
@@ -13,8 +13,12 @@ use Rattle.online_nodes.specs.Driven.{rows_of, takes, most_rows, IsDriven}
 use Rattle.online_net.specs.Nets.{Stands}
 use Rattle.answer_lines.specs.Appended.{Grew}
 use Rattle.trace_stream.specs.Cases.{IsCase}
+use Rattle.trace_stream.specs.Following.{Follows, IsOpen}
+use Rattle.trace_stream.specs.Kept.{with_rows}
 use Rattle.trace_stream.specs.Streams.{verdicts, StreamText}
 use Rattle.trace_stream.specs.declared.case.Case.{Case}
+use Rattle.verdict_stream.specs.Quieting.{Knows, IsLineAfter, HasLearned}
+use Rattle.verdict_stream.specs.declared.quiet.Quiet.{Quiet}
 use Rattle.verdict_stream.specs.declared.watcher.Network.{Network}
 use Rattle.verdict_stream.specs.declared.watcher.Watcher.{Watcher}
 use Rattle.verdict_stream.specs.declared.verdicts.Verdicts.{Verdicts}
@@ -86,13 +90,89 @@ last_alone t = record t { rows = drop (length t.rows - 1) t.rows }
 abbrev pub KeepsLast : Trace → Trace → Type 0
 KeepsLast block t = block ≡ last_alone t
 
--- the network stands for the rows so far, and the last of them is kept
-abbrev pub WatchesRows : Verdicts → Case → List ℕ → Type 0
-WatchesRows v c made = IsWatched false v.watcher c × KeepsLast v.block c.trace
+-- the network stands for the rows of a case, for which some text was made; the last of them stands in the block, and behind it quiet rows of
+-- the case c, whose text was made too, and further rows
+pub record IsBehind (v : Verdicts) (c : Case) (made : List ℕ) (more : List Row) : Type 0 where
+  pub base : Case
+  pub quiet : List Row
+  pub case : c ≡ with_rows quiet base
+  pub front : List Row
+  pub last : Row
+  pub rows : base.trace.rows ≡ front ++ last ∷ []
+  pub block : v.block ≡ record { header = base.trace.header; rows = last ∷ (quiet ++ more) }
+  pub first : List ℕ
+  pub ahead : List ℕ
+  pub watched : Follows (Watches false v.watcher) verdicts base first
+  pub count : v.quiet.rows ≡ length quiet
+  pub text : made ≡ first ++ ahead
+  pub bytes : v.quiet.bytes ≡ length ahead
+  pub told : StreamText verdicts (root c.formula.nodes) c.trace.header c.trace.rows false made
 
--- so it is while the text of some rows is owed
+-- no quiet row waits for the network
+abbrev pub HasNoQuiet : Verdicts → Type 0
+HasNoQuiet v = (v.quiet.rows ≡ 0) × (v.quiet.bytes ≡ 0)
+
+-- the network stands for the rows so far, or for those before some quiet ones; and the last of them is kept, with the quiet ones
+abbrev pub WatchesRows : Verdicts → Case → List ℕ → Type 0
+WatchesRows v c made =
+    Knows v.quiet c
+    × ((HasNoQuiet v × IsWatched false v.watcher c × KeepsLast v.block c.trace) ⊎ ((0 < v.quiet.rows) × IsBehind v c made []))
+
+-- the network stands for the rows so far, while the text of some is owed; and the last of them is kept
 abbrev pub WatchesOwing : Verdicts → Case → List ℕ → Type 0
-WatchesOwing v c made = IsOwing v.watcher c made × KeepsLast v.block c.trace
+WatchesOwing v c made = Knows v.quiet c × HasNoQuiet v × IsOwing v.watcher c made × KeepsLast v.block c.trace
+
+-- the text grew; the network stands for all rows of the case, for which it was made, and the last of them is kept; no quiet row waits any more
+pub record HasCaughtUp (old : Quiet) (v : Verdicts) (c : Case) (made before after : List ℕ) : Type 0 where
+  pub grown : List ℕ
+  pub is : after ≡ before ++ grown
+  pub watched : Follows (Watches false v.watcher) verdicts c (made ++ grown)
+  pub last : KeepsLast v.block c.trace
+  pub quiet : v.quiet ≡ record old { rows = 0; bytes = 0 }
+
+-- so it is, and what is known of the rows is so
+pub record HasSettled (v : Verdicts) (c : Case) (made before after : List ℕ) : Type 0 where
+  pub grown : List ℕ
+  pub is : after ≡ before ++ grown
+  pub watched : Follows (Watches false v.watcher) verdicts c (made ++ grown)
+  pub last : KeepsLast v.block c.trace
+  pub none : HasNoQuiet v
+  pub knows : Knows v.quiet c
+
+-- further rows stand in the block: behind quiet rows, or where there are none behind the last one, and then text may be owed
+abbrev pub HasMore : Verdicts → Case → List ℕ → List Row → Type 0
+HasMore v c made more =
+    ((0 < v.quiet.rows) × IsBehind v c made more)
+    ⊎ (HasNoQuiet v × IsOpen (Watches false v.watcher) (IsOwing v.watcher) verdicts c made
+    × ((front : Trace) × KeepsLast front c.trace × (0 < length front.rows) × (v.block ≡ record front { rows = front.rows ++ more })))
+
+-- a watcher put lines, and nothing else changed
+pub record IsUnmoved (old new : Watcher) : Type 0 where
+  pub network : new.network ≡ old.network
+  pub horizon : new.horizon ≡ old.horizon
+  pub times : new.times.items ≡ old.times.items
+  pub pending : new.pending ≡ old.pending
+  pub lines : new.lines ≡ []
+
+-- a row was answered by one line: the verdict from what one row answers to what it does
+pub record HasAnswered (old new : Verdicts) (first second : ℕ) (holds : Bool) (before after : List ℕ) : Type 0 where
+  pub grown : List ℕ
+  pub is : after ≡ before ++ grown
+  pub line : IsLineAfter old.watcher.network.formula.scale (first - old.watcher.horizon) (second - old.watcher.horizon) holds grown
+  pub watcher : IsUnmoved old.watcher new.watcher
+  pub block : new.block ≡ old.block
+  pub rows : new.quiet.rows ≡ suc old.quiet.rows
+  pub bytes : new.quiet.bytes ≡ old.quiet.bytes + length grown
+  pub rest : (new.quiet.calm ≡ old.quiet.calm) × (new.quiet.reach ≡ old.quiet.reach) × (new.quiet.told ≡ old.quiet.told)
+
+-- the network took a row that came alone, and what it answers was learned
+pub record HasStepped (old : Quiet) (v : Verdicts) (even : Bool) (time : ℕ) (c : Case) (made before after : List ℕ) : Type 0 where
+  pub grown : List ℕ
+  pub is : after ≡ before ++ grown
+  pub watched : Follows (Watches false v.watcher) verdicts c (made ++ grown)
+  pub last : KeepsLast v.block c.trace
+  pub none : HasNoQuiet v
+  pub learned : HasLearned (record old { rows = 0; bytes = 0 }) v.quiet even time grown
 
 -- the network stands for all rows and their end
 abbrev pub WatchesEnd : Verdicts → Case → List ℕ → Type 0

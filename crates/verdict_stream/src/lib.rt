@@ -3,6 +3,7 @@
 #![tactic(auto)]
 
 mod pending;
+mod quiet;
 mod verdicts;
 mod watcher;
 

@@ -1,5 +1,5 @@
 //! A network of operators that follows rows, and the lines of the verdicts that its root gives out.
-ghost use Rattle.std.specs.Prelude.{◌≡◌, ◌+◌, ◌-◌, ◌++◌, ◌<◌, ◌≤◌, ℕ, List, [], length, map, drop, true, false, IfOk, OnOk};
+ghost use Rattle.std.specs.Prelude.{IsTrue, ◌≡◌, ◌+◌, ◌-◌, ◌++◌, ◌<◌, ◌≤◌, ℕ, List, [], length, map, drop, true, false, IfOk, OnOk};
 ghost use Rattle.stl_syntax.specs.Trace.{Header, IsTrace, Row as Values};
 ghost use Rattle.atom_lines.specs.Binding.{IsBound};
 ghost use Rattle.stl_syntax.specs.Texts.{IsVerdictLine};
@@ -13,14 +13,15 @@ ghost use Rattle.trace_stream.specs.Streams.{verdicts};
 ghost use Rattle.trace_stream.specs.Cases.{Takes, with_row};
 ghost use Rattle.trace_stream.specs.Kept.{with_rows};
 ghost use Rattle.trace_stream.specs.Following.{Follows, HasOpen, IsOpen, IsOpenOn, IsFollowedOn, IsFollowedOut};
-ghost use Rattle.verdict_stream.specs.Watching.{IsWatched, Watches, IsOwing, IsLastAt, Pass, CanTake, HasGivenAll, HasTakenAll, kept_truth};
+ghost use Rattle.verdict_stream.specs.Quieting.{AtomsAreSteady, IsLineAfter};
+ghost use Rattle.verdict_stream.specs.Watching.{IsWatched, Watches, IsOwing, IsLastAt, Pass, CanTake, HasGivenAll, HasTakenAll, IsUnmoved, kept_truth};
 ghost use Rattle.trace_stream.specs.declared.case.Case.{Case as Of};
 
 use crate::pending::Pending;
 use answer_lines::{VerdictLines, put_start};
 use atom_lines::Bound;
 use frac128::Memory;
-use online_net::Net;
+use online_net::{Net, span_after};
 use std::alloc::Global;
 use stl_syntax::{Formula, Node, Text, Verdict};
 use trace_reader::{Row, Trace};
@@ -336,6 +337,53 @@ impl Watcher {
             self.make_room(text)?;
             at = self.take_slice(block, at, text)?;
         }
+        Ok(())
+    }
+
+    /// Whether each atom has one truth from row `at` of a block on, up to row `to`.
+    #[inline(always)]
+    pub(crate) fn stays(&self, block: &Trace, at: usize, to: usize) -> bool
+        requires columns { length block.now.header.columns ≡ self.now.network.net.bound.width }
+        requires order { at < to }
+        requires within { to < length block.now.rows }
+        ensures { IsTrue result → AtomsAreSteady self.now.network.net block.now at to }
+    {
+        self.network.net.stays(block, at, to)
+    }
+
+    /// Whether the text of no row is owed.
+    #[inline(always)]
+    pub(crate) fn owes_none(&self) -> bool
+        ensures { IsTrue result → self.now.times.items ≡ [] }
+    {
+        self.times.is_empty()
+    }
+
+    /// Adds the line of a verdict that goes from what a row at time `first` answers to what one at time `second` does.
+    ///
+    /// # Errors
+    /// Want of memory.
+    #[inline(always)]
+    pub(crate) fn put_after(
+        &mut self,
+        first: u32,
+        second: u32,
+        holds: bool,
+        text: &mut Text,
+    ) -> Result<(), Memory>
+        requires from { self.old.horizon ≤ first }
+        requires rises { first < second }
+        requires none { self.old.lines ≡ [] }
+        ensures line { IfOk result (λ _. Grew
+            (IsLineAfter self.old.network.formula.scale (first - self.old.horizon) (second - self.old.horizon) holds) text.old text.new) }
+        ensures unmoved { OnOk result (IsUnmoved self.old self.new) }
+    {
+        let from = u64::from(first) - self.horizon;
+        let to = u64::from(second) - self.horizon;
+        let on = span_after(from as u32, to as u32);
+        let scale = self.network.formula.scale();
+        self.lines.put(text, &Verdict { on, holds }, scale)?;
+        self.lines.hand_over(text)?;
         Ok(())
     }
 
