@@ -1,16 +1,16 @@
 -- How nodes let go of times, one at a time.
 use Rattle.std.proofs.Common.{◌≡◌, ◌⊎◌, inl, inr, refl, sym, ap, subst, ◌∙◌, ℕ, Bool, true}
 use Rattle.std.proofs.Common.{false, Option, Some, None, List, [], ◌∷◌, ◌++◌, take, arith}
-use Rattle.std.specs.Prelude.{MatchBool, MatchOption, slice_get, slice_index_or, slice_set}
+use Rattle.std.specs.Prelude.{MatchBool, slice_get, slice_index_or, slice_set}
 use Rattle.std.proofs.lemmas.Option.{same_Some}
 use Rattle.std.proofs.lemmas.Bool.{cases_eq}
 use Rattle.rational.specs.Time.{Rational, later, ◌≤ʳ◌, ◌<ʳ◌}
-use Rattle.rational.proofs.Order.{le_of_lt, le_trans, lt_of_lt_of_le, not_lt_of_le}
-use Rattle.rational.proofs.TimeLemmas.{later_le, precedes_le, precedes_of_lt, later_lt}
+use Rattle.rational.proofs.Order.{ge_of_same, le_of_lt, le_trans, lt_of_lt_of_le, not_lt_of_le}
+use Rattle.rational.proofs.TimeLemmas.{later-add, later_le, precedes_le, precedes_of_lt, later_lt}
 use Rattle.stl_syntax.specs.Cells.{IsChild}
 use Rattle.stl_syntax.specs.Early.{OpenAhead, OpenBehind}
 use Rattle.stl_syntax.specs.declared.node.Node.{Node}
-use Rattle.stl_syntax.specs.declared.node.Node.TheVariants.{Not, And, Or, Implies, Until, Eventually, Always, Once, Historically}
+use Rattle.stl_syntax.specs.declared.node.Node.TheVariants.{Const, Atom as Leaf, Not, And, Or, Implies, Until, Eventually, Always, Since, Once, Historically}
 use Rattle.rational.specs.Places.{Place, After, AtMost, Before, Upto}
 use Rattle.frac128.specs.Cuts.{place}
 use Rattle.growing_sets.specs.Spans.{AreTidy, IsAmong, IsOn, Lies}
@@ -19,7 +19,7 @@ use Rattle.early_verdict.specs.Fitting.{Lists, lists_at, lists_of, no_of, yes_of
 use Rattle.early_verdict.specs.Standing.{AllTidy}
 use Rattle.early_verdict.specs.Changing.{ChangesAt}
 use Rattle.early_verdict.specs.Living.{IsNarrowed, IsShown, LooksAt, LooksBack}
-use Rattle.early_verdict.specs.Letting.{AreApart, AreAskedBy, AreInside, AreLess, IsAskedFirst, IsAskedFrom}
+use Rattle.early_verdict.specs.Letting.{AreApart, AreAskedAs, AreAskedBy, AreInside, AreLess, IsAskedFirst, IsAskedFrom}
 use Rattle.early_verdict.specs.Letting.{IsFirstLeft, IsFirstShown, IsLess, IsRun, IsUntil, ShowsFrom}
 use Rattle.frac128.specs.declared.cut.Cut.{Cut}
 use Rattle.growing_sets.specs.declared.stretch.Stretch.{Stretch}
@@ -30,6 +30,8 @@ use Rattle.early_verdict.proofs.AllSets.{is_shown, lists_are, shown_is, shown_wi
 use Rattle.rational.proofs.PlaceLemmas.{at_most_of_not_before, between, not_both, sides, after_at_most, le_through, upto_earlier}
 use Rattle.rational.proofs.Lists.{slice_get_there}
 use Rattle.early_verdict.proofs.Places.{lists_by}
+use Rattle.early_verdict.proofs.Windowing.{le_back}
+use Rattle.stl_syntax.specs.Views.{view_of}
 use Rattle.early_verdict.proofs.Splitting.{IsSplit, changed_each, changes_at}
 use Rattle.growing_sets.proofs.StretchLemmas.{rises}
 use Rattle.growing_sets.proofs.RunLemmas.{earlier_after, on_one}
@@ -208,7 +210,7 @@ before_side c t e = by_side c.after e
     by_side false f h = h
 
 -- children that are asked from the times on at which the node looks at them
-pub none_asked : (n : Node) (from : Rational) (xs : List Sets) → ¬ (IsUntil n) → AreAskedBy n from xs xs
+none_asked : (n : Node) (from : Rational) (xs : List Sets) → ¬ (IsUntil n) → AreAskedBy n from xs xs
 none_asked n from xs u = record { less = none_less xs; others = λ p c. refl; run = λ r. refl; looks = λ s own parts k f l. l; cut = λ e. absurd (u e) }
 
 -- what the node looks at from one time on it still looks at
@@ -228,7 +230,7 @@ asked_one n child no_run no_until c less looks = record {
 }
 
 -- a negation asks its operand for its own times
-pub asked_not : {p : ℕ} {from : Rational} {old new : List Sets} → IsAskedFrom p from old new → AreAskedBy (Not p) from old new
+asked_not : {p : ℕ} {from : Rational} {old new : List Sets} → IsAskedFrom p from old new → AreAskedBy (Not p) from old new
 asked_not {p} h = asked_one (Not p) refl (λ r. r) (λ u. u) h (one_less h) (λ s own parts k f l t o. still_shown h p t (λ d. f t o) (l t o))
 
 module _ {p q : ℕ} {from : Rational} {old mid new : List Sets} (h : IsAskedFrom p from old mid) (g : IsAskedFrom q from mid new) where
@@ -255,17 +257,17 @@ module _ {p q : ℕ} {from : Rational} {old mid new : List Sets} (h : IsAskedFro
   }
 
   -- an `and` asks both sides
-  pub asked_and : AreAskedBy (And p q) from old new
+  asked_and : AreAskedBy (And p q) from old new
   asked_and = asked_two (And p q) (λ r c. c) (λ r. r) (λ u. u)
       (λ s own parts e f l t o. let k = l t o in (both_shown p t (f t o) k.0, both_shown q t (f t o) k.1))
 
   -- the operands of an `or` are asked for what the node is asked for
-  pub asked_or : AreAskedBy (Or p q) from old new
+  asked_or : AreAskedBy (Or p q) from old new
   asked_or = asked_two (Or p q) (λ r c. c) (λ r. r) (λ u. u)
       (λ s own parts e f l t o. let k = l t o in (both_shown p t (f t o) k.0, both_shown q t (f t o) k.1))
 
   -- the operands of an implication are asked for what the node is asked for
-  pub asked_implies : AreAskedBy (Implies p q) from old new
+  asked_implies : AreAskedBy (Implies p q) from old new
   asked_implies = asked_two (Implies p q) (λ r c. c) (λ r. r) (λ u. u)
       (λ s own parts e f l t o. let k = l t o in (both_shown p t (f t o) k.0, both_shown q t (f t o) k.1))
 
@@ -290,7 +292,7 @@ module _ {p q : ℕ} {from : Rational} {old mid new : List Sets} (h : IsAskedFro
       }
 
   -- until looks on from its own times alone
-  pub asked_until : (a b : ℕ) → AreAskedBy (Until p q a b) from old new
+  asked_until : (a b : ℕ) → AreAskedBy (Until p q a b) from old new
   asked_until a b = record {
     less = two_less;
     others = two_others;
@@ -308,12 +310,12 @@ module _ {p : ℕ} (from : Rational) {first : Rational} {old new : List Sets} (h
     seen_ahead start t u f o = le_trans begins (le_trans (later_le a f) (precedes_le a_in (later t a) u o.begins))
 
     -- an `eventually` asks for the times from its window's begin on
-    pub asked_eventually : AreAskedBy (Eventually p a b a_in b_in) from old new
+    asked_eventually : AreAskedBy (Eventually p a b a_in b_in) from old new
     asked_eventually = asked_one (Eventually p a b a_in b_in) refl (λ r. r) (λ u. u) h (one_less h)
         (λ s own parts k f l t u o w. still_shown h p u (λ d. seen_ahead s t u (f t o) w) (l t u o w))
 
     -- the operand of an `always` is asked for what its windows look at
-    pub asked_always : AreAskedBy (Always p a b a_in b_in) from old new
+    asked_always : AreAskedBy (Always p a b a_in b_in) from old new
     asked_always = asked_one (Always p a b a_in b_in) refl (λ r. r) (λ u. u) h (one_less h)
         (λ s own parts k f l t u o w. still_shown h p u (λ d. seen_ahead s t u (f t o) w) (l t u o w))
 
@@ -334,12 +336,12 @@ module _ {p : ℕ} (from : Rational) {first : Rational} {old new : List Sets} (h
     ]
 
     -- a `once` asks for the times that its window looks back to
-    pub asked_once : AreAskedBy (Once p a (Some b) a_in b_in) from old new
+    asked_once : AreAskedBy (Once p a (Some b) a_in b_in) from old new
     asked_once = asked_one (Once p a (Some b) a_in b_in) refl (λ r. r) (λ u. u) h (one_less h)
         (λ s own parts k f l. still_back yes_of (λ u n. (still_on old new (one_less h) p u n).0) s own f l)
 
     -- the operand of a `historically` is asked for what its windows look at
-    pub asked_historically : AreAskedBy (Historically p a (Some b) a_in b_in) from old new
+    asked_historically : AreAskedBy (Historically p a (Some b) a_in b_in) from old new
     asked_historically = asked_one (Historically p a (Some b) a_in b_in) refl (λ r. r) (λ u. u) h (one_less h)
         (λ s own parts k f l. still_back no_of (λ u n. (still_on old new (one_less h) p u n).1) s own f l)
 
@@ -430,7 +432,7 @@ module _ (p low : ℕ) (at : Rational) (old new : List Sets) (apart : AreApart o
       (subst (λ x. record { yes = was.yes; no = was.no; parts = x } ≡ was) (sym e) refl))
 
   -- `once` without a bound asks its operand for the stretch around the first time at which it was true
-  pub asked_once_first : (a_in b_in : Bool) → IsAskedFirst p true low at old new → AreAskedBy (Once p low None a_in b_in) at old new
+  asked_once_first : (a_in b_in : Bool) → IsAskedFirst p true low at old new → AreAskedBy (Once p low None a_in b_in) at old new
   asked_once_first i j h = by_shows h.by.shows
     where
       by_shows : IsFirstShown low at h.was.yes h.was.no h.is.yes h.is.no → AreAskedBy (Once p low None i j) at old new
@@ -445,7 +447,7 @@ module _ (p low : ℕ) (at : Rational) (old new : List Sets) (apart : AreApart o
           (early_time true h limit k e f.part f.begins) i j s begun t (g t o)))
 
   -- `historically` without a bound asks its operand for the stretch around the first time at which it was false
-  pub asked_historically_first : (a_in b_in : Bool) → IsAskedFirst p false low at old new → AreAskedBy (Historically p low None a_in b_in) at old new
+  asked_historically_first : (a_in b_in : Bool) → IsAskedFirst p false low at old new → AreAskedBy (Historically p low None a_in b_in) at old new
   asked_historically_first i j h = by_shows h.by.shows
     where
       by_shows : IsFirstShown low at h.was.no h.was.yes h.is.no h.is.yes → AreAskedBy (Historically p low None i j) at old new
@@ -459,19 +461,30 @@ module _ (p low : ℕ) (at : Rational) (old new : List Sets) (apart : AreApart o
           inr (seen_first false h no_of f.part f.among f.left f.bounds (inside p h.was h.at_old).no
           (early_time false h limit k e f.part f.begins) i j s begun t (g t o)))
 
-  -- a bound that may be wanting
-  pub asked_once_by : (b : Option ℕ) (a_in b_in : Bool)
-      → MatchOption b (IsAskedFirst p true low at old new) (λ k. (first : Rational) × (later first k ≤ʳ at) × IsAskedFrom p first old new)
-      → AreAskedBy (Once p low b a_in b_in) at old new
-  asked_once_by None i j h = asked_once_first i j h
-  asked_once_by (Some b) i j (first, e, h) = asked_once at h low b i j e
-
-  -- a `historically` asks for the stretch around the first false time, or for the times that its window looks back to
-  pub asked_historically_by : (b : Option ℕ) (a_in b_in : Bool)
-      → MatchOption b (IsAskedFirst p false low at old new) (λ k. (first : Rational) × (later first k ≤ʳ at) × IsAskedFrom p first old new)
-      → AreAskedBy (Historically p low b a_in b_in) at old new
-  asked_historically_by None i j h = asked_historically_first i j h
-  asked_historically_by (Some b) i j (first, e, h) = asked_historically at h low b i j e
+-- a node is asked as it needs it where its operands are as its view wants
+pub asked_as : (at : Rational) (old new : List Sets) → AreApart old → AreInside old → AllTidy old → (n : Node)
+    → AreAskedAs (view_of n) at old new → AreAskedBy n at old new
+asked_as at old new apart inside tidy (Const b) e = subst (λ xs. AreAskedBy (Const b) at old xs) (sym e) (none_asked (Const b) at old (λ u. u))
+asked_as at old new apart inside tidy (Leaf a) e = subst (λ xs. AreAskedBy (Leaf a) at old xs) (sym e) (none_asked (Leaf a) at old (λ u. u))
+asked_as at old new apart inside tidy (Not q) h = asked_not h
+asked_as at old new apart inside tidy (And q r) h = asked_and h.1 h.2
+asked_as at old new apart inside tidy (Or q r) h = asked_or h.1 h.2
+asked_as at old new apart inside tidy (Implies q r) h = asked_implies h.1 h.2
+asked_as at old new apart inside tidy (Until q r a b) h = asked_until h.1 h.2 a b
+asked_as at old new apart inside tidy (Since q r a b) e =
+    subst (λ xs. AreAskedBy (Since q r a b) at old xs) (sym e) (none_asked (Since q r a b) at old (λ u. u))
+asked_as at old new apart inside tidy (Eventually q a b i j) (from, l, h) =
+    asked_eventually at h a b i j (le_trans l (ge_of_same (later-add at a)))
+asked_as at old new apart inside tidy (Always q a b i j) (from, l, h) =
+    asked_always at h a b i j (le_trans l (ge_of_same (later-add at a)))
+asked_as at old new apart inside tidy (Once q a None i j) h =
+    asked_once_first q a at old new apart inside tidy i j (h a refl)
+asked_as at old new apart inside tidy (Once q a (Some b) i j) (from, l, h) =
+    asked_once at h a b i j ((le_back b at from).0 l)
+asked_as at old new apart inside tidy (Historically q a None i j) h =
+    asked_historically_first q a at old new apart inside tidy i j (h a refl)
+asked_as at old new apart inside tidy (Historically q a (Some b) i j) (from, l, h) =
+    asked_historically at h a b i j ((le_back b at from).0 l)
 
 -- an operand of whose true times the first alone are shown is asked as its node needs it
 pub first_yes_at : {sets front back : List Sets} {i : ℕ} {holds : Bool} (d own : Sets) (low : ℕ) (at : Rational) → holds ≡ true → IsSplit sets i front back

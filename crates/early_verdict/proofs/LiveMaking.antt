@@ -84,18 +84,19 @@ module _ (nodes : List Node) (from : Rational) (live shown : List Sets) (made : 
       ) in ((k.fail u).1 g, (k.stop u).1 g);
     }
 
-    here : (p : ℕ) → p < i → top_at made.tops i ≤ top_at made.tops p → (t : Rational) → Lies s.no.bounds t → IsShown shown p t
+    here : (p : ℕ) → p < i → top_at made.tops i + 0 ≤ top_at made.tops p → (t : Rational) → Lies s.no.bounds t → IsShown shown p t
     here p c a t l =
         let g = in_own t l in
-        shows p t (let q = small in omega (arith, c, q)) g.0 (reach_now from t t (top_at made.tops i) (top_at made.tops p) g.1 (le_refl t) a)
+        shows p t (let q = small in omega (arith, c, q)) g.0
+        (reach_now from t t (top_at made.tops i) (top_at made.tops p) g.1 (le_refl t) (omega (arith, a)))
 
     there : (p b : ℕ) → p < i → top_at made.tops i + b ≤ top_at made.tops p → (t u : Rational) → Lies s.no.bounds t → from ≤ʳ u
         → u ≤ʳ later t b → IsShown shown p u
     there p b c a t u l f e = shows p u (let q = small in omega (arith, c, q)) f (reach from t u (top_at made.tops i) b (top_at made.tops p) (in_own t l).1 e a)
 
-    behind : (p : ℕ) → p < i → top_at made.tops i ≤ top_at made.tops p → (t u : Rational) → Lies s.no.bounds t → from ≤ʳ u → u ≤ʳ t → IsShown shown p u
+    behind : (p : ℕ) → p < i → top_at made.tops i + 0 ≤ top_at made.tops p → (t u : Rational) → Lies s.no.bounds t → from ≤ʳ u → u ≤ʳ t → IsShown shown p u
     behind p c a t u l f e = shows p u (let q = small in omega (arith, c, q)) f
-        (reach_now from t u (top_at made.tops i) (top_at made.tops p) (in_own t l).1 e a)
+        (reach_now from t u (top_at made.tops i) (top_at made.tops p) (in_own t l).1 e (omega (arith, a)))
 
     looks : LooksAt n from shown s.no.bounds s.parts
     looks = by_node n (placed i n at) (made.have.asks i n at) h.left
@@ -106,22 +107,22 @@ module _ (nodes : List Node) (from : Rational) (live shown : List Sets) (made : 
             → LooksAt m from shown s.no.bounds s.parts
         by_node (Const b) c a w = tt
         by_node (Leaf x) c a w = tt
-        by_node (Not p) c a w = here p c a
-        by_node (And p q) c a w = λ t l. (here p c.0 a.0 t l, here q c.1 a.1 t l)
-        by_node (Or p q) c a w = λ t l. (here p c.0 a.0 t l, here q c.1 a.1 t l)
-        by_node (Implies p q) c a w = λ t l. (here p c.0 a.0 t l, here q c.1 a.1 t l)
+        by_node (Not p) c a w = here p c a.first
+        by_node (And p q) c a w = λ t l. (here p c.0 a.first t l, here q c.1 a.second t l)
+        by_node (Or p q) c a w = λ t l. (here p c.0 a.first t l, here q c.1 a.second t l)
+        by_node (Implies p q) c a w = λ t l. (here p c.0 a.first t l, here q c.1 a.second t l)
         by_node (Until p q x y) c a w = (
-          λ t u l f e. let g = le_trans (in_own t l).0 f in (there p y c.0 a.0 t u l g e, there q y c.1 a.1 t u l g e),
-          ahead_parts y (subst (λ z. top_at made.tops i + y ≤ z) w.0 a.0) s.parts h.asked.parts,
+          λ t u l f e. let g = le_trans (in_own t l).0 f in (there p y c.0 a.first t u l g e, there q y c.1 a.second t u l g e),
+          ahead_parts y (subst (λ z. top_at made.tops i + y ≤ z) w.0 a.first) s.parts h.asked.parts,
         )
-        by_node (Eventually p x y j k) c a w = λ t u l o. there p y c a t u l o.after (precedes_le k u (later t y) o.ends)
-        by_node (Always p x y j k) c a w = λ t u l o. there p y c a t u l o.after (precedes_le k u (later t y) o.ends)
+        by_node (Eventually p x y j k) c a w = λ t u l o. there p y c a.first t u l o.after (precedes_le k u (later t y) o.ends)
+        by_node (Always p x y j k) c a w = λ t u l o. there p y c a.first t u l o.after (precedes_le k u (later t y) o.ends)
         by_node (Since p q x y) c a w = (
-          λ t l. inl (λ u o. let e = none_later u t 0 o.ends in (behind p c.0 a.0 t u l o.after e, behind q c.1 a.1 t u l o.after e)),
-          back_parts y p (subst (λ z. top_at made.tops i ≤ z) w.0 a.0) s.parts h.asked.parts,
+          λ t l. inl (λ u o. let e = none_later u t 0 o.ends in (behind p c.0 a.first t u l o.after e, behind q c.1 a.second t u l o.after e)),
+          back_parts y p (let l = a.first in let e = w.0 in omega (arith, l, e)) s.parts h.asked.parts,
         )
-        by_node (Once p x y j k) c a w = λ t u l o. inl (behind p c a t u l o.after (none_later u t x (precedes_le j (later u x) t o.ends)))
-        by_node (Historically p x y j k) c a w = λ t u l o. inl (behind p c a t u l o.after (none_later u t x (precedes_le j (later u x) t o.ends)))
+        by_node (Once p x y j k) c a w = λ t u l o. inl (behind p c a.first t u l o.after (none_later u t x (precedes_le j (later u x) t o.ends)))
+        by_node (Historically p x y j k) c a w = λ t u l o. inl (behind p c a.first t u l o.after (none_later u t x (precedes_le j (later u x) t o.ends)))
 
     left : HasParts n s shown
     left = by_left (left_of n) h.left

@@ -1,5 +1,5 @@
 -- What nodes go on from: of atoms what they show, and of operators sets of their own.
-use Rattle.std.proofs.Common.{◌≡◌, ◌≢◌, ◌⊎◌, inl, inr, refl, sym, ap, subst, ◌∙◌, ℕ, zero, suc, ◌<◌, ◌≤◌}
+use Rattle.std.proofs.Common.{◌≡◌, ◌≢◌, ◌⊎◌, inl, inr, refl, sym, ap, subst, ◌∙◌, ℕ, zero, suc, ◌≤◌}
 use Rattle.std.proofs.Common.{Option, Some, None, List, [], ◌∷◌, length, arith}
 use Rattle.std.specs.Prelude.{slice_get}
 use Rattle.std.proofs.lemmas.Option.{same_Some, slice_get_within}
@@ -167,14 +167,6 @@ module _ {nodes : List Node} {tr : Trace} (live : List Sets) {shown : List Sets}
   -- there are as many stored sets as nodes, at least
   pub few_of : length nodes ≤ length live
   few_of = let a = st.have.count in let b = own_few nodes live shown in omega (arith, a, b)
-
-  -- the node is among them still, once it has let go
-  pub mid_there : {mid : List Sets} → HasShedAt i shown live mid → i < length mid
-  mid_there c =
-      let k = slice_get_within nodes i o.0 o.1 in
-      let a = few_of in
-      let b = c.count in
-      omega (arith, k, a, b)
 
   -- an operator goes on from what is stored of it
   pub own_of_node : (s : Sets) → slice_get live i ≡ Some s → slice_get (own_list nodes live shown) i ≡ Some s

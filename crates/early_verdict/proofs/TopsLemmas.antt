@@ -1,14 +1,14 @@
 -- How far the nodes of a formula are asked.
-use Rattle.std.proofs.Common.{◌≡◌, ◌≢◌, ◌⊎◌, inl, inr, refl, sym, subst, ap, ℕ, zero, suc, ◌+◌, ◌<◌, ◌≤◌, Bool, Option}
+use Rattle.std.proofs.Common.{◌≡◌, ◌≢◌, ◌⊎◌, inl, inr, refl, sym, subst, ap, ◌∙◌, ℕ, zero, suc, ◌+◌, ◌<◌, ◌≤◌, Option}
 use Rattle.std.proofs.Common.{List, [], ◌∷◌, Some, None, drop, length, arith, add-one}
 use Rattle.std.proofs.lemmas.List.Sums.{sum_by-cons}
-use Rattle.std.specs.Prelude.{replicate, slice_get, sum_by}
-use Rattle.stl_syntax.specs.Cells.{IsChild}
+use Rattle.std.specs.Prelude.{IfSome, replicate, slice_get, sum_by}
+use Rattle.std.proofs.lemmas.Option.{same_Some, none-some}
+use Rattle.stl_syntax.specs.Views.{first_of, second_of, view_of}
 use Rattle.stl_syntax.specs.Formula.{HasChildrenBelow}
-use Rattle.stl_syntax.proofs.PostOrderLemmas.{child_below}
 use Rattle.stl_syntax.specs.Limits.{own_reach}
 use Rattle.stl_syntax.specs.declared.node.Node.{Node}
-use Rattle.stl_syntax.specs.declared.node.Node.TheVariants.{Const, Atom as Leaf, Not, And, Or, Implies, Until, Eventually, Always, Since, Once, Historically}
+use Rattle.stl_syntax.specs.declared.node.Node.TheVariants.{Const, Atom as Leaf, And, Or, Implies, Until, Since}
 use Rattle.early_verdict.specs.Standing.{AsksBelow, looks_ahead, top_at}
 use Rattle.early_verdict.specs.Tops.{rest_reach, Rises, StayFrom}
 
@@ -37,19 +37,15 @@ reach_all [] (suc i) = omega arith
 reach_all (m ∷ nodes) (suc i) = let k = reach_all nodes i in let sum = sum_by-cons own_reach m nodes in omega arith
 
 -- where no node is asked less far, a node asks its children at least as far as before
+still_some : (old new : List ℕ) (to : ℕ) (o : Option ℕ) → Rises old new → IfSome o (λ p. to ≤ top_at old p) → IfSome o (λ p. to ≤ top_at new p)
+still_some old new to None r h = tt
+still_some old new to (Some p) r h = let k = r p in omega (arith, h, k)
+
 pub asks_still : (old new : List ℕ) (top : ℕ) (n : Node) → Rises old new → AsksBelow (top_at old) top n → AsksBelow (top_at new) top n
-asks_still old new top (Const b) r h = tt
-asks_still old new top (Leaf a) r h = tt
-asks_still old new top (Not p) r h = let k = r p in omega arith
-asks_still old new top (And p q) r h = let k = r p in let l = r q in (omega arith, omega arith)
-asks_still old new top (Or p q) r h = let k = r p in let l = r q in (omega arith, omega arith)
-asks_still old new top (Implies p q) r h = let k = r p in let l = r q in (omega arith, omega arith)
-asks_still old new top (Until p q a b) r h = let k = r p in let l = r q in (omega arith, omega arith)
-asks_still old new top (Eventually p a b a_in b_in) r h = let k = r p in omega arith
-asks_still old new top (Always p a b a_in b_in) r h = let k = r p in omega arith
-asks_still old new top (Since p q a b) r h = let k = r p in let l = r q in (omega arith, omega arith)
-asks_still old new top (Once p a b a_in b_in) r h = let k = r p in omega arith
-asks_still old new top (Historically p a b a_in b_in) r h = let k = r p in omega arith
+asks_still old new top n r h = record {
+  first = still_some old new (top + looks_ahead n) (first_of (view_of n)) r h.first;
+  second = still_some old new (top + looks_ahead n) (second_of (view_of n)) r h.second;
+}
 
 -- no node of a list of zeros is asked after the start
 pub zeros_at : (n j : ℕ) → top_at (replicate n 0) j ≤ 0
@@ -57,68 +53,45 @@ zeros_at zero j = omega arith
 zeros_at (suc n) zero = omega arith
 zeros_at (suc n) (suc j) = zeros_at n j
 
--- a node asks its children where each of them is asked as far as it looks
-asks_all : (n : Node) (tops : ℕ → ℕ) (top : ℕ) → ((p : ℕ) → IsChild n p → top + looks_ahead n ≤ tops p) → AsksBelow tops top n
-asks_all (Const b) tops top h = tt
-asks_all (Leaf a) tops top h = tt
-asks_all (Not p) tops top h = let k = h p refl in omega (arith, k)
-asks_all (And p q) tops top h = let k = h p (inl refl) in let l = h q (inr refl) in (omega (arith, k), omega (arith, l))
-asks_all (Or p q) tops top h = let k = h p (inl refl) in let l = h q (inr refl) in (omega (arith, k), omega (arith, l))
-asks_all (Implies p q) tops top h = let k = h p (inl refl) in let l = h q (inr refl) in (omega (arith, k), omega (arith, l))
-asks_all (Until p q a b) tops top h = (h p (inl refl), h q (inr refl))
-asks_all (Eventually p a b a_in b_in) tops top h = h p refl
-asks_all (Always p a b a_in b_in) tops top h = h p refl
-asks_all (Since p q a b) tops top h = let k = h p (inl refl) in let l = h q (inr refl) in (omega (arith, k), omega (arith, l))
-asks_all (Once p a b a_in b_in) tops top h = let k = h p refl in omega (arith, k)
-asks_all (Historically p a b a_in b_in) tops top h = let k = h p refl in omega (arith, k)
+-- the operands of a node stand before it
+pub operands_below : (i : ℕ) (n : Node) → HasChildrenBelow i n → IfSome (first_of (view_of n)) (λ p. p < i) × IfSome (second_of (view_of n)) (λ q. q < i)
+operands_below i (Const b) h = (tt, tt)
+operands_below i (Leaf a) h = (tt, tt)
+operands_below i (And p q) h = h
+operands_below i (Or p q) h = h
+operands_below i (Implies p q) h = h
+operands_below i (Until p q a b) h = h
+operands_below i (Since p q a b) h = h
+operands_below i _ h = (h, tt)
 
--- the node has the two children and no others; they are one where the two places are one
-abbrev pub HasBoth : Node → ℕ → ℕ → Type 0
-HasBoth n p q = IsChild n p × IsChild n q × ((r : ℕ) → IsChild n r → (p ≡ r) ⊎ (q ≡ r))
+-- so one of them stands in a list in which the node stands
+pub operand_there : (tops : List ℕ) (place : ℕ) (o : Option ℕ) → place < length tops → IfSome o (λ p. p < place) → IfSome o (λ p. p < length tops)
+operand_there tops place None l h = tt
+operand_there tops place (Some p) l h = omega (arith, l, h)
 
--- a negation has one
-pub of_not : (n : Node) (p : ℕ) → n ≡ Not p → HasBoth n p p
-of_not n p e = subst (λ m. HasBoth m p p) (sym e) (refl, refl, λ r h. inl h)
-
--- what looks at one operand through a window has one
-pub of_window : (n : Node) (p : ℕ) → ((a : ℕ) × (b : ℕ) × (i : Bool) × (j : Bool) × (n ≡ Eventually p a b i j))
-    ⊎ ((a : ℕ) × (b : ℕ) × (i : Bool) × (j : Bool) × (n ≡ Always p a b i j))
-    ⊎ ((a : ℕ) × (b : Option ℕ) × (i : Bool) × (j : Bool) × (n ≡ Once p a b i j))
-    ⊎ ((a : ℕ) × (b : Option ℕ) × (i : Bool) × (j : Bool) × (n ≡ Historically p a b i j)) → HasBoth n p p
-of_window n p (inl (a, b, i, j, e)) = subst (λ m. HasBoth m p p) (sym e) (refl, refl, λ r h. inl h)
-of_window n p (inr (inl (a, b, i, j, e))) = subst (λ m. HasBoth m p p) (sym e) (refl, refl, λ r h. inl h)
-of_window n p (inr (inr (inl (a, b, i, j, e)))) = subst (λ m. HasBoth m p p) (sym e) (refl, refl, λ r h. inl h)
-of_window n p (inr (inr (inr (a, b, i, j, e)))) = subst (λ m. HasBoth m p p) (sym e) (refl, refl, λ r h. inl h)
-
--- a connective has two
-pub of_two : (n : Node) (p q : ℕ) → (n ≡ And p q) ⊎ (n ≡ Or p q) ⊎ (n ≡ Implies p q) → HasBoth n p q
-of_two n p q (inl e) = subst (λ m. HasBoth m p q) (sym e) (inl refl, inr refl, λ r h. h)
-of_two n p q (inr (inl e)) = subst (λ m. HasBoth m p q) (sym e) (inl refl, inr refl, λ r h. h)
-of_two n p q (inr (inr e)) = subst (λ m. HasBoth m p q) (sym e) (inl refl, inr refl, λ r h. h)
-
--- so has an until or a since
-pub of_run : (n : Node) (p q : ℕ) → ((a : ℕ) × (b : ℕ) × (n ≡ Until p q a b)) ⊎ ((a : ℕ) × (b : Option ℕ) × (n ≡ Since p q a b)) → HasBoth n p q
-of_run n p q (inl (a, b, e)) = subst (λ m. HasBoth m p q) (sym e) (inl refl, inr refl, λ r h. h)
-of_run n p q (inr (a, b, e)) = subst (λ m. HasBoth m p q) (sym e) (inl refl, inr refl, λ r h. h)
-
--- a child of a node in the list stands in it
-pub child_there : (tops : List ℕ) (place p : ℕ) (n : Node) → place < length tops → HasChildrenBelow place n → IsChild n p → p < length tops
-child_there tops place p n h below c = let b = child_below place p n below c in omega (arith, h, b)
+-- and no node from it on is one
+not_from : (o : Option ℕ) (place j : ℕ) → IfSome o (λ p. p < place) → place ≤ j → o ≢ Some j
+not_from None place j h l e = none-some j e
+not_from (Some p) place j h l e = let same : p ≡ j = same_Some p j e in omega (arith, h, l, same)
 
 -- once both children are asked as far as the node looks it asks them, and the nodes from it on are asked as before
-pub both_asked : (n : Node) (p q place to : ℕ) (old new : List ℕ) → HasChildrenBelow place n → to ≡ top_at old place + looks_ahead n → HasBoth n p q
-    → to ≤ top_at new p → to ≤ top_at new q → ((j : ℕ) → j ≢ p → j ≢ q → top_at new j ≡ top_at old j)
+pub both_asked : (n : Node) (p q : Option ℕ) (place to : ℕ) (old mid new : List ℕ) → HasChildrenBelow place n → to ≡ top_at old place + looks_ahead n
+    → p ≡ first_of (view_of n) → q ≡ second_of (view_of n) → IfSome p (λ p. to ≤ top_at mid p) → Rises mid new → IfSome q (λ q. to ≤ top_at new q)
+    → ((j : ℕ) → p ≢ Some j → top_at mid j ≡ top_at old j) → ((j : ℕ) → q ≢ Some j → top_at new j ≡ top_at mid j)
     → AsksBelow (top_at new) (top_at old place) n × StayFrom place old new
-both_asked n p q place to old new below is (here, there, only) left right others = (
-  asks_all n (top_at new) (top_at old place) (λ r h. elim (only r h) [
-    | inl e ↦ subst (λ k. top_at old place + looks_ahead n ≤ top_at new k) e (subst (λ k. k ≤ top_at new p) is left)
-    | inr e ↦ subst (λ k. top_at old place + looks_ahead n ≤ top_at new k) e (subst (λ k. k ≤ top_at new q) is right)
-  ]),
-  λ j l. others j (apart p j (child_below place p n below here) l) (apart q j (child_below place q n below there) l),
+both_asked n p q place to old mid new below is first second left rises right stay then = (
+  subst (λ k. IfSome p (λ p. k ≤ top_at new p) × IfSome q (λ q. k ≤ top_at new q) → AsksBelow (top_at new) (top_at old place) n) (sym is)
+      (λ h. record {
+        first = subst (λ o. IfSome o (λ p. top_at old place + looks_ahead n ≤ top_at new p)) first h.0;
+        second = subst (λ o. IfSome o (λ q. top_at old place + looks_ahead n ≤ top_at new q)) second h.1;
+      })
+      (still_some mid new to p rises left, right),
+  λ j l. then j (not_from q place j (subst (λ o. IfSome o (λ q. q < place)) (sym second) all.1) l)
+      ∙ stay j (not_from p place j (subst (λ o. IfSome o (λ p. p < place)) (sym first) all.0) l),
 )
   where
-    apart : (p j : ℕ) → p < place → place ≤ j → j ≢ p
-    apart p j b l e = omega (arith, b, l, e)
+    all : IfSome (first_of (view_of n)) (λ p. p < place) × IfSome (second_of (view_of n)) (λ q. q < place)
+    all = operands_below place n below
 
 -- once the node at a place asks its children, those from it on do
 pub raised : (nodes : List Node) (k : ℕ) (old new : List ℕ)

@@ -1,8 +1,16 @@
 -- What nodes show and go on from, once they let go of times.
-use Rattle.std.specs.Prelude.{◌≡◌, ◌⊎◌, ℕ, Bool, false, IsTrue, IsFalse, MatchBool, Option, Some, None, MatchOption, List, [], ◌∷◌, length, slice_get}
-use Rattle.rational.specs.Time.{Rational, later, ◌≤ʳ◌, ◌<ʳ◌}
+use Rattle.std.specs.Prelude.{◌≡◌, ◌⊎◌, ℕ, pos, neg_ℤ, Bool, true, false, IsTrue, IsFalse, MatchBool, Option, Some, None, MatchOption}
+use Rattle.std.specs.Prelude.{List, [], ◌∷◌, length, slice_get}
+use Rattle.rational.specs.Time.{Rational, add, later, whole, ◌≤ʳ◌, ◌<ʳ◌}
 use Rattle.stl_syntax.specs.declared.node.Node.{Node}
 use Rattle.stl_syntax.specs.declared.node.Node.TheVariants.{Until, Since}
+use Rattle.stl_syntax.specs.declared.operator.Asks.{Asks}
+use Rattle.stl_syntax.specs.declared.operator.Asks.TheVariants.{Any, Each}
+use Rattle.stl_syntax.specs.declared.operator.Offsets.{Offsets}
+use Rattle.stl_syntax.specs.declared.operator.View.{View}
+use Rattle.stl_syntax.specs.declared.operator.View.TheVariants as V
+use Rattle.stl_syntax.specs.declared.operator.Way.{Way}
+use Rattle.stl_syntax.specs.declared.operator.Way.TheVariants as W
 use Rattle.stl_syntax.specs.Cells.{IsChild}
 use Rattle.stl_syntax.specs.Trace.{Trace}
 use Rattle.stl_syntax.specs.WellFormed.{AreWellFormed}
@@ -89,6 +97,31 @@ pub record AskedFirst (holds : Bool) (low : ℕ) (at : Rational) (old new : Sets
 -- so the node at a place
 abbrev pub IsAskedFirst : ℕ → Bool → ℕ → Rational → List Sets → List Sets → Type 0
 IsAskedFirst p holds low at old new = ChangesAt p old new (AskedFirst holds low at)
+
+-- the truth of its operand that decides an operator
+abbrev pub decides : Asks → Bool
+decides Any = true
+decides Each = false
+
+-- the operand of a window is asked, where its node goes on from that time: from where the window begins, or else about its first times of
+-- the truth that decides
+abbrev pub IsAskedOver : Asks → Offsets → ℕ → Rational → List Sets → List Sets → Type 0
+IsAskedOver asks w p at old new =
+    MatchOption w.low ((a : ℕ) → w.high ≡ neg_ℤ (pos a) → IsAskedFirst p (decides asks) a at old new)
+    (λ k. (from : Rational) × (from ≤ʳ add at (whole k)) × IsAskedFrom p from old new)
+
+-- how those of an until are asked; a since asks for its own by itself
+abbrev pub IsAskedReach : Way → ℕ → ℕ → Rational → List Sets → List Sets → Type 0
+IsAskedReach W.Until p q at old new = (mid : List Sets) × IsAskedFrom p at old mid × IsAskedFrom q at mid new
+IsAskedReach W.Since p q at old new = new ≡ old
+
+-- how the operands of a view are asked
+abbrev pub AreAskedAs : View → Rational → List Sets → List Sets → Type 0
+AreAskedAs (V.Not p) at old new = IsAskedFrom p at old new
+AreAskedAs (V.Two join p q) at old new = (mid : List Sets) × IsAskedFrom p at old mid × IsAskedFrom q at mid new
+AreAskedAs (V.Reach way w p q) at old new = IsAskedReach way p q at old new
+AreAskedAs (V.Over asks w p) at old new = IsAskedOver asks w p at old new
+AreAskedAs v at old new = new ≡ old
 
 -- a set lets go of the times outside of narrower bounds
 pub record IsCutTo (bounds : Stretch) (old new : Grown) : Type 0 where

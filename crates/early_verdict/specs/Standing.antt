@@ -1,10 +1,11 @@
 -- What the sets of all nodes keep from entry to entry.
 use Rattle.std.specs.Prelude.{◌≡◌, ◌↔◌, ◌⊎◌, ℕ, ◌+◌, ◌≤◌, Bool, false, Option, Some, None}
-use Rattle.std.specs.Prelude.{List, [], ◌∷◌, length, MatchOption, MatchBool, IsSome, slice_get, slice_index_or}
+use Rattle.std.specs.Prelude.{List, [], ◌∷◌, length, IfSome, MatchOption, MatchBool, IsSome, slice_get, slice_index_or}
 use Rattle.rational.specs.Time.{Rational, later, ◌≤ʳ◌}
 use Rattle.stl_syntax.specs.Trace.{Row, Trace, start}
 use Rattle.stl_syntax.specs.declared.node.Node.{Node}
-use Rattle.stl_syntax.specs.declared.node.Node.TheVariants.{Const, Atom as Leaf, Not, And, Or, Implies, Until, Eventually, Always, Since, Once, Historically}
+use Rattle.stl_syntax.specs.declared.node.Node.TheVariants.{Atom as Leaf, Until, Eventually, Always, Since, Once, Historically}
+use Rattle.stl_syntax.specs.Views.{first_of, second_of, view_of}
 use Rattle.growing_sets.specs.Spans.{Lies}
 use Rattle.early_verdict.specs.Fitting.{AtomFits, Fits, AreSetsTidy, AreEmpty, HasStepped, HasFailBounds, Lists, lists_at}
 use Rattle.atom_lines.specs.Binding.{Binding, IsFor, IsAtomNode}
@@ -30,19 +31,9 @@ looks_ahead (Always p a b a_in b_in) = b
 looks_ahead n = 0
 
 -- where the node is asked up to `top`, its children are asked as far as it looks
-abbrev pub AsksBelow : (ℕ → ℕ) → ℕ → Node → Type 0
-AsksBelow tops top (Const b) = Unit {0}
-AsksBelow tops top (Leaf a) = Unit {0}
-AsksBelow tops top (Not p) = top ≤ tops p
-AsksBelow tops top (And p q) = (top ≤ tops p) × (top ≤ tops q)
-AsksBelow tops top (Or p q) = (top ≤ tops p) × (top ≤ tops q)
-AsksBelow tops top (Implies p q) = (top ≤ tops p) × (top ≤ tops q)
-AsksBelow tops top (Until p q a b) = (top + b ≤ tops p) × (top + b ≤ tops q)
-AsksBelow tops top (Eventually p a b a_in b_in) = top + b ≤ tops p
-AsksBelow tops top (Always p a b a_in b_in) = top + b ≤ tops p
-AsksBelow tops top (Since p q a b) = (top ≤ tops p) × (top ≤ tops q)
-AsksBelow tops top (Once p a b a_in b_in) = top ≤ tops p
-AsksBelow tops top (Historically p a b a_in b_in) = top ≤ tops p
+pub record AsksBelow (tops : ℕ → ℕ) (top : ℕ) (n : Node) : Type 0 where
+  pub first : IfSome (first_of (view_of n)) (λ p. top + looks_ahead n ≤ tops p)
+  pub second : IfSome (second_of (view_of n)) (λ q. top + looks_ahead n ≤ tops q)
 
 -- the ticks up to which each node is asked
 abbrev pub top_at : List ℕ → ℕ → ℕ

@@ -1,10 +1,11 @@
 //! Sets let go of the times that no later answer needs.
-ghost use Rattle.std.specs.Prelude.{◌≡◌, ◌⊎◌, ◌<◌, ◌^◌, ℕ, IfNone, IfSome, List, MatchOption, None, Some, length, slice_get};
-ghost use Rattle.rational.specs.Rational.{IsWithin};
+ghost use Rattle.std.specs.Prelude.{◌≡◌, ◌⊎◌, ◌<◌, ◌^◌, ℕ, IfNone, IfSome, List, None, Some, length, neg_ℤ, pos, slice_get, unsigned_abs, ◌≤◌};
+ghost use Rattle.rational.specs.Rational.{IsWithin, add, whole, ◌≈◌};
 ghost use Rattle.rational.specs.Time.{Rational, later, ◌≤ʳ◌};
 ghost use Rattle.frac128.specs.Value.{value};
 ghost use Rattle.stl_syntax.specs.Trace.{Trace as ATrace};
 ghost use Rattle.stl_syntax.specs.Formula.{HasChildrenBelow};
+ghost use Rattle.stl_syntax.specs.Views.{IsNear};
 ghost use Rattle.stl_syntax.specs.WellFormed.{AreWellFormed};
 ghost use Rattle.rational.specs.Places.{After, Upto};
 ghost use Rattle.frac128.specs.Cuts.{place};
@@ -12,7 +13,8 @@ ghost use Rattle.growing_sets.specs.Spans.{AreTidy, IsOn};
 ghost use Rattle.early_verdict.specs.Fitting.{AreSetsTidy, IsFailingTidy, IsHoldingTidy};
 ghost use Rattle.early_verdict.specs.Standing.{AllTidy, IsOperator, IsOperatorAt};
 ghost use Rattle.early_verdict.specs.Living.{IsNarrowed, NetIs};
-ghost use Rattle.early_verdict.specs.Letting.{AreApart, AreAskedBy, AreDecisive, AreInside, BeginsAtOnce, IsAskedFirst, IsAskedFrom};
+ghost use Rattle.early_verdict.specs.Letting.{AreApart, AreAskedBy, AreDecisive, AreInside, BeginsAtOnce};
+ghost use Rattle.early_verdict.specs.Letting.{IsAskedFirst, IsAskedFrom, IsAskedOver, IsAskedReach, decides};
 ghost use Rattle.early_verdict.specs.Letting.{IsFirstLeft, ArePartsInside, IsFailingCut, IsFailingInside, IsHoldingCut};
 ghost use Rattle.early_verdict.specs.Letting.{IsHoldingInside, IsInside, IsRunCut, IsRunCutAt, HasShed, HasShedAt, IsUntil, NetHas};
 ghost use Rattle.stl_syntax.specs.declared.node.Node.{Node as ANode};
@@ -25,7 +27,7 @@ use crate::operators::ticks_before;
 use crate::sets::{Failing, Holding, Net, Sets};
 use frac128::Cut;
 use growing_sets::{Grown, Stretch, Stretches, bounds_from, cut_to, front, holding, narrow};
-use stl_syntax::{Formula, Node};
+use stl_syntax::{Asks, Formula, Node, Offsets, View, Way};
 
 /// Where the stretch ends that holds the times just after the cut; the cut itself, where none does.
 fn past(spans: &Stretches, cut: Cut) -> Cut
@@ -101,12 +103,13 @@ fn ask_both(shown: &mut [Sets], left: u32, right: u32, cut: &Cut)
     ask_from(shown, right, cut);
 }
 
-/// The place `ticks` after the cut.
-fn cut_after(cut: &Cut, ticks: u32) -> Cut
-    requires { IsWithin (2 ^ 34) (value cut.now.time) }
-    ensures { value result.time ≤ʳ later (value cut.now.time) ticks }
+/// The place so many ticks after the cut, or before it, where they are negative.
+fn moved_cut(cut: &Cut, by: i64) -> Cut
+    requires near { IsWithin (2 ^ 34) (value cut.now.time) }
+    requires bound { unsigned_abs by ≤ 2 ^ 32 }
+    ensures { value result.time ≈ add (value cut.now.time) (whole by) }
 {
-    cut.shift_begin(i64::from(ticks), true)
+    cut.shift_begin(by, true)
 }
 
 /// The place `ticks` before the cut.
@@ -114,19 +117,7 @@ pub(crate) fn cut_before(cut: &Cut, ticks: u32) -> Cut
     requires { IsWithin (2 ^ 34) (value cut.now.time) }
     ensures { later (value result.time) ticks ≤ʳ value cut.now.time }
 {
-    cut.shift_begin(ticks_before(ticks), true)
-}
-
-/// From so far after the cut on a node is asked.
-fn ask_ahead(shown: &mut [Sets], place: u32, low: u32, cut: &Cut)
-    requires within { place < length shown.old }
-    requires tidy { AllTidy shown.old }
-    requires inside { AreInside shown.old }
-    requires near { IsWithin (2 ^ 34) (value cut.now.time) }
-    ensures { (from : Rational) × (from ≤ʳ later (value cut.now.time) low) × IsAskedFrom place from shown.old shown.new }
-{
-    let from = cut_after(cut, low);
-    ask_from(shown, place, &from);
+    moved_cut(cut, ticks_before(ticks))
 }
 
 /// Shows the first times of the one set alone, where these begin before the cut; the other set has none of them.
@@ -145,13 +136,14 @@ fn show_first(own: &mut Grown, other: &mut Grown, cut: &Cut)
     other.bounds = first;
 }
 
-/// Shows, of the node at the place, its first times of the truth `holds` alone, where these begin more than `low` ticks before the cut.
-fn ask_first(shown: &mut [Sets], place: u32, holds: bool, low: u32, cut: &Cut)
+/// Shows, of the node at the place, its first times of the truth `holds` alone, where these begin more than `-by` ticks before the cut.
+fn ask_first(shown: &mut [Sets], place: u32, holds: bool, by: i64, cut: &Cut)
     requires within { place < length shown.old }
     requires near { IsWithin (2 ^ 34) (value cut.now.time) }
-    ensures { IsAskedFirst place holds low (value cut.now.time) shown.old shown.new }
+    requires bound { unsigned_abs by ≤ 2 ^ 32 }
+    ensures { (a : ℕ) → by ≡ neg_ℤ (pos a) → IsAskedFirst place holds a (value cut.now.time) shown.old shown.new }
 {
-    let at = cut_before(cut, low);
+    let at = moved_cut(cut, by);
     let limit = Cut {
         time: at.time,
         side: 0,
@@ -165,22 +157,46 @@ fn ask_first(shown: &mut [Sets], place: u32, holds: bool, low: u32, cut: &Cut)
     show_first(&mut own.no, &mut own.yes, &limit);
 }
 
-/// From so far before the cut on a node is asked. Where no bound is given it is asked from the start on, until it has had the truth
-/// `holds` so far before the cut; then about the first times of that truth alone.
-fn ask_back(shown: &mut [Sets], place: u32, holds: bool, low: u32, most: &Option<u32>, cut: &Cut)
+/// Whether it is where its operand holds that the operator is decided.
+fn is_decided_by(asks: Asks) -> bool
+    ensures { result ≡ decides asks }
+{
+    match asks {
+        Asks::Any => true,
+        Asks::Each => false,
+    }
+}
+
+/// From where on the operand of a window is asked, when its node goes on from the cut: from where the window begins. One without a
+/// beginning asks from the start on, until its operand had the truth that decides it; then about the first times of that truth alone.
+fn ask_over(shown: &mut [Sets], asks: Asks, w: &Offsets, place: u32, cut: &Cut)
+    requires window { IsNear w.now }
     requires within { place < length shown.old }
     requires tidy { AllTidy shown.old }
     requires inside { AreInside shown.old }
     requires near { IsWithin (2 ^ 34) (value cut.now.time) }
-    ensures { MatchOption most.now (IsAskedFirst place holds low (value cut.now.time) shown.old shown.new)
-        (λ k. (from : Rational) × (later from k ≤ʳ value cut.now.time) × IsAskedFrom place from shown.old shown.new) }
+    ensures { IsAskedOver asks w.now place (value cut.now.time) shown.old shown.new }
 {
-    let Some(ticks) = most else {
-        ask_first(shown, place, holds, low, cut);
+    let Some(low) = w.low else {
+        ask_first(shown, place, is_decided_by(asks), w.high, cut);
         return;
     };
-    let from = cut_before(cut, *ticks);
+    let from = moved_cut(cut, low);
     ask_from(shown, place, &from);
+}
+
+/// From where on the operands of an until are asked, when the node goes on from the cut; a since asks for its own by itself.
+fn ask_reach(shown: &mut [Sets], way: Way, left: u32, right: u32, cut: &Cut)
+    requires left { left < length shown.old }
+    requires right { right < length shown.old }
+    requires tidy { AllTidy shown.old }
+    requires inside { AreInside shown.old }
+    ensures { IsAskedReach way left right (value cut.now.time) shown.old shown.new }
+{
+    match way {
+        Way::Until => ask_both(shown, left, right, cut),
+        Way::Since => {}
+    }
 }
 
 /// From where on a node's children are asked, when the node goes on from the cut.
@@ -192,17 +208,13 @@ fn ask_children(shown: &mut [Sets], node: &Node, cut: &Cut)
     requires near { IsWithin (2 ^ 34) (value cut.now.time) }
     ensures { AreAskedBy node.now (value cut.now.time) shown.old shown.new }
 {
-    match node {
-        Node::Const(_) | Node::Atom(_) | Node::Since { .. } => {}
-        Node::Not(of) => ask_from(shown, *of, cut),
-        Node::And(left, right) => ask_both(shown, *left, *right, cut),
-        Node::Or(left, right) => ask_both(shown, *left, *right, cut),
-        Node::Implies(left, right) => ask_both(shown, *left, *right, cut),
-        Node::Until { left, right, .. } => ask_both(shown, *left, *right, cut),
-        Node::Eventually { of, low, .. } => ask_ahead(shown, *of, *low, cut),
-        Node::Always { of, low, .. } => ask_ahead(shown, *of, *low, cut),
-        Node::Once { of, low, high, .. } => ask_back(shown, *of, true, *low, high, cut),
-        Node::Historically { of, low, high, .. } => ask_back(shown, *of, false, *low, high, cut),
+    match node.view() {
+        View::Const(_) => {}
+        View::Atom => {}
+        View::Not(of) => ask_from(shown, of, cut),
+        View::Two(_, left, right) => ask_both(shown, left, right, cut),
+        View::Over(asks, w, of) => ask_over(shown, asks, &w, of, cut),
+        View::Reach(way, _, left, right) => ask_reach(shown, way, left, right, cut),
     }
 }
 

@@ -1,5 +1,5 @@
 //! How far after the start each node is ever asked, when the root is asked there alone.
-ghost use Rattle.std.specs.Prelude.{◌≡◌, ◌≢◌, ◌+◌, ◌<◌, ◌≤◌, ℕ, length, replicate, IfOk, Some, slice_get};
+ghost use Rattle.std.specs.Prelude.{◌≡◌, ◌≢◌, ◌+◌, ◌<◌, ◌≤◌, ℕ, length, replicate, IfOk, IfSome, Some, slice_get};
 ghost use Rattle.stl_syntax.specs.Formula.{HasChildrenBelow};
 ghost use Rattle.early_verdict.specs.Standing.{AsksBelow, looks_ahead, top_at};
 ghost use Rattle.early_verdict.specs.Tops.{AreTops, AreUpTo, Rises, StayFrom, rest_reach};
@@ -34,18 +34,17 @@ fn raise(tops: &mut [u32], place: u32, to: u32)
     }
 }
 
-/// Notes up to where both nodes are asked.
-fn raise_both(tops: &mut [u32], left: u32, right: u32, to: u32)
-    requires left { left < length tops.old }
-    requires right { right < length tops.old }
-    ensures left { to ≤ top_at tops.new left }
-    ensures right { to ≤ top_at tops.new right }
+/// Notes that the node at the place, where there is one, is asked up to there too.
+fn raise_some(tops: &mut [u32], place: Option<u32>, to: u32)
+    requires { IfSome place (λ p. p < length tops.old) }
+    ensures asked { IfSome place (λ p. to ≤ top_at tops.new p) }
     ensures rises { Rises tops.old tops.new }
-    ensures others { (j : ℕ) → j ≢ left → j ≢ right → top_at tops.new j ≡ top_at tops.old j }
+    ensures others { (j : ℕ) → place ≢ Some j → top_at tops.new j ≡ top_at tops.old j }
     ensures most { (m : ℕ) → AreUpTo m tops.old → to ≤ m → AreUpTo m tops.new }
 {
-    raise(tops, left, to);
-    raise(tops, right, to);
+    if let Some(p) = place {
+        raise(tops, p, to);
+    }
 }
 
 /// Notes up to where the children of the node at the place are asked.
@@ -58,20 +57,9 @@ fn raise_children(tops: &mut [u32], node: &Node, place: u32, to: u32)
     ensures others { StayFrom place tops.old tops.new }
     ensures most { (m : ℕ) → AreUpTo m tops.old → to ≤ m → AreUpTo m tops.new }
 {
-    match node {
-        Node::Const(_) | Node::Atom(_) => {}
-        Node::Not(of) => raise(tops, *of, to),
-        Node::Eventually { of, .. }
-        | Node::Always { of, .. }
-        | Node::Once { of, .. }
-        | Node::Historically { of, .. } => raise(tops, *of, to),
-        Node::And(left, right) | Node::Or(left, right) | Node::Implies(left, right) => {
-            raise_both(tops, *left, *right, to)
-        }
-        Node::Until { left, right, .. } | Node::Since { left, right, .. } => {
-            raise_both(tops, *left, *right, to)
-        }
-    }
+    let (left, right) = node.inputs();
+    raise_some(tops, left, to);
+    raise_some(tops, right, to);
 }
 
 /// A list of `count` zeros.

@@ -196,27 +196,27 @@ module _ (tr : Trace) (some : List Item) (reading : Reading) where
       → Helps h (tree_of at i n) (tree_of put j n)
   tree_helps at put i j (Const b) h signs e leaf kids has inf = constant_helps h b
   tree_helps at put i j (Leaf a) h signs e leaf kids has inf = absurd (let e = leaf in cc)
-  tree_helps at put i j (Not p) h signs e leaf kids has inf = not_helps h (at p) (put p) (subst (λ s. Helps s (at p) (put p)) e (kids p refl))
+  tree_helps at put i j (Not p) h signs e leaf kids has inf = not_helps h (at p) (put p) (subst (λ s. Helps s (at p) (put p)) e.first (kids p refl))
   tree_helps at put i j (And p q) h signs e leaf kids has inf = and_helps h (at p) (at q) (put p) (put q)
-      (subst (λ s. Helps s (at p) (put p)) e.0 (kids p (inl refl))) (subst (λ s. Helps s (at q) (put q)) e.1 (kids q (inr refl)))
+      (subst (λ s. Helps s (at p) (put p)) e.first (kids p (inl refl))) (subst (λ s. Helps s (at q) (put q)) e.second (kids q (inr refl)))
   tree_helps at put i j (Or p q) h signs e leaf kids has inf = or_helps h (at p) (at q) (put p) (put q)
-      (subst (λ s. Helps s (at p) (put p)) e.0 (kids p (inl refl))) (subst (λ s. Helps s (at q) (put q)) e.1 (kids q (inr refl)))
+      (subst (λ s. Helps s (at p) (put p)) e.first (kids p (inl refl))) (subst (λ s. Helps s (at q) (put q)) e.second (kids q (inr refl)))
   tree_helps at put i j (Implies p q) h signs e leaf kids has inf = implies_helps h (at p) (at q) (put p) (put q)
-      (subst (λ s. Helps s (at p) (put p)) e.0 (kids p (inl refl))) (subst (λ s. Helps s (at q) (put q)) e.1 (kids q (inr refl)))
+      (subst (λ s. Helps s (at p) (put p)) e.first (kids p (inl refl))) (subst (λ s. Helps s (at q) (put q)) e.second (kids q (inr refl)))
   tree_helps at put i j (Until p q a b) h signs e leaf kids has inf = until_helps h a b (at p) (at q) (put p) (put q)
       (inf p (inl refl)) (has p (inl refl)) (has q (inr refl))
-      (subst (λ s. Helps s (at p) (put p)) e.0 (kids p (inl refl))) (subst (λ s. Helps s (at q) (put q)) e.1 (kids q (inr refl)))
+      (subst (λ s. Helps s (at p) (put p)) e.first (kids p (inl refl))) (subst (λ s. Helps s (at q) (put q)) e.second (kids q (inr refl)))
   tree_helps at put i j (Eventually p a b x y) h signs e leaf kids has inf =
-      eventually_helps h a b x y (at p) (put p) (has p refl) (subst (λ s. Helps s (at p) (put p)) e (kids p refl))
+      eventually_helps h a b x y (at p) (put p) (has p refl) (subst (λ s. Helps s (at p) (put p)) e.first (kids p refl))
   tree_helps at put i j (Always p a b x y) h signs e leaf kids has inf =
-      always_helps h a b x y (at p) (put p) (has p refl) (subst (λ s. Helps s (at p) (put p)) e (kids p refl))
+      always_helps h a b x y (at p) (put p) (has p refl) (subst (λ s. Helps s (at p) (put p)) e.first (kids p refl))
   tree_helps at put i j (Since p q a b) h signs e leaf kids has inf = since_helps h a b (at p) (at q) (put p) (put q)
       (inf p (inl refl)) (has p (inl refl)) (has q (inr refl))
-      (subst (λ s. Helps s (at p) (put p)) e.0 (kids p (inl refl))) (subst (λ s. Helps s (at q) (put q)) e.1 (kids q (inr refl)))
+      (subst (λ s. Helps s (at p) (put p)) e.first (kids p (inl refl))) (subst (λ s. Helps s (at q) (put q)) e.second (kids q (inr refl)))
   tree_helps at put i j (Once p a b x y) h signs e leaf kids has inf =
-      once_helps h a b x y (at p) (put p) (has p refl) (subst (λ s. Helps s (at p) (put p)) e (kids p refl))
+      once_helps h a b x y (at p) (put p) (has p refl) (subst (λ s. Helps s (at p) (put p)) e.first (kids p refl))
   tree_helps at put i j (Historically p a b x y) h signs e leaf kids has inf =
-      historically_helps h a b x y (at p) (put p) (has p refl) (subst (λ s. Helps s (at p) (put p)) e (kids p refl))
+      historically_helps h a b x y (at p) (put p) (has p refl) (subst (λ s. Helps s (at p) (put p)) e.first (kids p refl))
 
 -- signs that fit the nodes so far fit one more
 pub signed_more : (nodes : List Node) (signs : List Bool) (j : ℕ) (m : Node) → slice_get nodes j ≡ Some m → AreSigned signs m (sign_at signs j)

@@ -31,3 +31,4 @@ pub mod Gaining
 pub mod Lifting
 pub mod Running
 pub mod Wholes
+pub mod Operands

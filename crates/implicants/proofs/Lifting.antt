@@ -22,7 +22,7 @@ use Rattle.stl_syntax.specs.declared.atom.Atom.{Atom}
 use Rattle.stl_syntax.specs.declared.rel.Rel.TheVariants.{AtLeast}
 use Rattle.stl_syntax.specs.declared.items.Item.{Item}
 use Rattle.stl_syntax.specs.declared.node.Node.{Node}
-use Rattle.stl_syntax.specs.declared.node.Node.TheVariants.{Atom as Leaf, And, Or, Implies, Until, Since}
+use Rattle.stl_syntax.specs.declared.node.Node.TheVariants.{Atom as Leaf}
 use Rattle.stl_syntax.proofs.FormulaLemmas.{subformula-at}
 use Rattle.stl_syntax.proofs.PostOrderLemmas.{child_below}
 use Rattle.offline_eval.specs.Forms.{of_pieces}
@@ -183,20 +183,6 @@ is_so false e = absurd (let x : true ≡ false = e in cc)
 pub child_not_atom : (n : Node) (k : ℕ) → IsChild n k → is_atom n ≡ false
 child_not_atom (Leaf a) k h = absurd h
 child_not_atom _ k h = refl
-
--- a node of two operands
-pub operands_two : (n : Node) (p q k : ℕ) (other : Option ℕ) → (n ≡ And p q) ⊎ (n ≡ Or p q) ⊎ (n ≡ Implies p q)
-    → ((p ≡ k) ⊎ (q ≡ k)) × ((i : ℕ) → (p ≡ i) ⊎ (q ≡ i) → (i ≡ k) ⊎ (other ≡ Some i)) → AreOperands n k other
-operands_two n p q k other (inl e) h = subst (λ m. AreOperands m k other) (sym e) h
-operands_two n p q k other (inr (inl e)) h = subst (λ m. AreOperands m k other) (sym e) h
-operands_two n p q k other (inr (inr e)) h = subst (λ m. AreOperands m k other) (sym e) h
-
--- an `until` or a `since`
-pub operands_lasting : (n : Node) (p q k : ℕ) (other : Option ℕ)
-    → ((a : ℕ) × (b : ℕ) × (n ≡ Until p q a b)) ⊎ ((a : ℕ) × (b : Option ℕ) × (n ≡ Since p q a b))
-    → ((p ≡ k) ⊎ (q ≡ k)) × ((i : ℕ) → (p ≡ i) ⊎ (q ≡ i) → (i ≡ k) ⊎ (other ≡ Some i)) → AreOperands n k other
-operands_lasting n p q k other (inl (a, b, e)) h = subst (λ m. AreOperands m k other) (sym e) h
-operands_lasting n p q k other (inr (a, b, e)) h = subst (λ m. AreOperands m k other) (sym e) h
 
 -- what follows of one fact where there is something
 pub some_then : {A : Type 0} (o : Option A) (P Q : Type 0) → (P → Q) → IfSome o (λ x. P) → IfSome o (λ x. Q)

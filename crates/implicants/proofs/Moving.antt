@@ -1,19 +1,22 @@
 -- Cut times that are moved, one by one.
-use Rattle.std.proofs.Common.{◌≡◌, ℕ, ◌+◌, ◌<◌, ◌⊎◌, inl, inr, ℤ, List}
+use Rattle.std.proofs.Common.{◌≡◌, ℕ, ◌+◌, ◌<◌, ◌⊎◌, inl, inr, ℤ, pos, neg_ℤ, List, Option, None, refl}
 use Rattle.std.proofs.Common.{[], ◌∷◌, ◌++◌, map, length, take, get_or, sym, ap, subst, ◌∙◌}
-use Rattle.std.specs.Prelude.{slice_get, Some}
+use Rattle.std.specs.Prelude.{◌↔◌, Contains, option_to_list, slice_get, Some}
 use Rattle.std.proofs.lemmas.Option.{slice_get_within, get_or_from_slice_get}
 use Rattle.pl_signal.specs.declared.knot.Knot.{Knot}
 use Rattle.value_laws.specs.declared.truth.Truth.{Truth}
 use Rattle.std.proofs.lemmas.List.{map_more, map-append, take_more}
-use Rattle.std.proofs.lemmas.List.Elements.{All-push, Contains-append_left, Contains-push, Contains-push_cases}
+use Rattle.std.proofs.lemmas.List.Elements.{All-push, Contains-append_cases, Contains-append_left, Contains-append_right, Contains-push, Contains-push_cases}
 use Rattle.rational.specs.Time.{Rational, Within, shifted, add, whole, ◌≤ʳ◌, ◌<ʳ◌, ◌≈◌}
 use Rattle.rational.proofs.Order.{le_or_lt, le_of_same, ge_of_same, le_trans, not_lt_of_le, same_refl, same_sym, same_trans}
 use Rattle.rational.proofs.TimeLemmas.{same_shifted, shifted-add}
 use Rattle.frac128.specs.Value.{value}
 use Rattle.frac128.specs.declared.frac.Frac.{Frac}
-use Rattle.stl_syntax.specs.Cells.{IsAmong}
-use Rattle.implicants.specs.Cuts.{times_of, Adds, IsMoved, IsMovedBy, IsNearMove, AreNearMoves}
+use Rattle.stl_syntax.specs.Cells.{IsAmong, back, shifts}
+use Rattle.stl_syntax.specs.Views.{far_end, view_of}
+use Rattle.stl_syntax.specs.declared.node.Node.{Node}
+use Rattle.stl_syntax.specs.declared.node.Node.TheVariants.{Until, Eventually, Always, Since, Once, Historically}
+use Rattle.implicants.specs.Cuts.{times_of, Adds, IsMoved, IsMovedBy, IsNearMove, AreNearMoves, moves_of}
 
 -- what is among two lists is among the first or the second
 pub among_in : (xs ys : List Rational) (t : Rational) → IsAmong (xs ++ ys) t → IsAmong xs t ⊎ IsAmong ys t
@@ -162,3 +165,32 @@ moves_on from to times ks i k d {old} {mid} {new} l before here is =
       | inl a ↦ inl (m, a, h)
       | inr e ↦ inr (subst (λ n. IsMoved from to times n t) (sym e) h)
     ]
+
+-- two moves in the other order, and so behind another one
+swapped : (x y k : ℤ) → Contains (x ∷ y ∷ []) k → Contains (y ∷ x ∷ []) k
+swapped x y k h = elim (Contains-append_cases (x ∷ []) (y ∷ []) k h) [
+  | inl l ↦ Contains-append_right (y ∷ []) (x ∷ []) k l
+  | inr r ↦ Contains-append_left (y ∷ []) (x ∷ []) k r
+]
+
+swapped_behind : (z x y k : ℤ) → Contains (z ∷ x ∷ y ∷ []) k → Contains (z ∷ y ∷ x ∷ []) k
+swapped_behind z x y k h = elim (Contains-append_cases (z ∷ []) (x ∷ y ∷ []) k h) [
+  | inl l ↦ Contains-append_left (z ∷ []) (y ∷ x ∷ []) k l
+  | inr r ↦ Contains-append_right (z ∷ []) (y ∷ x ∷ []) k (swapped x y k r)
+]
+
+far_back : (b : Option ℕ) → option_to_list (far_end b) ≡ back b
+far_back None = refl
+far_back (Some b) = refl
+
+-- the moves by a node's view are those by which its cut times are handed down
+pub same_moves : (n : Node) (k : ℤ) → Contains (moves_of (view_of n)) k ↔ Contains (shifts n) k
+same_moves (Until p q a b) k = (swapped_behind (pos 0) (pos b) (pos a) k, swapped_behind (pos 0) (pos a) (pos b) k)
+same_moves (Eventually p a b a_in b_in) k = (swapped (pos b) (pos a) k, swapped (pos a) (pos b) k)
+same_moves (Always p a b a_in b_in) k = (swapped (pos b) (pos a) k, swapped (pos a) (pos b) k)
+same_moves (Since p q a b) k = subst (λ l. Contains (pos 0 ∷ neg_ℤ (pos a) ∷ l) k ↔ Contains (shifts (Since p q a b)) k) (sym (far_back b)) (λ h. h, λ h. h)
+same_moves (Once p a b a_in b_in) k =
+    subst (λ l. Contains (neg_ℤ (pos a) ∷ l) k ↔ Contains (shifts (Once p a b a_in b_in)) k) (sym (far_back b)) (λ h. h, λ h. h)
+same_moves (Historically p a b a_in b_in) k =
+    subst (λ l. Contains (neg_ℤ (pos a) ∷ l) k ↔ Contains (shifts (Historically p a b a_in b_in)) k) (sym (far_back b)) (λ h. h, λ h. h)
+same_moves _ k = (λ h. h, λ h. h)

@@ -1,5 +1,6 @@
 -- Cut times as fractions, and those that parents hand down.
-use Rattle.std.specs.Prelude.{◌≡◌, ◌⊎◌, ◌+◌, ◌-◌, ◌<◌, ◌≤◌, ◌^◌, ℕ, ℤ, List, [], map, length, All, Contains, unsigned_abs, Some, slice_get, slice_index_or}
+use Rattle.std.specs.Prelude.{◌≡◌, ◌⊎◌, ◌+◌, ◌-◌, ◌<◌, ◌≤◌, ◌^◌, ℕ, ℤ, pos, List, [], ◌∷◌, option_to_list, map, length, All, Contains}
+use Rattle.std.specs.Prelude.{unsigned_abs, Some, slice_get, slice_index_or}
 use Rattle.std.specs.declared.vec.Vec.{Vec}
 use Rattle.std.specs.declared.alloc.Global.{Global}
 use Rattle.rational.specs.Time.{Rational, Within, shifted, ◌≈◌}
@@ -9,6 +10,9 @@ use Rattle.frac128.specs.declared.frac.Frac.{Frac}
 use Rattle.stl_syntax.specs.Trace.{Trace}
 use Rattle.stl_syntax.specs.Cells.{AreCuts, IsAmong, IsChild, shifts}
 use Rattle.stl_syntax.specs.declared.node.Node.{Node}
+use Rattle.stl_syntax.specs.declared.operator.Offsets.{Offsets}
+use Rattle.stl_syntax.specs.declared.operator.View.{View}
+use Rattle.stl_syntax.specs.declared.operator.View.TheVariants as V
 
 -- the times that fractions stand for
 abbrev pub times_of : List Frac → List Rational
@@ -33,6 +37,16 @@ IsNearMove k = unsigned_abs k ≤ 2 ^ 32
 
 abbrev pub AreNearMoves : List ℤ → Type 0
 AreNearMoves ks = All IsNearMove ks
+
+-- the moves by both ends of a window; one without a beginning has none by it
+abbrev pub window_moves : Offsets → List ℤ
+window_moves w = w.high ∷ option_to_list w.low
+
+-- by how much a node's cut times are moved for its children, by its view
+abbrev pub moves_of : View → List ℤ
+moves_of (V.Over asks w p) = window_moves w
+moves_of (V.Reach way w p q) = pos 0 ∷ window_moves w
+moves_of v = pos 0 ∷ []
 
 -- the new times are the old ones, those for which P holds, and no others
 pub record Adds (P : Rational → Type 0) (old new : List Rational) : Type 0 where

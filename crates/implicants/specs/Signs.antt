@@ -1,26 +1,25 @@
 -- Which certainty of each node helps the formula to be certainly false.
-use Rattle.std.specs.Prelude.{◌≡◌, ℕ, ◌-◌, Bool, false, not, List, Some, length, slice_get, slice_index_or}
+use Rattle.std.specs.Prelude.{◌≡◌, ℕ, ◌-◌, Bool, false, not, List, Some, IfSome, length, slice_get, slice_index_or}
+use Rattle.stl_syntax.specs.Views.{first_of, second_of, view_of}
 use Rattle.stl_syntax.specs.declared.node.Node.{Node}
-use Rattle.stl_syntax.specs.declared.node.Node.TheVariants.{Const, Atom as Leaf, Not, And, Or, Implies, Until, Eventually, Always, Since, Once, Historically}
+use Rattle.stl_syntax.specs.declared.operator.Join.TheVariants as J
+use Rattle.stl_syntax.specs.declared.operator.View.{View}
+use Rattle.stl_syntax.specs.declared.operator.View.TheVariants as V
 
 -- the sign of the node at place k: whether it helps that it is certainly true, or that it is certainly false
 abbrev pub sign_at : List Bool → ℕ → Bool
 sign_at signs k = slice_index_or signs k false
 
+-- the sign of the first operand of a node that has the sign h
+abbrev pub first_sign : View → Bool → Bool
+first_sign (V.Not p) h = not h
+first_sign (V.Two J.Implies p q) h = not h
+first_sign v h = h
+
 -- the operands of a node that has the sign h have theirs
-abbrev pub AreSigned : List Bool → Node → Bool → Type 0
-AreSigned signs (Const b) h = Unit {0}
-AreSigned signs (Leaf a) h = Unit {0}
-AreSigned signs (Not p) h = sign_at signs p ≡ not h
-AreSigned signs (And p q) h = (sign_at signs p ≡ h) × (sign_at signs q ≡ h)
-AreSigned signs (Or p q) h = (sign_at signs p ≡ h) × (sign_at signs q ≡ h)
-AreSigned signs (Implies p q) h = (sign_at signs p ≡ not h) × (sign_at signs q ≡ h)
-AreSigned signs (Until p q a b) h = (sign_at signs p ≡ h) × (sign_at signs q ≡ h)
-AreSigned signs (Eventually p a b a_in b_in) h = sign_at signs p ≡ h
-AreSigned signs (Always p a b a_in b_in) h = sign_at signs p ≡ h
-AreSigned signs (Since p q a b) h = (sign_at signs p ≡ h) × (sign_at signs q ≡ h)
-AreSigned signs (Once p a b a_in b_in) h = sign_at signs p ≡ h
-AreSigned signs (Historically p a b a_in b_in) h = sign_at signs p ≡ h
+pub record AreSigned (signs : List Bool) (n : Node) (h : Bool) : Type 0 where
+  pub first : IfSome (first_of (view_of n)) (λ p. sign_at signs p ≡ first_sign (view_of n) h)
+  pub second : IfSome (second_of (view_of n)) (λ q. sign_at signs q ≡ h)
 
 -- each node has the sign that the node above it gives it, and the root that of false
 pub record AreSigns (nodes : List Node) (signs : List Bool) : Type 0 where

@@ -1,9 +1,11 @@
 //! The times at which each node's time is cut, from the root to the leaves.
-ghost use Rattle.std.specs.Prelude.{◌≡◌, ◌≤◌, ◌<◌, ◌+◌, ◌↔◌, ◌++◌, ◌∷◌, [], length, map, neg_ℤ, pos, All, IsTrue, IfOk, OnOk, MatchResult};
+ghost use Rattle.std.specs.Prelude.{◌≡◌, ◌≤◌, ◌<◌, ◌+◌, ◌↔◌, ◌++◌, ◌∷◌, [], length, map, All, IsTrue, IfOk, OnOk, MatchResult, Some};
 ghost use Rattle.rational.specs.Time.{Rational, Within};
 ghost use Rattle.frac128.specs.Value.{value};
-ghost use Rattle.stl_syntax.specs.Cells.{AreCuts, AreRisingTimes, IsAmong, IsChild, shifts, back};
+ghost use Rattle.stl_syntax.specs.Cells.{AreCuts, AreRisingTimes, IsAmong, IsChild, shifts};
+ghost use Rattle.stl_syntax.specs.Views.{IsNear, view_of};
 ghost use Rattle.implicants.specs.Cuts.{times_of, cuts_at, Adds, AreNear, AreCutsFrom, IsHandedDown, IsMoved, IsMovedBy, IsNearMove, AreNearMoves, IsNearList};
+ghost use Rattle.implicants.specs.Cuts.{moves_of, window_moves};
 ghost use Rattle.implicants.specs.Signals.{AreTruths};
 ghost use Rattle.implicants.specs.Explaining.{AreFewCells, IsCellFault};
 
@@ -14,29 +16,29 @@ use offline_eval::Evaluated;
 use offline_eval::laws::told_have_values;
 use pl_signal::Signal;
 use std::alloc::Global;
-use stl_syntax::{Formula, Node};
+use stl_syntax::{Formula, Node, Offsets, View};
 use trace_reader::Trace;
 use value_laws::{Shape, Truth};
 
 /// The most cells of an explanation.
 const MOST_CELLS: u64 = 65_536;
 
+/// Whether the place is that of node `i`.
+fn is_at(place: Option<u32>, i: u32) -> bool
+    ensures { IsTrue result ↔ (place ≡ Some i) }
+{
+    match place {
+        Some(p) => p == i,
+        None => false,
+    }
+}
+
 /// Whether the node has the node at place `i` as a child.
 fn is_child(node: &Node, i: u32) -> bool
     ensures { IsTrue result ↔ IsChild node.now i }
 {
-    match node {
-        Node::Const(_) | Node::Atom(_) => false,
-        Node::Not(p) => *p == i,
-        Node::And(p, q) | Node::Or(p, q) | Node::Implies(p, q) => *p == i || *q == i,
-        Node::Until { left, right, .. } | Node::Since { left, right, .. } => {
-            *left == i || *right == i
-        }
-        Node::Eventually { of, .. }
-        | Node::Always { of, .. }
-        | Node::Once { of, .. }
-        | Node::Historically { of, .. } => *of == i,
-    }
+    let (first, second) = node.inputs();
+    is_at(first, i) || is_at(second, i)
 }
 
 /// Whether `t` lies from `from` to `to`.
@@ -105,65 +107,33 @@ fn push_move(moves: &mut Vec<i64>, by: i64) -> Result<(), Memory>
     }
 }
 
-/// Appends the move back by an upper bound; an infinite one moves nothing.
-fn push_back(moves: &mut Vec<i64>, high: Option<u32>) -> Result<(), Memory>
-    requires { AreNearMoves moves.old.items }
-    ensures put { OnOk result (moves.new.items ≡ moves.old.items ++ back high) }
+/// Appends the moves by both ends of a window; one without a beginning moves nothing by it.
+fn push_window(moves: &mut Vec<i64>, w: Offsets) -> Result<(), Memory>
+    requires near { IsNear w }
+    requires before { AreNearMoves moves.old.items }
+    ensures put { OnOk result (moves.new.items ≡ moves.old.items ++ window_moves w) }
     ensures near { OnOk result (AreNearMoves moves.new.items) }
 {
-    match high {
-        Some(high) => push_move(moves, -i64::from(high)),
+    push_move(moves, w.high)?;
+    match w.low {
+        Some(low) => push_move(moves, low),
         None => Ok(()),
     }
-}
-
-/// Appends the moves of a window ahead, by both of its bounds.
-fn push_window_ahead(moves: &mut Vec<i64>, low: u32, high: u32) -> Result<(), Memory>
-    requires { AreNearMoves moves.old.items }
-    ensures put { OnOk result (moves.new.items ≡ moves.old.items ++ pos low ∷ pos high ∷ []) }
-    ensures near { OnOk result (AreNearMoves moves.new.items) }
-{
-    push_move(moves, i64::from(low))?;
-    push_move(moves, i64::from(high))
-}
-
-/// Appends the moves of a window behind, by its lower bound and by the upper one.
-fn push_window_behind(moves: &mut Vec<i64>, low: u32, high: Option<u32>) -> Result<(), Memory>
-    requires { AreNearMoves moves.old.items }
-    ensures put { OnOk result (moves.new.items ≡ moves.old.items ++ neg_ℤ (pos low) ∷ back high) }
-    ensures near { OnOk result (AreNearMoves moves.new.items) }
-{
-    push_move(moves, -i64::from(low))?;
-    push_back(moves, high)
 }
 
 /// Appends by how much the node's cut times are moved for its children.
 fn put_moves(moves: &mut Vec<i64>, node: &Node) -> Result<(), Memory>
     requires { AreNearMoves moves.old.items }
-    ensures put { OnOk result (moves.new.items ≡ moves.old.items ++ shifts node.now) }
+    ensures put { OnOk result (moves.new.items ≡ moves.old.items ++ moves_of (view_of node.now)) }
     ensures near { OnOk result (AreNearMoves moves.new.items) }
 {
-    match node {
-        Node::Until { low, high, .. } => {
+    match node.view() {
+        View::Over(_, w, _) => push_window(moves, w),
+        View::Reach(_, w, _, _) => {
             push_move(moves, 0)?;
-            push_window_ahead(moves, *low, *high)
+            push_window(moves, w)
         }
-        Node::Eventually { low, high, .. } | Node::Always { low, high, .. } => {
-            push_window_ahead(moves, *low, *high)
-        }
-        Node::Since { low, high, .. } => {
-            push_move(moves, 0)?;
-            push_window_behind(moves, *low, *high)
-        }
-        Node::Once { low, high, .. } | Node::Historically { low, high, .. } => {
-            push_window_behind(moves, *low, *high)
-        }
-        Node::Const(_)
-        | Node::Atom(_)
-        | Node::Not(_)
-        | Node::And(..)
-        | Node::Or(..)
-        | Node::Implies(..) => push_move(moves, 0),
+        View::Const(_) | View::Atom | View::Not(_) | View::Two(..) => push_move(moves, 0),
     }
 }
 

@@ -1,36 +1,50 @@
 //! Which certainty of each node helps the formula to be certainly false, and which node stands above it.
-ghost use Rattle.std.specs.Prelude.{◌≡◌, length, IsTrue, IfOk, IfSome};
+ghost use Rattle.std.specs.Prelude.{◌≡◌, ◌<◌, length, IsTrue, IfOk, IfSome};
 ghost use Rattle.stl_syntax.specs.Formula.{HasChildrenBelow};
-ghost use Rattle.implicants.specs.Signs.{AreSigned, AreSigns};
+ghost use Rattle.implicants.specs.Signs.{AreSigned, AreSigns, first_sign, sign_at};
 
 use frac128::Memory;
 use std::alloc::Global;
-use stl_syntax::{Formula, Node};
+use stl_syntax::{Formula, Join, Node, View};
+
+/// The sign of the first operand of a node that has this one.
+fn first_sign(view: View, sign: bool) -> bool
+    ensures { result ≡ first_sign view sign }
+{
+    match view {
+        View::Not(_) | View::Two(Join::Implies, _, _) => !sign,
+        _ => sign,
+    }
+}
+
+/// Puts the sign of the node at the place, where there is one.
+fn put_sign(place: Option<u32>, sign: bool, signs: &mut Vec<bool>)
+    requires { IfSome place (λ p. p < length signs.old.items) }
+    ensures { length signs.new.items ≡ length signs.old.items }
+{
+    if let Some(p) = place {
+        signs[p as usize] = sign;
+    }
+}
 
 /// Puts the signs of the operands of a node that has this one.
 fn put_signs(node: &Node, sign: bool, signs: &mut Vec<bool>)
     requires { HasChildrenBelow (length signs.old.items) node.now }
     ensures { length signs.new.items ≡ length signs.old.items }
 {
-    match node {
-        Node::Const(_) | Node::Atom(_) => {}
-        Node::Not(p) => signs[*p as usize] = !sign,
-        Node::And(p, q) | Node::Or(p, q) => {
-            signs[*p as usize] = sign;
-            signs[*q as usize] = sign;
-        }
-        Node::Implies(p, q) => {
-            signs[*p as usize] = !sign;
-            signs[*q as usize] = sign;
-        }
-        Node::Until { left, right, .. } | Node::Since { left, right, .. } => {
-            signs[*left as usize] = sign;
-            signs[*right as usize] = sign;
-        }
-        Node::Eventually { of, .. }
-        | Node::Always { of, .. }
-        | Node::Once { of, .. }
-        | Node::Historically { of, .. } => signs[*of as usize] = sign,
+    let (first, second) = node.inputs();
+    put_sign(first, first_sign(node.view(), sign), signs);
+    put_sign(second, sign, signs);
+}
+
+/// Whether the node at the place, where there is one, has the sign.
+fn has_sign(place: Option<u32>, sign: bool, signs: &[bool]) -> bool
+    requires { IfSome place (λ p. p < length signs.now) }
+    ensures { IsTrue result → IfSome place (λ p. sign_at signs.now p ≡ sign) }
+{
+    match place {
+        Some(p) => signs[p as usize] == sign,
+        None => true,
     }
 }
 
@@ -39,21 +53,9 @@ fn are_signed(node: &Node, sign: bool, signs: &[bool]) -> bool
     requires { HasChildrenBelow (length signs.now) node.now }
     ensures { IsTrue result → AreSigned signs.now node.now sign }
 {
-    match node {
-        Node::Const(_) | Node::Atom(_) => true,
-        Node::Not(p) => signs[*p as usize] != sign,
-        Node::And(p, q) | Node::Or(p, q) => {
-            signs[*p as usize] == sign && signs[*q as usize] == sign
-        }
-        Node::Implies(p, q) => signs[*p as usize] != sign && signs[*q as usize] == sign,
-        Node::Until { left, right, .. } | Node::Since { left, right, .. } => {
-            signs[*left as usize] == sign && signs[*right as usize] == sign
-        }
-        Node::Eventually { of, .. }
-        | Node::Always { of, .. }
-        | Node::Once { of, .. }
-        | Node::Historically { of, .. } => signs[*of as usize] == sign,
-    }
+    let (first, second) = node.inputs();
+    let first_holds = has_sign(first, first_sign(node.view(), sign), signs);
+    first_holds && has_sign(second, sign, signs)
 }
 
 /// Whether each node has the sign that the one above it gives it, and the root that of false.
@@ -90,23 +92,6 @@ pub(crate) fn signs_of(alloc: Global, formula: &Formula) -> Result<Option<Vec<bo
     Ok(None)
 }
 
-/// The operands of a node.
-fn operands(node: &Node) -> (Option<u32>, Option<u32>) {
-    match node {
-        Node::Const(_) | Node::Atom(_) => (None, None),
-        Node::Not(p) => (Some(*p), None),
-        Node::And(p, q) | Node::Or(p, q) | Node::Implies(p, q) => (Some(*p), Some(*q)),
-        Node::Until { left, right, .. } | Node::Since { left, right, .. } => (
-            Some(*left),
-            Some(*right),
-        ),
-        Node::Eventually { of, .. }
-        | Node::Always { of, .. }
-        | Node::Once { of, .. }
-        | Node::Historically { of, .. } => (Some(*of), None),
-    }
-}
-
 /// Puts a place, where it is one.
 fn put_above(above: &mut Vec<u32>, p: Option<u32>, j: u32) {
     if let Some(p) = p {
@@ -123,7 +108,7 @@ pub(crate) fn places_above(alloc: Global, formula: &Formula) -> Result<Vec<u32>,
         return Err(Memory);
     };
     for j in 0..count {
-        let (left, right) = operands(formula.node(j));
+        let (left, right) = formula.node(j).inputs();
         put_above(&mut above, left, j);
         put_above(&mut above, right, j);
     }

@@ -282,20 +282,13 @@ fn of_one(p: u32, k: u32) -> Beside
 fn beside_in(node: &Node, k: u32) -> Beside
     ensures { IsTrue result.is_operand → AreOperands node.now k result.other }
 {
-    match node {
-        Node::Const(_) | Node::Atom(_) => Beside {
+    match node.inputs() {
+        (Some(p), Some(q)) => of_two(p, q, k),
+        (Some(p), None) => of_one(p, k),
+        (None, _) => Beside {
             is_operand: false,
             other: None,
         },
-        Node::Not(p) => of_one(*p, k),
-        Node::And(p, q) | Node::Or(p, q) | Node::Implies(p, q) => of_two(*p, *q, k),
-        Node::Until { left, right, .. } | Node::Since { left, right, .. } => {
-            of_two(*left, *right, k)
-        }
-        Node::Eventually { of, .. }
-        | Node::Always { of, .. }
-        | Node::Once { of, .. }
-        | Node::Historically { of, .. } => of_one(*of, k),
     }
 }
 

@@ -1,14 +1,17 @@
 -- Objects of one list of JSON that are printed together.
-use Rattle.std.proofs.Common.{◌≡◌, ℕ, ◌+◌, ◌-◌, ◌<◌, ◌≤◌, Bool, true, false, ◌||◌, List, [], ◌∷◌, ◌++◌, length, get_or, take, drop, set}
+use Rattle.std.proofs.Common.{◌≡◌, ℕ, zero, suc, length-set, ◌+◌, ◌-◌, ◌<◌, ◌≤◌, Bool, true, false, ◌||◌, List, [], ◌∷◌, ◌++◌, length, get_or, take, drop, set}
 use Rattle.std.proofs.Common.{append-nil, append_assoc, refl, sym, ap, ◌∙◌, subst, codes, arith, length-append, length-drop}
-use Rattle.std.proofs.lemmas.List.{get_or_at, set_at, take_at, drop_at, take-append-drop, length-take-le}
+use Rattle.std.proofs.lemmas.List.{get_or_at, set_at, take_at, drop_at, take-append-drop, length-take-le, take_more_set, take-set}
 use Rattle.serde_json.specs.Data.{array}
 use Rattle.serde_json.specs.View.{view, items_view}
 use Rattle.serde_json.specs.Written.{compact_text, items_text, has_float, items_have_float}
 use Rattle.serde_json.specs.declared.value.Value.{Value}
 use Rattle.stl_syntax.specs.declared.scale.Scale.{Scale}
-use Rattle.report.specs.Blocks.{after_commas, AreStepForms, IsStepForm, IsStepData}
-use Rattle.report.specs.JsonTexts.{IsStepEntry}
+use Rattle.stl_syntax.specs.declared.items.Verdict.{Verdict}
+use Rattle.report.specs.Blocks.{after_commas, before_commas, AreStepForms, IsStepForm, IsStepData, AreVerdictForms}
+use Rattle.report.specs.Forms.{IsVerdictForm}
+use Rattle.report.specs.JsonTexts.{IsStepEntry, IsVerdictData}
+use Rattle.report.specs.VerdictForms.{IsEntry}
 use Rattle.answer_lines.specs.Steps.{Step}
 
 -- ---- their texts
@@ -51,6 +54,105 @@ led (v ∷ vs) w n some e m =
 -- the text of an array is not empty
 pub array_some : (vs : List Value) (w : List ℕ) → w ≡ compact_text (array (items_view vs)) → 0 < length w
 array_some vs w e = let n = ap (λ l. length l) e in omega (arith, n)
+
+-- the texts of two lists, each before a comma
+pub before_join : (vs ws : List Value) → before_commas (vs ++ ws) ≡ before_commas vs ++ before_commas ws
+before_join [] ws = refl
+before_join (v ∷ vs) ws =
+    ap (λ w. (compact_text (view v) ++ codes ",") ++ w) (before_join vs ws)
+    ∙ sym (append_assoc (compact_text (view v) ++ codes ",") (before_commas vs) (before_commas ws))
+
+-- a comma behind texts of which all but the first have one before them
+commas_moved : (v : Value) (vs : List Value) → (compact_text (view v) ++ after_commas vs) ++ codes "," ≡ before_commas (v ∷ vs)
+commas_moved v [] = lists (compact_text (view v)) (codes ",")
+  where
+    lists : (a b : List ℕ) → (a ++ []) ++ b ≡ (a ++ b) ++ []
+    lists a b = simp (append_assoc, append-nil)
+commas_moved v (u ∷ us) =
+    lists (compact_text (view v)) (codes ",") (compact_text (view u)) (after_commas us)
+    ∙ ap (λ w. (compact_text (view v) ++ codes ",") ++ w) (commas_moved u us)
+  where
+    lists : (a b c d : List ℕ) → (a ++ ((b ++ c) ++ d)) ++ b ≡ (a ++ b) ++ ((c ++ d) ++ b)
+    lists a b c d = simp append_assoc
+
+-- with a comma for the last bracket, and without the first, an array has each of its values before a comma
+pub followed : (vs : List Value) (w : List ℕ) (n : ℕ) → 0 < length vs → w ≡ compact_text (array (items_view vs)) → n ≡ length w - 1
+    → drop 1 (set w n 44) ≡ before_commas vs
+followed [] w n some e m = absurd (omega (arith, some))
+followed (v ∷ vs) w n some e m =
+    let inner = compact_text (view v) ++ after_commas vs in
+    let is : w ≡ (91 ∷ inner) ++ 93 ∷ [] = e ∙ array_is v vs in
+    let count : length (91 ∷ inner) ≡ n = omega (arith, m, ap (λ l. length l) is, length-append (91 ∷ inner) (93 ∷ [])) in
+    ap (drop 1) (ap (λ l. set l n 44) is ∙ set_at (91 ∷ inner) 93 [] 44 n count)
+    ∙ (drop_at (91 ∷ []) (inner ++ 44 ∷ []) 1 refl ∙ commas_moved v vs)
+
+-- without the first bracket it is its values with the last one
+pub unopened : (vs : List Value) (w : List ℕ) → w ≡ compact_text (array (items_view vs)) → drop 1 w ≡ items_text false (items_view vs)
+unopened vs w e = ap (drop 1) e ∙ drop_at (91 ∷ []) (items_text false (items_view vs)) 1 refl
+
+-- the last value of an array stands before its bracket, and those before it each before a comma
+pub closed : (vs : List Value) (w : Value) → items_text false (items_view (vs ++ w ∷ [])) ≡ before_commas vs ++ (compact_text (view w) ++ codes "]")
+closed [] w = refl
+closed (v ∷ vs) w = more v vs
+  where
+    lists : (a b c : List ℕ) → a ++ (b ++ c) ≡ ((a ++ b) ++ []) ++ c
+    lists a b c = simp (append_assoc, append-nil)
+
+    others : (a b c d : List ℕ) → a ++ (b ++ (c ++ d)) ≡ ((a ++ b) ++ c) ++ d
+    others a b c d = simp append_assoc
+
+    more : (v : Value) (vs : List Value)
+        → compact_text (view v) ++ items_text true (items_view (vs ++ w ∷ [])) ≡ before_commas (v ∷ vs) ++ (compact_text (view w) ++ codes "]")
+    more v [] = lists (compact_text (view v)) (codes ",") (compact_text (view w) ++ codes "]")
+    more v (u ∷ us) =
+        ap (λ x. compact_text (view v) ++ (codes "," ++ x)) (more u us)
+        ∙ others (compact_text (view v)) (codes ",") (before_commas (u ∷ us)) (compact_text (view w) ++ codes "]")
+
+-- ---- objects for verdicts
+
+-- objects for verdicts, and one more
+pub verdicts_more : (vs : List Value) (w : Value) → AreVerdictForms vs → IsVerdictForm (view w) → AreVerdictForms (vs ++ w ∷ [])
+verdicts_more [] w h form = (form, tt)
+verdicts_more (v ∷ vs) w (is, h) form = (is, verdicts_more vs w h form)
+
+-- the first of them are such objects too
+pub verdicts_front : (vs : List Value) (n : ℕ) → AreVerdictForms vs → AreVerdictForms (take n vs)
+verdicts_front [] zero h = tt
+verdicts_front [] (suc n) h = tt
+verdicts_front (v ∷ vs) zero h = tt
+verdicts_front (v ∷ vs) (suc n) (is, h) = (is, verdicts_front vs n h)
+
+-- each is one
+pub verdict_there : (vs : List Value) (i : ℕ) (d : Value) → i < length vs → AreVerdictForms vs → IsVerdictForm (view (get_or vs i d))
+verdict_there [] i d inside h = absurd (omega (arith, inside))
+verdict_there (v ∷ vs) zero d inside (is, h) = is
+verdict_there (v ∷ vs) (suc i) d inside (is, h) = verdict_there vs i d (omega (arith, inside)) h
+
+-- and where one takes the place of another
+pub verdicts_set : (vs : List Value) (i : ℕ) (w : Value) → AreVerdictForms vs → IsVerdictForm (view w) → AreVerdictForms (set vs i w)
+verdicts_set [] i w h form = tt
+verdicts_set (v ∷ vs) zero w (is, h) form = (form, h)
+verdicts_set (v ∷ vs) (suc i) w (is, h) form = (is, verdicts_set vs i w h form)
+
+-- they have no float
+pub verdicts_no_float : (vs : List Value) → AreVerdictForms vs → items_have_float (items_view vs) ≡ false
+verdicts_no_float [] h = refl
+verdicts_no_float (v ∷ vs) ((on, b, e), h) = ap (λ x. x || items_have_float (items_view vs)) (ap has_float e) ∙ verdicts_no_float vs h
+
+-- the text of a verdict's object before a comma is its entry
+pub verdict_entry : (scale : Scale) (v : Verdict) (w : Value) → IsVerdictData scale v (view w) → IsEntry true false scale v (before_commas (w ∷ []))
+verdict_entry scale v w h = (view w, h, append-nil (compact_text (view w) ++ codes ","))
+
+-- where an object was filled at a place, what stands up to it is what stood before it and the object
+module _ (vs new : List Value) (w : Value) (u : ℕ) (inside : u < length vs) (is : new ≡ set vs u w) where
+  pub filled_waits_one : take (u + 1) new ≡ take u vs ++ w ∷ []
+  filled_waits_one = ap (take (u + 1)) is ∙ take_more_set vs u w inside
+
+  pub unfilled_waits_one : take u new ≡ take u vs
+  unfilled_waits_one = ap (take u) is ∙ take-set vs u w
+
+  pub as_long_one : length new ≡ length vs
+  as_long_one = ap (λ l. length l) is ∙ length-set vs u w
 
 -- ---- objects for steps
 

@@ -1,17 +1,18 @@
 -- Objects that take one text after another.
-use Rattle.std.proofs.Common.{◌≡◌, ℕ, Bool, List, [], ◌∷◌, Option, Some, None, option_map, String, Global, Ordering, Less, Equal, Greater, string_bytes, nat_cmp, is_eq, cond, refl, sym, ap, ◌∙◌, codes}
+use Rattle.std.proofs.Common.{◌≡◌, ℕ, ◌<◌, zero, suc, ◌+◌, length, string_cmp, arith, Bool, List, [], ◌∷◌, Option, Some, None, option_map, String, Global, Ordering, Less, Equal, Greater, string_bytes, nat_cmp, is_eq, cond, refl, sym, ap, ◌∙◌, codes}
 use Rattle.std.proofs.lemmas.Option.{same_Some}
 use Rattle.std.specs.Cmp.Lexicographic.{slice_cmp}
-use Rattle.std.specs.Map.{lookup, set_value}
+use Rattle.std.specs.Map.{lookup, set_value, keys_of, values_of}
+use Rattle.std.specs.Prelude.{slice_get}
 use Rattle.std.specs.Ordering.{match_ordering}
-use Rattle.std.specs.BTreeMap.{is_at}
-use Rattle.serde_json.specs.Data.{Data, null, boolean, number, string, array, object, Members, no_members, member}
+use Rattle.std.specs.BTreeMap.{is_at, insert_entry}
+use Rattle.serde_json.specs.Data.{Data, null, boolean, number, string, array, object, Members, no_members, member, put}
 use Rattle.serde_json.specs.Find.{as_object, get, get_member}
 use Rattle.serde_json.specs.View.{view, members_view}
 use Rattle.serde_json.specs.declared.value.Value.{Value}
 use Rattle.serde_json.proofs.OnLiterals.{serde_json_on_literals}
-use Rattle.serde_json.proofs.Views.{view-lookup}
-use Rattle.report.specs.Forms.{replaced, with_member, knot_object, piece_object, verdict_object}
+use Rattle.serde_json.proofs.Views.{view-lookup, members_view-insert_entry}
+use Rattle.report.specs.Forms.{replaced, with_member, knot_object, piece_object, verdict_object, EndAt}
 
 abbrev pub Entry : Type 0
 Entry = String Global × Value
@@ -48,6 +49,10 @@ with_same k e (number n) h = refl
 with_same k e (string s) h = refl
 with_same k e (array ds) h = refl
 with_same k e (object ms) h = ap object (replaced_same k e ms h)
+
+-- the members of a verdict's object
+abbrev pub verdict_members : List ℕ → Bool → Members
+verdict_members on holds = member (codes "on") (string on) (member (codes "value") (boolean holds) no_members)
 
 -- ---- what stands at the keys of the objects
 
@@ -99,6 +104,10 @@ pub verdict_with_on : (o w : List ℕ) (b : Bool) → with_member (codes "on") (
 unfolding serde_json_on_literals
 verdict_with_on o w b = refl
 
+pub verdict_with_truth : (o : List ℕ) (b h : Bool) → put (codes "value") (boolean h) (verdict_members o b) ≡ verdict_members o h
+unfolding serde_json_on_literals
+verdict_with_truth o b h = refl
+
 -- ---- an object that takes a text is one of its kind
 
 module _ (d e : Data) where
@@ -120,6 +129,33 @@ module _ (d e : Data) where
   pub verdict_on : (o w : List ℕ) (b : Bool) → d ≡ verdict_object o b → e ≡ with_member (codes "on") (string w) d → e ≡ verdict_object w b
   verdict_on o w b is h = h ∙ ap (with_member (codes "on") (string w)) is ∙ verdict_with_on o w b
 
+-- ---- what stands at the end of a map
+
+-- the last key and the last value of a map are what its members end with
+pub ends_with : (k : List ℕ) (e : Data) (es : List Entry) (n : ℕ) → n + 1 ≡ length es → EndAt k e (members_view es)
+    → (key : String Global) → slice_get (keys_of es) n ≡ Some key → (v : Value) → slice_get (values_of es) n ≡ Some v
+    → (string_bytes key ≡ k) × (view v ≡ e)
+ends_with k e [] n count h key is v at = absurd h
+ends_with k e (x ∷ []) zero count (l, f) key is v at = (ap string_bytes (sym (same_Some _ _ is)) ∙ l, ap view (sym (same_Some _ _ at)) ∙ f)
+ends_with k e (x ∷ []) (suc n) count h key is v at = absurd (omega (arith, count))
+ends_with k e (x ∷ y ∷ es) zero count h key is v at = absurd (omega (arith, count))
+ends_with k e (x ∷ y ∷ es) (suc n) count h key is v at = ends_with k e (y ∷ es) n (omega (arith, count)) h key is v at
+
+-- a map whose members end with something is not empty
+pub ends_some : (k : List ℕ) (e : Data) (es : List Entry) → EndAt k e (members_view es) → 0 < length es
+ends_some k e [] h = absurd h
+ends_some k e (x ∷ es) h = omega arith
+
+-- what is written at a key is put there
+pub written_at : (k : List ℕ) (es ns : List Entry) (key : String Global) (w : Value) (d : Data) → string_bytes key ≡ k
+    → ns ≡ insert_entry string_cmp es key w → view w ≡ d → members_view ns ≡ put k d (members_view es)
+written_at k es ns key w d name is told =
+    ap members_view is ∙ (members_view-insert_entry es key w ∙ (ap (λ l. put l (view w) (members_view es)) name ∙ ap (λ e. put k e (members_view es)) told))
+
+-- an object has but one list of members
+pub same_members : (d : Data) (ms ns : Members) → d ≡ object ms → d ≡ object ns → ms ≡ ns
+same_members d ms ns e f = same_Some _ _ (ap as_object (sym e ∙ f))
+
 -- ---- finding what stands at a key
 
 -- the value that a map has at a key of a text is that text
@@ -140,6 +176,10 @@ object_of (number n) ms h = absurd (let x = h in cc)
 object_of (string s) ms h = absurd (let x = h in cc)
 object_of (array ds) ms h = absurd (let x = h in cc)
 object_of (object ns) ms h = ap object (sym (same_Some _ _ h))
+
+-- so what is one has members
+pub not_object : (d : Data) (ms : Members) → d ≡ object ms → None ≡ as_object d → ⊥
+not_object d ms e n = let x : None ≡ Some ms = n ∙ ap as_object e in cc
 
 -- and so is what has something at a key
 pub has_members : (k : List ℕ) (d e : Data) → get k d ≡ Some e → None ≡ as_object d → ⊥

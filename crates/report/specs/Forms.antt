@@ -35,6 +35,12 @@ Sets P k old new = (s : List ℕ) × P s × (new ≡ with_member k (string s) ol
 abbrev pub SetsSome : List ℕ → Data → Data → Type 0
 SetsSome k old new = (s : List ℕ) × (new ≡ with_member k (string s) old)
 
+-- the members end with e at k
+abbrev pub EndAt : List ℕ → Data → Members → Type 0
+EndAt k e no_members = ⊥
+EndAt k e (member l f no_members) = (l ≡ k) × (f ≡ e)
+EndAt k e (member l f (member m g ms)) = EndAt k e (member m g ms)
+
 -- the object of a knot
 abbrev pub knot_object : List ℕ → List ℕ → Data
 knot_object at margin = object (member (codes "at") (string at) (member (codes "margin") (string margin) no_members))
@@ -55,6 +61,6 @@ IsKnotForm d = (at margin : List ℕ) × (d ≡ knot_object at margin)
 abbrev pub IsPieceForm : Data → Type 0
 IsPieceForm d = (from on to : List ℕ) × (d ≡ piece_object from on to)
 
--- an object for verdicts with this truth
-abbrev pub IsVerdictForm : Bool → Data → Type 0
-IsVerdictForm holds d = (on : List ℕ) × (d ≡ verdict_object on holds)
+-- an object for verdicts
+abbrev pub IsVerdictForm : Data → Type 0
+IsVerdictForm d = (on : List ℕ) × (holds : Bool) × (d ≡ verdict_object on holds)

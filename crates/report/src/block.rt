@@ -5,8 +5,8 @@ ghost use Rattle.std.specs.declared.alloc.Global.{Global};
 ghost use Rattle.serde_json.specs.Data.{array};
 ghost use Rattle.serde_json.specs.View.{items_view};
 ghost use Rattle.serde_json.specs.declared.value.Value.{Value, Array};
-ghost use Rattle.serde_json.specs.Written.{compact_text, items_have_float};
-ghost use Rattle.report.specs.Blocks.{after_commas};
+ghost use Rattle.serde_json.specs.Written.{compact_text, items_text, items_have_float};
+ghost use Rattle.report.specs.Blocks.{after_commas, before_commas};
 
 use frac128::Memory;
 use serde_json::Value;
@@ -59,4 +59,36 @@ pub(crate) fn put_after_commas(
     written[0] = b',';
     let end = written.len() - 1;
     text.push(&written[..end])
+}
+
+/// Appends the objects, each before a comma.
+pub(crate) fn put_before_commas(
+    alloc: Global,
+    text: &mut Text,
+    objects: &mut Vec<Value>,
+) -> Result<(), Memory>
+    requires float { items_have_float (items_view objects.old.items) ≡ false }
+    requires some { 0 < length objects.old.items }
+    ensures same { objects.new.items ≡ objects.old.items }
+    ensures ok { OnOk result (text.new ≡ text.old ++ before_commas objects.old.items) }
+    ensures err { OnErr result (text.new ≡ text.old) }
+{
+    let mut written = text_of(alloc, objects)?;
+    let last = written.len() - 1;
+    written[last] = b',';
+    text.push(&written[1..])
+}
+
+/// Appends the objects and what closes their list.
+pub(crate) fn put_closed(
+    alloc: Global,
+    text: &mut Text,
+    objects: &mut Vec<Value>,
+) -> Result<(), Memory>
+    requires { items_have_float (items_view objects.old.items) ≡ false }
+    ensures ok { OnOk result (text.new ≡ text.old ++ items_text false (items_view objects.old.items)) }
+    ensures err { OnErr result (text.new ≡ text.old) }
+{
+    let written = text_of(alloc, objects)?;
+    text.push(&written[1..])
 }

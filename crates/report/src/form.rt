@@ -1,14 +1,14 @@
 //! Objects of JSON that are made once and take the texts of one entry after another, so that their keys and their memory are taken once.
-ghost use Rattle.std.specs.Prelude.{◌≡◌, ◌≤◌, ◌^◌, length, ℕ, List, IsSome, IfOk, OnOk};
+ghost use Rattle.std.specs.Prelude.{◌≡◌, ◌≤◌, ◌^◌, length, ℕ, List, Bool, IsSome, IfOk, OnOk};
 ghost use Rattle.rational.specs.Rational.{IsWithin};
 ghost use Rattle.rational.specs.Extended.{value_at};
 ghost use Rattle.frac128.specs.Value.{value};
 ghost use Rattle.value_laws.specs.Margins.{margin_function};
-ghost use Rattle.serde_json.specs.Data.{string};
-ghost use Rattle.serde_json.specs.Find.{as_str};
+ghost use Rattle.serde_json.specs.Data.{string, boolean, put};
+ghost use Rattle.serde_json.specs.Find.{as_bool, as_str};
 ghost use Rattle.serde_json.specs.View.{view, members_view};
 ghost use Rattle.stl_syntax.specs.Texts.{IsNumberText, IsValueText};
-ghost use Rattle.report.specs.Forms.{replaced, with_member, HasText, HasTextAt, Sets, SetsSome};
+ghost use Rattle.report.specs.Forms.{replaced, with_member, HasText, HasTextAt, Sets, SetsSome, EndAt, IsVerdictForm, verdict_object};
 
 use answer_lines::{TimeText, ValueText};
 use frac128::{Frac, Memory};
@@ -52,6 +52,40 @@ fn set_member(members: &mut Map<String, Value>, key: &str, content: &str) -> Res
 {
     match members.get_mut(key) {
         Some(slot) => put_text(slot, content),
+        None => unreachable!(),
+    }
+}
+
+/// Puts a truth in the place of another.
+fn put_truth(slot: &mut Value, holds: bool)
+    requires { IsSome (as_bool (view slot.old)) }
+    ensures { view slot.new ≡ boolean holds }
+{
+    let Value::Bool(truth) = slot else {
+        unreachable!();
+    };
+    *truth = holds;
+}
+
+/// Puts a truth in the place of the one with which the members end.
+fn set_last(members: &mut Map<String, Value>, holds: bool)
+    requires { (k : List ℕ) × (b : Bool) × EndAt k (boolean b) (members_view members.old.entries) }
+    ensures { (k : List ℕ) (b : Bool) → EndAt k (boolean b) (members_view members.old.entries)
+        → members_view members.new.entries ≡ put k (boolean holds) (members_view members.old.entries) }
+{
+    match members.last_entry() {
+        Some(entry) => put_truth(entry.into_mut(), holds),
+        None => unreachable!(),
+    }
+}
+
+/// Puts a truth in the place of the one that the object of a verdict has.
+pub(crate) fn set_truth(verdict: &mut Value, holds: bool)
+    requires { IsVerdictForm (view verdict.old) }
+    ensures { (on : List ℕ) (b : Bool) → view verdict.old ≡ verdict_object on b → view verdict.new ≡ verdict_object on holds }
+{
+    match verdict.as_object_mut() {
+        Some(members) => set_last(members, holds),
         None => unreachable!(),
     }
 }

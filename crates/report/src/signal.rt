@@ -15,7 +15,7 @@ use pl_signal::{Knot, Signal};
 use stl_syntax::{Scale, Text};
 use value_laws::{Shape, Truth};
 
-/// Goes on with this truth: from the time on, or after it where it is in the span. What ended there is appended, if the truth is new.
+/// Goes on with this truth: from the time on, or after it where it is in the span. What ended there is put, if the truth is new.
 #[inline(always)]
 fn put_turn(
     text: &mut Text,
@@ -28,17 +28,18 @@ fn put_turn(
 ) -> Result<(), Memory>
     requires digits { scale.time ≤ 6 }
     requires begun { HasTimeBetween (value span.old.from) (value at.now) (span.old.from_in && at_in) }
-    ensures ok { OnOk result (TurnedTo true scale span.old at.now at_in truth span.new text.old text.new) }
-    ensures err { OnErr result (TurnCut true scale span.old at.now at_in truth text.old text.new) }
+    ensures ok { OnOk result (TurnedTo true scale span.old at.now at_in truth span.new (text.old ++ entries.old) (text.new ++ entries.new)) }
+    ensures err { OnErr result (TurnCut true scale span.old at.now at_in truth (text.old ++ entries.old) (text.new ++ entries.new)) }
+    ensures begins { (front : List ℕ) × (text.new ≡ text.old ++ front) }
 {
     if span.holds() == truth {
         return Ok(());
     }
     let ended = span.turn(*at, at_in, truth);
-    entries.put(text, &ended, scale, false)
+    entries.put(text, &ended, scale)
 }
 
-/// Goes on past the gap between two knots and the second knot. What ended there is appended.
+/// Goes on past the gap between two knots and the second knot. What ended there is put.
 #[inline(always)]
 fn put_past(
     text: &mut Text,
@@ -51,8 +52,9 @@ fn put_past(
     requires digits { scale.time ≤ 6 }
     requires begun { HasTimeBetween (value span.old.from) (value before.now.time) (span.old.from_in && true) }
     requires rising { value before.now.time <ʳ value next.now.time }
-    ensures ok { OnOk result (WrittenPast true scale span.old before.now next.now span.new text.old text.new) }
-    ensures err { OnErr result (CutPast true scale span.old before.now next.now text.old text.new) }
+    ensures ok { OnOk result (WrittenPast true scale span.old before.now next.now span.new (text.old ++ entries.old) (text.new ++ entries.new)) }
+    ensures err { OnErr result (CutPast true scale span.old before.now next.now (text.old ++ entries.old) (text.new ++ entries.new)) }
+    ensures begins { (front : List ℕ) × (text.new ≡ text.old ++ front) }
 {
     put_turn(
         text,
@@ -82,7 +84,7 @@ pub(crate) fn put_spans(text: &mut Text, s: &Signal<Truth>, scale: Scale) -> Res
 {
     let knots = s.len();
     let mut span = OpenSpan::start(s.knot_in_place(0));
-    let mut entries = VerdictEntries::new(s.alloc())?;
+    let mut entries = VerdictEntries::new(s.alloc());
     for i in 1..knots {
         put_past(
             text,
@@ -94,7 +96,7 @@ pub(crate) fn put_spans(text: &mut Text, s: &Signal<Truth>, scale: Scale) -> Res
         )?;
     }
     let end = span.close(s.stop(), true);
-    entries.put(text, &end, scale, true)
+    entries.close(text, &end, scale)
 }
 
 /// Goes on with this truth: from the time on, or after it where it is in the span. The line of what ended there is put, if the truth is new.

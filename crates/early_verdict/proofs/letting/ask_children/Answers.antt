@@ -1,126 +1,78 @@
-use Rattle.std.proofs.Common.{rules, length, sym, subst}
+use Rattle.std.proofs.Common.{◌≡◌, ◌<◌, length, sym, subst, refl, ◌∙◌, ℕ}
+use Rattle.std.specs.Prelude.{IfSome}
 use Rattle.stl_syntax.specs.Formula.{HasChildrenBelow}
+use Rattle.stl_syntax.specs.Views.{IsNearView, first_of, second_of, view_of}
+use Rattle.stl_syntax.specs.declared.node.Node.{Node}
+use Rattle.stl_syntax.specs.declared.operator.View.{View}
 use Rattle.frac128.specs.Value.{value}
-use Rattle.early_verdict.specs.Letting.{AreAskedBy, IsUntil}
-use Rattle.early_verdict.proofs.LettingLemmas.{asked_always, asked_and, asked_eventually, asked_historically_by}
-use Rattle.early_verdict.proofs.LettingLemmas.{asked_implies, asked_not, asked_once_by, asked_or, asked_until, none_asked}
+use Rattle.early_verdict.specs.Letting.{AreAskedAs}
+use Rattle.early_verdict.proofs.LettingLemmas.{asked_as}
+use Rattle.early_verdict.proofs.TopsLemmas.{operands_below}
 use Rattle.early_verdict.proofs.letting.ask_children.Goals as goal
+
+-- the operands of a view stand below n
+abbrev AreBelow : ℕ → View → Type 0
+AreBelow n v = IfSome (first_of v) (λ p. p < n) × IfSome (second_of v) (λ q. q < n)
+
+-- they stand among the sets that are shown
+below : (n : ℕ) (v : View) (node : Node) → v ≡ view_of node → HasChildrenBelow n node → AreBelow n v
+below n v node e h = subst (AreBelow n) (sym e) (operands_below n node h)
+
+pub returns-in-Const : goal.returns-in-Const
+returns-in-Const c =
+    asked_as (value c.args.cut.now.time) c.args.shown.now c.args.shown.now c.requires.apart c.requires.inside c.requires.tidy c.args.node.now
+    (subst (λ v. AreAskedAs v (value c.args.cut.now.time) c.args.shown.now c.args.shown.now) (sym c.in-Const.is ∙ c.view.ensures.view) refl)
+
+pub returns-in-Atom : goal.returns-in-Atom
+returns-in-Atom c =
+    asked_as (value c.args.cut.now.time) c.args.shown.now c.args.shown.now c.requires.apart c.requires.inside c.requires.tidy c.args.node.now
+    (subst (λ v. AreAskedAs v (value c.args.cut.now.time) c.args.shown.now c.args.shown.now) (sym c.in-Atom.is ∙ c.view.ensures.view) refl)
 
 pub returns-in-Not : goal.returns-in-Not
 returns-in-Not c =
-    subst (λ n. AreAskedBy n (value c.args.cut.now.time) c.args.shown.now c.ask_from.new.shown) (sym c.in-Not.is)
-    (asked_not c.ask_from.ensures)
+    asked_as (value c.args.cut.now.time) c.args.shown.now c.ask_from.new.shown c.requires.apart c.requires.inside c.requires.tidy c.args.node.now
+    (subst (λ v. AreAskedAs v (value c.args.cut.now.time) c.args.shown.now c.ask_from.new.shown) (sym c.in-Not.is ∙ c.view.ensures.view) c.ask_from.ensures)
 
-pub returns-in-And : goal.returns-in-And
-returns-in-And c =
-    subst (λ n. AreAskedBy n (value c.args.cut.now.time) c.args.shown.now c.ask_both.new.shown) (sym c.in-And.is)
-    (asked_and c.ask_both.ensures.1 c.ask_both.ensures.2)
+pub returns-in-Over : goal.returns-in-Over
+returns-in-Over c =
+    asked_as (value c.args.cut.now.time) c.args.shown.now c.ask_over.new.shown c.requires.apart c.requires.inside c.requires.tidy c.args.node.now
+    (subst (λ v. AreAskedAs v (value c.args.cut.now.time) c.args.shown.now c.ask_over.new.shown) (sym c.in-Over.is ∙ c.view.ensures.view) c.ask_over.ensures)
 
-pub returns-in-Or : goal.returns-in-Or
-returns-in-Or c =
-    subst (λ n. AreAskedBy n (value c.args.cut.now.time) c.args.shown.now c.ask_both-in-Or.new.shown) (sym c.in-Or.is)
-    (asked_or c.ask_both-in-Or.ensures.1 c.ask_both-in-Or.ensures.2)
-
-pub returns-in-Implies : goal.returns-in-Implies
-returns-in-Implies c =
-    subst (λ n. AreAskedBy n (value c.args.cut.now.time) c.args.shown.now c.ask_both-in-Implies.new.shown) (sym c.in-Implies.is)
-    (asked_implies c.ask_both-in-Implies.ensures.1 c.ask_both-in-Implies.ensures.2)
-
-pub returns-in-Eventually : goal.returns-in-Eventually
-returns-in-Eventually c =
-    subst (λ n. AreAskedBy n (value c.args.cut.now.time) c.args.shown.now c.ask_ahead.new.shown) (sym c.in-Eventually.is)
-    (asked_eventually (value c.args.cut.now.time) c.ask_ahead.ensures.2 c.in-Eventually.low c.in-Eventually.high
-    c.in-Eventually.low_in c.in-Eventually.high_in c.ask_ahead.ensures.1)
-
-pub returns-in-Always : goal.returns-in-Always
-returns-in-Always c =
-    subst (λ n. AreAskedBy n (value c.args.cut.now.time) c.args.shown.now c.ask_ahead-in-Always.new.shown) (sym c.in-Always.is)
-    (asked_always (value c.args.cut.now.time) c.ask_ahead-in-Always.ensures.2 c.in-Always.low c.in-Always.high c.in-Always.low_in
-    c.in-Always.high_in c.ask_ahead-in-Always.ensures.1)
-
-pub returns-in-Once : goal.returns-in-Once
-returns-in-Once c =
-    subst (λ n. AreAskedBy n (value c.args.cut.now.time) c.args.shown.now c.ask_back.new.shown) (sym c.in-Once.is)
-    (asked_once_by c.in-Once.of c.in-Once.low
-    (value c.args.cut.now.time) c.args.shown.now c.ask_back.new.shown c.requires.apart c.requires.inside c.requires.tidy
-    c.in-Once.high c.in-Once.low_in c.in-Once.high_in c.ask_back.ensures)
-
-pub returns-in-Historically : goal.returns-in-Historically
-returns-in-Historically c =
-    subst (λ n. AreAskedBy n (value c.args.cut.now.time) c.args.shown.now c.ask_back-in-Historically.new.shown) (sym c.in-Historically.is)
-    (asked_historically_by c.in-Historically.of c.in-Historically.low (value c.args.cut.now.time) c.args.shown.now c.ask_back-in-Historically.new.shown
-    c.requires.apart c.requires.inside c.requires.tidy c.in-Historically.high c.in-Historically.low_in c.in-Historically.high_in
-    c.ask_back-in-Historically.ensures)
-
-pub returns-in-Until : goal.returns-in-Until
-returns-in-Until c =
-    subst (λ n. AreAskedBy n (value c.args.cut.now.time) c.args.shown.now c.ask_both-in-Until.new.shown) (sym c.in-Until.is)
-    (asked_until c.ask_both-in-Until.ensures.1 c.ask_both-in-Until.ensures.2 c.in-Until.low c.in-Until.high)
-
-pub returns : goal.returns
-returns c = let n : ¬ (IsUntil c.args.node.now) = search rules in none_asked c.args.node.now (value c.args.cut.now.time) c.args.shown.now n
-
-pub returns-2 : goal.returns-2
-returns-2 c = let n : ¬ (IsUntil c.args.node.now) = search rules in none_asked c.args.node.now (value c.args.cut.now.time) c.args.shown.now n
-
-pub returns-3 : goal.returns-3
-returns-3 c = let n : ¬ (IsUntil c.args.node.now) = search rules in none_asked c.args.node.now (value c.args.cut.now.time) c.args.shown.now n
+pub returns-in-Two : goal.returns-in-Two
+returns-in-Two c =
+    asked_as (value c.args.cut.now.time) c.args.shown.now c.ask_both.new.shown c.requires.apart c.requires.inside c.requires.tidy c.args.node.now
+    (subst (λ v. AreAskedAs v (value c.args.cut.now.time) c.args.shown.now c.ask_both.new.shown) (sym c.in-Two.is ∙ c.view.ensures.view) c.ask_both.ensures)
 
 pub ask_from-requires : goal.ask_from-requires
-ask_from-requires c = record {
-  within = subst (HasChildrenBelow (length c.args.shown.now)) c.in-Not.is c.requires.children;
-  tidy = c.requires.tidy;
-  inside = c.requires.inside;
-}
+ask_from-requires c =
+    let k = below (length c.args.shown.now) c.view.result c.args.node.now c.view.ensures.view c.requires.children in
+    record { within = (subst (AreBelow (length c.args.shown.now)) c.in-Not.is k).0; tidy = c.requires.tidy; inside = c.requires.inside }
+
+pub ask_over-requires : goal.ask_over-requires
+ask_over-requires c =
+    let k = below (length c.args.shown.now) c.view.result c.args.node.now c.view.ensures.view c.requires.children in
+    record {
+      window = subst IsNearView c.in-Over.is c.view.ensures.near;
+      within = (subst (AreBelow (length c.args.shown.now)) c.in-Over.is k).0;
+      tidy = c.requires.tidy;
+      inside = c.requires.inside;
+      near = c.requires.near;
+    }
 
 pub ask_both-requires : goal.ask_both-requires
 ask_both-requires c =
-    let k = subst (HasChildrenBelow (length c.args.shown.now)) c.in-And.is c.requires.children in
-    record { left = k.0; right = k.1; tidy = c.requires.tidy; inside = c.requires.inside }
+    let k = below (length c.args.shown.now) c.view.result c.args.node.now c.view.ensures.view c.requires.children in
+    let two = subst (AreBelow (length c.args.shown.now)) c.in-Two.is k in
+    record { left = two.0; right = two.1; tidy = c.requires.tidy; inside = c.requires.inside }
 
-pub ask_both-requires-in-Or : goal.ask_both-requires-in-Or
-ask_both-requires-in-Or c =
-    let k = subst (HasChildrenBelow (length c.args.shown.now)) c.in-Or.is c.requires.children in
-    record { left = k.0; right = k.1; tidy = c.requires.tidy; inside = c.requires.inside }
+pub returns-in-Reach : goal.returns-in-Reach
+returns-in-Reach c =
+    asked_as (value c.args.cut.now.time) c.args.shown.now c.ask_reach.new.shown c.requires.apart c.requires.inside c.requires.tidy c.args.node.now
+    (subst (λ v. AreAskedAs v (value c.args.cut.now.time) c.args.shown.now c.ask_reach.new.shown) (sym c.in-Reach.is ∙ c.view.ensures.view)
+    c.ask_reach.ensures)
 
-pub ask_both-requires-in-Implies : goal.ask_both-requires-in-Implies
-ask_both-requires-in-Implies c =
-    let k = subst (HasChildrenBelow (length c.args.shown.now)) c.in-Implies.is c.requires.children in
-    record { left = k.0; right = k.1; tidy = c.requires.tidy; inside = c.requires.inside }
-
-pub ask_both-requires-in-Until : goal.ask_both-requires-in-Until
-ask_both-requires-in-Until c =
-    let k = subst (HasChildrenBelow (length c.args.shown.now)) c.in-Until.is c.requires.children in
-    record { left = k.0; right = k.1; tidy = c.requires.tidy; inside = c.requires.inside }
-
-pub ask_ahead-requires : goal.ask_ahead-requires
-ask_ahead-requires c = record {
-  within = subst (HasChildrenBelow (length c.args.shown.now)) c.in-Eventually.is c.requires.children;
-  tidy = c.requires.tidy;
-  inside = c.requires.inside;
-  near = c.requires.near;
-}
-
-pub ask_ahead-requires-in-Always : goal.ask_ahead-requires-in-Always
-ask_ahead-requires-in-Always c = record {
-  within = subst (HasChildrenBelow (length c.args.shown.now)) c.in-Always.is c.requires.children;
-  tidy = c.requires.tidy;
-  inside = c.requires.inside;
-  near = c.requires.near;
-}
-
-pub ask_back-requires : goal.ask_back-requires
-ask_back-requires c = record {
-  within = subst (HasChildrenBelow (length c.args.shown.now)) c.in-Once.is c.requires.children;
-  tidy = c.requires.tidy;
-  inside = c.requires.inside;
-  near = c.requires.near;
-}
-
-pub ask_back-requires-in-Historically : goal.ask_back-requires-in-Historically
-ask_back-requires-in-Historically c = record {
-  within = subst (HasChildrenBelow (length c.args.shown.now)) c.in-Historically.is c.requires.children;
-  tidy = c.requires.tidy;
-  inside = c.requires.inside;
-  near = c.requires.near;
-}
+pub ask_reach-requires : goal.ask_reach-requires
+ask_reach-requires c =
+    let k = below (length c.args.shown.now) c.view.result c.args.node.now c.view.ensures.view c.requires.children in
+    let two = subst (AreBelow (length c.args.shown.now)) c.in-Reach.is k in
+    record { left = two.0; right = two.1; tidy = c.requires.tidy; inside = c.requires.inside }

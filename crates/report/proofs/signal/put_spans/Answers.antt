@@ -1,5 +1,4 @@
-use Rattle.std.proofs.Common.{◌≡◌, ℕ, suc, true, false, ◌+◌, ◌-◌, Some, List, [], ◌∷◌, ◌++◌, length}
-use Rattle.std.proofs.Common.{append-nil, append_assoc, refl, sym, subst, arith}
+use Rattle.std.proofs.Common.{◌≡◌, ℕ, ap, suc, true, false, ◌+◌, ◌-◌, Some, List, [], ◌∷◌, ◌++◌, length, append-nil, append_assoc, refl, sym, subst, arith}
 use Rattle.std.specs.Prelude.{slice_get}
 use Rattle.std.proofs.lemmas.Result.{on_ok_weaker, on_err_weaker}
 use Rattle.rational.specs.Time.{closed}
@@ -10,30 +9,27 @@ use Rattle.pl_signal.proofs.Values.{next_rises}
 use Rattle.stl_syntax.specs.declared.items.Verdict.{Verdict}
 use Rattle.report.specs.SignalVerdicts.{DescribesFunction}
 use Rattle.report.specs.Spelling.{Past, listed}
-use Rattle.report.specs.VerdictForms.{AreEntries, IsEntry, WrittenPast, CutPast}
+use Rattle.report.specs.VerdictForms.{IsEntry, WrittenPast, CutPast}
+use Rattle.stl_syntax.specs.declared.scale.Scale.{Scale}
 use Rattle.report.specs.declared.spelling.OpenSpan.{OpenSpan}
 use Rattle.pl_signal.specs.declared.knot.Knot.{Knot}
 use Rattle.value_laws.specs.declared.truth.Truth.{Truth}
-use Rattle.report.proofs.Entries.{entries_all, entries_part, entries_part_last}
-use Rattle.answer_lines.proofs.Growths.{part_none}
-use Rattle.report.proofs.ReportTexts.{signal_entries_exist}
+use Rattle.answer_lines.specs.Appended.{Grew, GrewInPart}
+use Rattle.report.specs.VerdictForms.{AreEntries}
+use Rattle.answer_lines.proofs.Growths.{part_none, part_shorter, front_then}
+use Rattle.report.proofs.Entries.{entries_all, entries_part, entries_part_last, entry_exists}
 use Rattle.answer_lines.proofs.Sequences.{each_grow}
 use Rattle.report.proofs.Advances.{IsSpelledTo, spelled_start, room_to, spelled_advance, spelled_stop, stop_room, told_to_end}
 use Rattle.report.proofs.signal.put_spans.Goals as goal
 use Rattle.report.proofs.signal.put_spans.Goals.{After-put_past, After-close-end}
-
--- before anything was written there is a text for the verdicts
-pub returns-in_err-entries-clause-err : goal.returns-in_err-entries-clause-err
-returns-in_err-entries-clause-err c =
-    on_err_anyway _ (part_none (AreEntries truth_shape true c.args.scale c.args.s.now) c.args.text.now c.args.text.now
-    (signal_entries_exist true c.args.scale c.args.s.now c.len-knots.ensures.signal) refl)
 
 pub loop-i-init : goal.loop-i-init
 loop-i-init c = (
   [],
   spelled_start c.args.s.now c.knot_in_place.result.now c.start-span.result c.knot_in_place.ensures c.start-span.ensures.from c.start-span.ensures.from_in
       c.start-span.ensures.holds,
-  ([], refl, sym (append-nil c.args.text.now)),
+  ([], refl, ap (λ w. c.args.text.now ++ w) c.new-entries.ensures),
+  ([], sym (append-nil c.args.text.now)),
 )
 
 pub put_past-requires-clause-begun : goal.put_past-requires-clause-begun
@@ -81,27 +77,37 @@ module _ (c : After-put_past) where
 pub returns-in_err-put_past-clause-err : goal.returns-in_err-put_past-clause-err
 returns-in_err-put_past-clause-err c =
     let f = (goal.at.returns-in_err-put_past-clause-err c).After-put_past in
-    let cut : CutPast true c.args.scale c.loop-i.span (k f) (n f) c.loop-i.text c.put_past.new.text = c.in_err-put_past.ensures.err in
+    let mid = c.loop-i.text ++ c.loop-i.entries in
+    let new = c.put_past.new.text ++ c.put_past.new.entries in
+    let cut : CutPast true c.args.scale c.loop-i.span (k f) (n f) mid new = c.in_err-put_past.ensures.err in
     let p = cut.past in
     let ws = listed p.by_gap ++ listed p.by_point in
     let end = to_end f p in
+    let (a, e) = c.loop-i.invariant.3 in
+    let (b, g) = c.put_past.ensures.begins in
     on_err_anyway _
-    (entries_part truth_shape true c.args.scale c.args.s.now (vs f) ws end.0 end.1 c.args.text.now c.loop-i.text c.put_past.new.text
+    (part_shorter (AreEntries truth_shape true c.args.scale c.args.s.now) c.args.text.now c.put_past.new.text c.put_past.new.entries (a ++ b)
+    (entries_part truth_shape true c.args.scale c.args.s.now (vs f) ws end.0 end.1 c.args.text.now mid new
     (subst (λ xs. DescribesFunction (IsWorth truth_shape c.args.s.now) xs (closed (start c.args.s.now) (stop c.args.s.now)))
     (append_assoc (vs f) ws (end.0 ++ end.1 ∷ [])) end.2) c.loop-i.invariant.2 cut.part)
+    (front_then c.args.text.now c.loop-i.text c.put_past.new.text a b e g))
 
 pub loop-i-preserved : goal.loop-i-preserved
 loop-i-preserved c =
     let f = (goal.at.loop-i-preserved c).After-put_past in
     let there : (c.loop-i.i - 1) + 1 ≡ c.loop-i.i + 1 - 1 = omega arith in
-    let w : WrittenPast true c.args.scale c.loop-i.span (k f) (n f) c.put_past.new.span c.loop-i.text c.put_past.new.text =
-    c.in_ok-put_past.ensures.ok in
+    let mid = c.loop-i.text ++ c.loop-i.entries in
+    let new = c.put_past.new.text ++ c.put_past.new.entries in
+    let w : WrittenPast true c.args.scale c.loop-i.span (k f) (n f) c.put_past.new.span mid new = c.in_ok-put_past.ensures.ok in
     let p = w.past in
-    let ws = listed p.by_gap ++ listed p.by_point in (
+    let ws = listed p.by_gap ++ listed p.by_point in
+    let (a, e) = c.loop-i.invariant.3 in
+    let (b, g) = c.put_past.ensures.begins in (
       vs f ++ ws,
       subst (λ (o : OpenSpan). IsSpelledTo c.args.s.now (c.loop-i.i + 1 - 1) (vs f ++ ws) o) w.is
           (subst (λ i. IsSpelledTo c.args.s.now i (vs f ++ ws) p.new) there (advanced f p)),
-      each_grow (E f) (vs f) ws c.args.text.now c.loop-i.text c.put_past.new.text c.loop-i.invariant.2 w.grew,
+      each_grow (E f) (vs f) ws c.args.text.now mid new c.loop-i.invariant.2 w.grew,
+      (a ++ b, front_then c.args.text.now c.loop-i.text c.put_past.new.text a b e g),
     )
 
 pub close-end-requires : goal.close-end-requires
@@ -118,15 +124,19 @@ whole c =
 pub returns-clause-ok : goal.returns-clause-ok
 returns-clause-ok c =
     let all = whole (goal.at.returns-clause-ok c).After-close-end in
-    on_ok_weaker c.put.result
-    (λ grew. entries_all truth_shape true c.args.scale c.args.s.now c.loop-i.invariant.0 c.close-end.result c.args.text.now c.loop-i.text
-    c.put.new.text all
-    c.loop-i.invariant.2 grew) c.put.ensures.ok
+    on_ok_weaker c.close.result
+    (λ grew. entries_all truth_shape true c.args.scale c.args.s.now c.loop-i.invariant.0 c.close-end.result c.args.text.now (c.loop-i.text ++ c.loop-i.entries)
+    c.close.new.text all c.loop-i.invariant.2 grew) c.close.ensures.ok
 
 pub returns-clause-err : goal.returns-clause-err
 returns-clause-err c =
     let all = whole (goal.at.returns-clause-err c).After-close-end in
-    on_err_weaker c.put.result
-    (λ grew. entries_part_last truth_shape true c.args.scale c.args.s.now c.loop-i.invariant.0 c.close-end.result c.args.text.now
-    c.loop-i.text c.put.new.text all
-    c.loop-i.invariant.2 grew) c.put.ensures.err
+    let s = c.args.s.now in
+    let E = AreEntries truth_shape true c.args.scale s in
+    let mid = c.loop-i.text ++ c.loop-i.entries in
+    let (a, f) = c.loop-i.invariant.3 in
+    let part = entries_part_last truth_shape true c.args.scale s c.loop-i.invariant.0 c.close-end.result c.args.text.now mid mid all c.loop-i.invariant.2
+    (part_none (IsEntry true true c.args.scale c.close-end.result) mid mid (entry_exists true true c.args.scale c.close-end.result) refl) in
+    on_err_weaker c.close.result
+    (λ cut. part_shorter E c.args.text.now c.close.new.text cut.1 (a ++ cut.0) (subst (GrewInPart E c.args.text.now) (sym cut.3) part)
+    (front_then c.args.text.now c.loop-i.text c.close.new.text a cut.0 f cut.2)) c.close.ensures.err
