@@ -26,7 +26,7 @@ use Rattle.pieces.specs.declared.piece.Piece.{Piece}
 use Rattle.pieces.specs.declared.reach.Way.{Way}
 use Rattle.pieces.specs.declared.sliding.Sliding.{Sliding}
 use Rattle.pieces.specs.declared.steps.Step.{Step}
-use Rattle.pieces.specs.Best.{GetsNoBetter, GetsNoWorse, IsBetter, IsNoWorse, none_of}
+use Rattle.pieces.specs.Best.{GetsNoBetter, IsBetter, IsNoWorse, none_of}
 use Rattle.pieces.specs.Chains.{Chain, IsWorth, Rise, Tells, end, stop}
 use Rattle.pieces.specs.Hands.{ClimbsAt, EndsHand, FirstGives, GoesFurther, GoesOnAs, HasClimbed, HasRested, IsTaken, Leaves}
 use Rattle.pieces.specs.Hands.{TellsClimb, TellsRest, far_place}
@@ -36,7 +36,7 @@ use Rattle.pieces.specs.Sliding.{HasTold, last_end}
 use Rattle.pieces.specs.Steps.{AreSteps, Gives, HasSlid, StepsGive, step_end, steps_end}
 use Rattle.pieces.specs.Causes.{HasPassed}
 use Rattle.pieces.specs.Streaming.{Climbs, Counts, Rests, StandsBy, before_time}
-use Rattle.pieces.specs.Windows.{Best, BestOver, BestTo, IsLeft, IsNonEmpty, IsPieceFrom, Keeps, Sees, Stands, high_place, low_place}
+use Rattle.pieces.specs.Windows.{Best, BestOver, BestTo, IsLeft, IsNonEmpty, IsPieceFrom, Keeps, MayClimb, Sees, Stands, high_place, low_place}
 use Rattle.pieces.proofs.Bests.{IsBest, Values, best_alike, best_over, best_union, best_value, better_alike, better_is_first, nw_same, nw_trans}
 use Rattle.pieces.proofs.Ends.{after_le, after_of_lt, after_time_same, at_most_itself, at_most_of_before, at_most_of_same, at_most_trans, here_after, here_upto, upto_le}
 use Rattle.pieces.proofs.Ends.{earlier_upto, same_place, upto_of_lt, upto_time_same}
@@ -228,7 +228,7 @@ taken_counts {c = c} known falls met past = record {
 
 -- or it is climbed
 pub taken_climbs : {P : Type 0} {shape : ShapeOf P} {chain : Chain P} {way : Way} {c : Place} {p : Piece P} {old : Sliding P} → ShapeLaws shape
-    → Meets shape chain way c p old → GetsNoWorse way.side (shape.function p.shape) → Climbs shape chain way p old
+    → Meets shape chain way c p old → MayClimb way.over way.side (shape.function p.shape) → Climbs shape chain way p old
 taken_climbs {shape = shape} {chain} {way} {c} {p} {old} laws known rises = record {
   begin = c;
   hand = record { is = known.piece; breaks = known.breaks };

@@ -1,5 +1,5 @@
 -- A window that meets a piece: where the piece and what was told lie, and what holds of that end of the piece at which it is best.
-use Rattle.std.proofs.Common.{◌≡◌, ◌^◌, ℤ, pos, inl, inr, refl, sym, subst}
+use Rattle.std.proofs.Common.{◌≡◌, ◌^◌, ℤ, pos, inl, inr, [], refl, sym, subst}
 use Rattle.rational.specs.Rational.{IsWithin, middle}
 use Rattle.rational.specs.Time.{Rational, ◌≤ʳ◌, ◌<ʳ◌, add, whole}
 use Rattle.rational.specs.Extended.{value_at, ◌≈ᵉ◌}
@@ -8,7 +8,7 @@ use Rattle.rational.specs.Places.{Place, Upto, Before, Same, AtMost}
 use Rattle.rational.proofs.Mixed.{within_between}
 use Rattle.rational.proofs.Order.{le_of_lt, le_or_lt, le_refl, le_trans, left_of_middle, lt_of_le_of_lt, not_lt_of_le, right_of_middle}
 use Rattle.rational.proofs.Shift.{le_shift, lt_shift}
-use Rattle.rational.proofs.PlaceLemmas.{after_same, before_of_at_most, le_of_at_most, le_of_before}
+use Rattle.rational.proofs.PlaceLemmas.{after_at_most, after_same, before_of_at_most, le_of_at_most, le_of_before}
 use Rattle.frac128.specs.Value.{value}
 use Rattle.frac128.specs.Cuts.{place}
 use Rattle.frac128.specs.declared.frac.Frac.{Frac}
@@ -26,11 +26,12 @@ use Rattle.pieces.specs.Meeting.{GoesPast, HasMet, HeldBetween, Holds, IsBelow, 
 use Rattle.pieces.specs.Over.{IsMovedTo, Plays}
 use Rattle.pieces.specs.Sliding.{HasTold}
 use Rattle.pieces.specs.Steps.{FallOff}
-use Rattle.pieces.specs.Windows.{CanSlide, HasEntered, IsLeft, IsNonEmpty, IsPieceFrom, IsReached, Keeps, Stands, high_place, low_place}
+use Rattle.pieces.specs.Windows.{CanSlide, HasEntered, IsLeft, IsNonEmpty, IsPieceFrom, IsReached, Keeps, MayClimb, Stands, high_place, low_place}
 use Rattle.pieces.proofs.Counted.{best_plays}
 use Rattle.pieces.proofs.Ends.{at_most_of_before, at_most_of_same, at_most_trans, upto_of_lt}
 use Rattle.pieces.proofs.Meeting.{best_begins, best_bounded, best_ends, best_with_rise, best_within, limit_before}
 use Rattle.pieces.proofs.Moving.{falls_off, keeps_further, keeps_told, tells_more}
+use Rattle.pieces.proofs.Ones.{no_steps, stands_one}
 use Rattle.pieces.proofs.Played.{plays_told}
 
 -- what is earlier once both are moved is earlier
@@ -168,7 +169,7 @@ module _ {P : Type 0} {shape : ShapeOf P} {chain : Chain P} {way : Way} {c : Pla
 module _ {P : Type 0} (shape : ShapeOf P) (laws : ShapeLaws shape) (chain : Chain P) (way : Way) (rising : Rise chain.from chain.pieces)
     (some : IsNonEmpty way.over) (c : Place) (p : Piece P) (is : IsPieceFrom shape chain c p) (old : Sliding P)
     (keeps : Keeps shape chain way c (end p) c old) (entered : HasEntered shape chain way c old)
-    (trend : GetsNoWorse way.side (shape.function p.shape)) where
+    (trend : MayClimb way.over way.side (shape.function p.shape)) where
   pub keeps_climbed : (gap : P) (new : Sliding P)
       → ((t : Rational) → value_at (shape.function gap) t ≈ᵉ value_at (shape.function p.shape) (add t (whole way.over.high)))
       → HasTold shape way.side gap old new → AtMost (stop new.out) (stop chain) → AtMost (stop new.out) (place way.to)
@@ -330,8 +331,33 @@ module _ {P : Type 0} {shape : ShapeOf P} {chain : Chain P} {way : Way} {c : Pla
       piece = known.piece;
       breaks = known.breaks;
       is_best = inr (refl, trend);
-      keeps = keeps_climbed shape laws chain way known.can.rising known.some c p known.piece old known.keeps known.entered trend gap new moved told
+      keeps = keeps_climbed shape laws chain way known.can.rising known.some c p known.piece old known.keeps known.entered (inl trend) gap new moved told
           upto_end (λ t u. reached.upto t (upto_next t u)) before;
       entered = moved_entered;
       plays = plays_told shape chain way.over (place way.to) way.side old new known.plays gap base told;
     }
+
+-- a piece of which the window sees one time after another was met, once it has told up to where it has left it
+module _ {P : Type 0} {shape : ShapeOf P} {chain : Chain P} {way : Way} {c : Place} {p : Piece P} {old : Sliding P} (laws : ShapeLaws shape)
+    (one : way.over.low ≡ way.over.high) (known : Rises shape chain way c p old) where
+  pub met_one : (gap : P) (new : Sliding P) (next : Place)
+      → ((t : Rational) → value_at (shape.function gap) t ≈ᵉ value_at (shape.function p.shape) (add t (whole way.over.high)))
+      → IsMovedTo shape chain way.over (place way.to) gap → IsReached way (end p) next → HasTold shape way.side gap old new
+      → Same (stop new.out) next → HasMet shape chain way (end p) new
+  met_one gap new next moved base reached told ends = met_climbed known (stands_one shape chain way one c p new keeps none entered)
+      (plays_told shape chain way.over (place way.to) way.side old new known.plays gap base told)
+    where
+      upto_next : AtMost (stop new.out) next
+      upto_next = at_most_of_same (stop new.out) next ends
+
+      keeps : Keeps shape chain way c (end p) c new
+      keeps = keeps_climbed shape laws chain way known.can.rising known.some c p known.piece old known.keeps known.entered (inr one) gap new moved told
+          (at_most_trans (stop new.out) next (stop chain) upto_next (reach_within shape chain way (end p) next reached known.ahead))
+          (λ t u. reached.upto t (upto_next t u)) (λ t u. reached.before t (upto_next t u))
+
+      entered : HasEntered shape chain way (end p) new
+      entered t a u = reached.after t (after_same (stop new.out) next t ends a) u
+
+      none : new.steps.items ≡ []
+      none = no_steps shape chain way one c (end p) c new keeps
+          (λ t a u. known.entered t (after_at_most (stop old.out) (stop new.out) t told.on a) u)

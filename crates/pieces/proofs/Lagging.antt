@@ -135,7 +135,7 @@ module _ {P : Type 0} (shape : ShapeOf P) (laws : ShapeLaws shape) (chain : Chai
       (value_at (shape.function p.shape) (add t (whole way.over.high)))
       (best_with_none shape laws chain way rising c c c gap old known.met.stands (at_most_itself c) is t v (reached.upto t (upto_next t u))
       (inl (x, g, better)))
-      (λ h. rising_within shape laws chain way rising known.some c p known.piece t trend h (reached.before t (upto_next t u)))
+      (λ h. rising_within shape laws chain way rising known.some c p known.piece t (inl trend) h (reached.before t (upto_next t u)))
       (nw_trans better.left (above t x a (upto_next t u) (subst (λ xs. StepsGive shape way.side (stop old.out) xs t x) under.are g)))
   best_under t v a u (inr (past, w)) = absurd (not_both (last_end old) t
       (subst (λ xs. Upto (steps_end (stop old.out) xs) t) (sym under.are)

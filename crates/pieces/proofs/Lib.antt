@@ -22,6 +22,7 @@ pub mod StepLemmas
 pub mod SlidingLemmas
 pub mod Shifts
 pub mod WindowEnds
+pub mod Ones
 pub mod Seeing
 pub mod Moving
 pub mod Reaching

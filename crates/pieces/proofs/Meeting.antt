@@ -24,11 +24,11 @@ use Rattle.pieces.specs.declared.piece.Piece.{Piece}
 use Rattle.pieces.specs.declared.reach.Reach.{Reach}
 use Rattle.pieces.specs.declared.reach.Way.{Way}
 use Rattle.pieces.specs.declared.sliding.Sliding.{Sliding}
-use Rattle.pieces.specs.Best.{GetsNoWorse, IsNoWorse, RisesFrom, none_of}
+use Rattle.pieces.specs.Best.{IsNoWorse, RisesFrom, none_of}
 use Rattle.pieces.specs.Steps.{IsLastChoice}
 use Rattle.pieces.specs.Chains.{Chain, end, stop, IsLimited, Rise}
 use Rattle.pieces.specs.Sliding.{IsBestWith}
-use Rattle.pieces.specs.Windows.{low_place, high_place, BestTo, HasEntered, IsBestEnd, IsNonEmpty, IsPieceFrom, IsSmall, Keeps}
+use Rattle.pieces.specs.Windows.{low_place, high_place, BestTo, HasEntered, IsBestEnd, IsNonEmpty, IsPieceFrom, IsSmall, Keeps, MayClimb}
 use Rattle.pieces.proofs.Bests.{best_value, better_alike, better_is_second, nw_back, nw_same, nw_trans}
 use Rattle.pieces.proofs.Ends.{after_of_lt, at_most_itself, at_most_of_before, here_after, here_upto, upto_le, upto_of_lt, upto_time_same}
 use Rattle.pieces.proofs.Seeing.{BestOf, OfPiece, falling_before, floor, high, low, met_more, none, none_seen, rising_past, rising_within}
@@ -190,7 +190,7 @@ module _ {P : Type 0} (shape : ShapeOf P) (laws : ShapeLaws shape) (chain : Chai
           (value_at (shape.function p.shape) b.at)) (sym e) (falling_before shape laws chain way rising some c p is t falls
           (subst (λ b. Before b (high shape laws chain way rising t)) e h) (subst (λ b. Before (low shape laws chain way rising t) b) e l))
       | inr (e, rises) ↦ subst (λ b. BestOf shape laws chain way rising (OfPiece shape laws chain way rising some c p is t)
-          (value_at (shape.function p.shape) b.at)) (sym e) (rising_past shape laws chain way rising some c p is t rises
+          (value_at (shape.function p.shape) b.at)) (sym e) (rising_past shape laws chain way rising some c p is t (inl rises)
           (subst (λ b. Before (low shape laws chain way rising t) b) e l) (subst (λ b. Before b (high shape laws chain way rising t)) e h))
     ]
 
@@ -212,7 +212,7 @@ module _ {P : Type 0} (shape : ShapeOf P) (laws : ShapeLaws shape) (chain : Chai
 
   -- a piece that gets no worse counts as it is under the high end, while that moves over it
   pub best_with_rise : (some : IsNonEmpty way.over) (gap : P) (old : Sliding P) → Keeps shape chain way c (end p) c old
-      → HasEntered shape chain way c old → GetsNoWorse way.side (shape.function p.shape)
+      → HasEntered shape chain way c old → MayClimb way.over way.side (shape.function p.shape)
       → ((t : Rational) → value_at (shape.function gap) t ≈ᵉ value_at (shape.function p.shape) (high shape laws chain way rising t).at)
       → (t : Rational) (v : Extended) → After (stop old.out) t → Upto (place way.to) t → ¬ Before (end p) (high shape laws chain way rising t)
       → IsBestWith shape way.side old gap t v → BestTo shape chain way (end p) t v

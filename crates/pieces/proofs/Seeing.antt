@@ -6,17 +6,21 @@ use Rattle.rational.specs.Affine.{IsSteady}
 use Rattle.rational.specs.Places.{Place, After, Upto, Before}
 use Rattle.rational.specs.Windows.{Window}
 use Rattle.rational.proofs.PlaceLemmas.{sides, place_order, upto_of_before, after_of_before, after_same, upto_same}
-use Rattle.rational.proofs.PlaceLemmas.{before_through, at_most_of_not_before, after_at_most}
+use Rattle.rational.proofs.PlaceLemmas.{before_through, at_most_of_not_before, after_at_most, between}
+use Rattle.rational.proofs.AffineLemmas.{value_same}
+use Rattle.rational.proofs.Order.{same_sym, same_trans}
+use Rattle.rational.proofs.Sames.{symᵉ, transᵉ}
 use Rattle.value_laws.specs.Members.{ShapeOf, ShapeLaws}
 use Rattle.pl_signal.specs.declared.joining.Side.{Side}
 use Rattle.pl_signal.specs.declared.joining.Side.TheVariants.{Least, Greatest}
 use Rattle.pieces.proofs.WindowEnds.{room_in}
 use Rattle.pieces.specs.declared.piece.Piece.{Piece}
 use Rattle.pieces.specs.declared.reach.Way.{Way}
-use Rattle.pieces.specs.Best.{IsNoWorse, IsBetter, none_of, GetsNoWorse, GetsNoBetter}
+use Rattle.pieces.specs.Best.{IsNoWorse, IsBetter, none_of, GetsNoBetter}
 use Rattle.pieces.specs.Chains.{Chain, end, IsWorth, Rise}
-use Rattle.pieces.specs.Windows.{low_place, high_place, Sees, IsNonEmpty, IsPieceFrom, Best, BestTo}
+use Rattle.pieces.specs.Windows.{low_place, high_place, Sees, IsNonEmpty, IsPieceFrom, Best, BestTo, MayClimb}
 use Rattle.pieces.proofs.Bests.{IsBest, Values, nw_same, best_alike, best_value, best_union, best_at_end, best_at_begin, best_none, best_over, over_best}
+use Rattle.pieces.proofs.Ones.{one_clash, sees_one}
 use Rattle.pieces.proofs.Telling.{rising_is_function}
 
 -- the later of two places
@@ -95,17 +99,29 @@ module _ {P : Type 0} (shape : ShapeOf P) (laws : ShapeLaws shape) (chain : Chai
     inner u a k l h = (((l, h), a, k), is.worth u a k)
 
     -- a piece that gets no worse, up to where the window ends
-    pub rising_within : GetsNoWorse way.side (shape.function p.shape) → Before c (high t) → ¬ Before (end p) (high t)
+    pub rising_within : MayClimb way.over way.side (shape.function p.shape) → Before c (high t) → ¬ Before (end p) (high t)
         → BestOf OfPiece (value_at (shape.function p.shape) (high t).at)
-    rising_within rises h n =
+    rising_within (inr one) h n =
+        let (z, a, k) = between (low t) (high t) low_high in
+        let f = shape.function p.shape in
+        let after = after_at_most c (low t) z (at_most_of_not_before c (low t) (λ l. one_clash way.over t c one l h)) a in
+        let upto = at_most_of_not_before (high t) (end p) n z k in
+        best_value (value_same f (sees_one way.over t z one (a, k))) (record {
+          floor = floor p.shape z;
+          bound = λ v m. nw_same way.side (transᵉ (value_same f (same_trans (sees_one way.over t z one (a, k)) (same_sym (sees_one way.over t m.0 one m.1.0))))
+              (symᵉ (worth_of m.0 v m.1 m.2)));
+          reached = λ w o l. (value_at f z, (z, ((a, k), after, upto), is.worth z after upto), l);
+        })
+    rising_within (inl rises) h n =
         let (b, later) = later_place c (low t) in
         best_at_end way.side none OfPiece (IsWorth shape chain) (shape.function p.shape) b (high t) (later.before (high t) h low_high) (floor p.shape) rises
         (λ u a k. inner u (later.both u a).0 (at_most_of_not_before (high t) (end p) n u k) (later.both u a).1 k) (λ u v m w. (m.0.1, worth_of u v m w))
 
     -- and past its end
-    pub rising_past : GetsNoWorse way.side (shape.function p.shape) → Before (low t) (end p) → Before (end p) (high t)
+    pub rising_past : MayClimb way.over way.side (shape.function p.shape) → Before (low t) (end p) → Before (end p) (high t)
         → BestOf OfPiece (value_at (shape.function p.shape) (end p).at)
-    rising_past rises l h =
+    rising_past (inr one) l h = absurd (one_clash way.over t (end p) one l h)
+    rising_past (inl rises) l h =
         let (b, later) = later_place c (low t) in
         best_at_end way.side none OfPiece (IsWorth shape chain) (shape.function p.shape) b (end p) (later.before (end p) is.order l) (floor p.shape) rises
         (λ u a k. inner u (later.both u a).0 k (later.both u a).1 (upto_of_before (end p) (high t) u h k)) (λ u v m w. (m.2, worth_of u v m w))

@@ -16,14 +16,14 @@ use Rattle.pl_signal.specs.declared.joining.Side.{Side}
 use Rattle.pieces.specs.declared.sliding.Sliding.{Sliding}
 use Rattle.pieces.specs.declared.steps.Step.{Step}
 use Rattle.pieces.specs.declared.stream.Stream.{Stream}
-use Rattle.pieces.specs.Best.{GetsNoWorse, none_of}
+use Rattle.pieces.specs.Best.{none_of}
 use Rattle.pieces.specs.Chains.{Chain, IsWorth, end, stop}
 use Rattle.pieces.specs.Meeting.{Reaches}
 use Rattle.pieces.specs.Over.{Plays}
 use Rattle.pieces.specs.Sliding.{last_end}
 use Rattle.pieces.specs.Steps.{StepsGive}
 use Rattle.pieces.specs.Streaming.{Climbs, ComesNext, CountsSoFar, Follows, StandsBy}
-use Rattle.pieces.specs.Windows.{CanSlide, IsNonEmpty, IsPieceFrom, Keeps, Stands, high_place}
+use Rattle.pieces.specs.Windows.{CanSlide, IsNonEmpty, IsPieceFrom, Keeps, MayClimb, Stands, high_place}
 
 -- at the place the shape goes on as the piece: with its one value, or its function
 abbrev pub GoesOnAs : {P : Type 0} → ShapeOf P → P → Place → Piece P → Type 0
@@ -103,7 +103,7 @@ module _ {P : Type 0} (shape : ShapeOf P) (chain : Chain P) (way : Way) where
     pub within : IsWithin (2 ^ 34) (place way.to).at
     pub some : IsNonEmpty way.over
     pub is : IsPieceFrom shape chain begin piece
-    pub rises : GetsNoWorse way.side (shape.function piece.shape)
+    pub rises : MayClimb way.over way.side (shape.function piece.shape)
     pub entered : Before begin (high_place way.over.high way.over.high_in t)
     pub near : add t (whole way.over.high) ≤ʳ (end piece).at
     pub inside : Upto (place way.to) t

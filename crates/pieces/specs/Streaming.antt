@@ -16,11 +16,11 @@ use Rattle.pieces.specs.declared.piece.Piece.{Piece}
 use Rattle.pieces.specs.declared.reach.Way.{Way}
 use Rattle.pieces.specs.declared.sliding.Sliding.{Sliding}
 use Rattle.pieces.specs.declared.stream.Stream.{Stream}
-use Rattle.pieces.specs.Best.{GetsNoBetter, GetsNoWorse}
+use Rattle.pieces.specs.Best.{GetsNoBetter}
 use Rattle.pieces.specs.Chains.{Chain, HasShape, IsWorth, end, stop}
 use Rattle.pieces.specs.Over.{Plays}
 pub use Rattle.pieces.specs.Causes.{HasPassed, InPlayBelow, IsCauseBelow, IsHeldAt, IsHeldCause, IsHeldWithin}
-use Rattle.pieces.specs.Windows.{CanSlide, HasEntered, IsNonEmpty, IsPieceFrom, Keeps, Stands, high_place}
+use Rattle.pieces.specs.Windows.{CanSlide, HasEntered, IsNonEmpty, IsPieceFrom, Keeps, MayClimb, Stands, high_place}
 
 -- just before a time
 abbrev pub before_time : Rational → Place
@@ -55,11 +55,11 @@ module _ {P : Type 0} (shape : ShapeOf P) (chain : Chain P) where
       pub stands : Stands shape chain way (end piece) (end piece) s
       pub past : HasPassed way (end piece) s
 
-    -- it gets no worse, and the window climbs it: its steps give the best of what lies before it
+    -- the window climbs it: its steps give the best of what lies before it
     pub record Climbs (piece : Piece P) (s : Sliding P) : Type 0 where
       pub begin : Place
       pub hand : IsAtHand piece begin
-      pub rises : GetsNoWorse way.side (shape.function piece.shape)
+      pub rises : MayClimb way.over way.side (shape.function piece.shape)
       pub keeps : Keeps shape chain way begin (end piece) begin s
       pub entered : HasEntered shape chain way begin s
 

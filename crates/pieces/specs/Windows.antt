@@ -2,7 +2,7 @@
 use Rattle.std.specs.Prelude.{◌≡◌, ◌⊎◌, ◌^◌, ℕ, Option, Bool, ℤ, ◌≤ℤ◌, ◌<ℤ◌, ◌-ℤ◌, pos, neg_ℤ, not, IsTrue}
 use Rattle.rational.specs.Rational.{IsWithin, add, whole}
 use Rattle.rational.specs.Time.{Rational, ◌≤ʳ◌, ◌≈◌}
-use Rattle.rational.specs.Extended.{Extended, value_at}
+use Rattle.rational.specs.Extended.{Affine, Extended, value_at}
 use Rattle.rational.specs.Places.{Place, After, Upto, Before, AtMost}
 use Rattle.rational.specs.Windows.{Function, Ahead, Behind, IsSupOver, IsInfOver}
 use Rattle.frac128.specs.Cuts.{place}
@@ -55,6 +55,10 @@ pub record IsSmall (over : Reach) : Type 0 where
 -- some time may lie in the window
 abbrev pub IsNonEmpty : Reach → Type 0
 IsNonEmpty over = (over.low <ℤ over.high) ⊎ ((over.low ≡ over.high) × IsTrue over.low_in × IsTrue over.high_in)
+
+-- the window may climb a function: it gets no worse, or the window sees one time
+abbrev pub MayClimb : Reach → Side → Affine → Type 0
+MayClimb over side f = GetsNoWorse side f ⊎ (over.low ≡ over.high)
 
 -- up to the place e, and no further, the window on its way begins before the place c, in the domain
 pub record IsLeft (way : Way) (c e : Place) : Type 0 where

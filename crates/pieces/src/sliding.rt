@@ -1,6 +1,6 @@
 //! A window on its way over a function of time: what it has told, and the steps down that it will give, should no more come into it.
 //! Source: the steps are the monotonic wedge of Lemire 2006, over pieces of a function in the place of samples.
-ghost use Rattle.std.specs.Prelude.{◌≡◌, ◌⊎◌, ◌^◌, Some, IsTrue, IfOk, IfSome, None, OnErr, OnOk};
+ghost use Rattle.std.specs.Prelude.{◌≡◌, ◌⊎◌, ◌^◌, [], Some, IsTrue, IfOk, IfSome, None, OnErr, OnOk};
 ghost use Rattle.rational.specs.Rational.{IsWithin};
 ghost use Rattle.rational.specs.Affine.{HasBoundedLevel};
 ghost use Rattle.rational.specs.Places.{AtMost, Before, Same};
@@ -71,6 +71,27 @@ impl<P: Shape> Sliding<P> {
             let _ = self.steps.pop_front();
         }
         Ok(())
+    }
+
+    /// Tells a shape up to a place, where no step counts.
+    ///
+    /// # Errors
+    ///
+    /// `Memory` where memory is wanting.
+    #[inline(always)]
+    pub(crate) fn put(&mut self, gap: &P, until: &Cut) -> Result<(), Memory>
+        requires steps { self.old.steps.items ≡ [] }
+        requires within { IsWithin (2 ^ 34) (stop self.old.out).at }
+        requires order { AtMost (stop self.old.out) (place until.now) }
+        ensures told { (side : Side) → OnOk result (HasTold P.Shape side gap.now self.old self.new) }
+        ensures ends { OnOk result (Same (stop self.new.out) (place until.now)) }
+    {
+        // For the proof alone: that the chain is normal is a clause of `len`.
+        let _ = self.out.len();
+        if !self.out.until().precedes(until) {
+            return Ok(());
+        }
+        self.out.put(until, gap)
     }
 }
 

@@ -9,7 +9,7 @@ ghost use Rattle.frac128.specs.Cuts.{place};
 ghost use Rattle.pieces.specs.Best.{IsBetter};
 ghost use Rattle.pieces.specs.Chains.{Chain, HasShape, Tells, end, stop};
 ghost use Rattle.pieces.specs.Hands.{ClimbsAt, EndsHand, FirstGives, GoesFurther, GoesOnAs, HasClimbed, HasLeft, HasRested, IsTaken, Leaves, TellsClimb, TellsRest, TurnsTo};
-ghost use Rattle.pieces.specs.Meeting.{HasMet, HasToldTo, IsBelow, IsHeldFault, Meets};
+ghost use Rattle.pieces.specs.Meeting.{HasMet, HasToldTo, IsBelow, IsHeldFault, Meets, Rises};
 ghost use Rattle.pieces.specs.Over.{IsMovedTo};
 ghost use Rattle.pieces.specs.Steps.{AreSteps, IsOfSteps};
 ghost use Rattle.pieces.specs.Windows.{BestOver, BestTo, HasEntered};
@@ -19,7 +19,7 @@ ghost use Rattle.pieces.specs.Causes.{IsCauseBelow, IsHeldCause};
 use crate::reach::{Reach, Way, at_high, at_low, entering};
 use crate::sliding::Sliding;
 use crate::steps::{Step, slide};
-use crate::window::{enter, falling, is_empty, left, of_none, rising, steady, trend};
+use crate::window::{enter, falling, is_empty, left, of_none, reached, rising, steady, trend};
 use crate::{Piece, Pieces};
 use frac128::{Cut, Frac, Memory};
 use pl_signal::{Side, WidePair, chosen_in_place};
@@ -273,6 +273,32 @@ impl<P: Shape> Stream<P> {
     }
 }
 
+/// Whether the window goes from one offset to the same: then it sees no time but one.
+#[inline(always)]
+fn is_one(over: &Reach) -> bool
+    ensures is { IsTrue result → over.now.low ≡ over.now.high }
+    ensures not { result ≡ false → ¬ (over.now.low ≡ over.now.high) }
+{
+    over.low == over.high
+}
+
+/// The piece at hand ends, of which the window sees one time after another: it is told up to where the window has left it.
+fn leave<P: Shape>(way: &Way, piece: &Piece<P>, window: &mut Sliding<P>) -> Result<(), Memory>
+    requires rises { (s : Chain P) × (c : Place) × Rises P.Shape s way.now c piece.now window.old }
+    requires one { way.now.over.low ≡ way.now.over.high }
+    ensures met { (s : Chain P) (c : Place) → Rises P.Shape s way.now c piece.now window.old
+        → OnOk result (HasMet P.Shape s way.now (end piece.now) window.new) }
+    ensures entered { (s : Chain P) → OnOk result (HasEntered P.Shape s way.now (end piece.now) window.new) }
+    ensures from { OnOk result (window.new.out.from ≡ window.old.out.from) }
+    ensures upto { OnOk result (HasToldTo way.now (end piece.now) window.old window.new) }
+{
+    let Some(next) = reached(way, &piece.until, &window.out.until()) else {
+        return Ok(());
+    };
+    let gap = at_high(&way.over, &piece.shape);
+    window.put(&gap, &next)
+}
+
 /// The window with its high end in.
 fn closed(over: &Reach) -> Reach
     ensures { result ≡ record over.now { high_in = true } }
@@ -442,6 +468,9 @@ fn end_piece<P: Shape>(
 {
     match trend {
         Ordering::Greater => {
+            if is_one(&way.over) {
+                return leave(way, piece, window);
+            }
             let until = left(way, &piece.until);
             rising(way, piece, &until, window, fault)
         }
@@ -466,6 +495,9 @@ fn take<P: Shape>(
     ensures wide { (s : Chain P) → Meets P.Shape s way.now (place from.now) piece.now window.old
         → OnErr result (IfSome fault.new (IsHeldFault P.Shape s way.now (place from.now).at)) }
 {
+    if is_one(&way.over) {
+        return Ok(Ordering::Greater);
+    }
     let until = left(way, &piece.until);
     match trend(way.side, &piece.shape) {
         Ordering::Greater => Ok(Ordering::Greater),
@@ -527,5 +559,8 @@ fn climb<P: Shape>(
     ensures narrow { value_of upto.now.time ≤ʳ (stop window.old.out).at → OnErr result (fault.new ≡ None) }
 {
     let gap = at_high(&way.over, &piece.shape);
+    if is_one(&way.over) {
+        return window.put(&gap, upto);
+    }
     window.tell(way.side, &gap, false, upto, fault)
 }

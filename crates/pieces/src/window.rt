@@ -661,7 +661,7 @@ fn at_end<P: Shape>(over: &Reach, shape: &P, time: &Frac, here: &Frac) -> P
 
 /// The place from which on the window reaches past the place `met`, in the domain; none where it does so from `at` on.
 #[inline(always)]
-fn reached(way: &Way, met: &Cut, at: &Cut) -> Option<Cut>
+pub(crate) fn reached(way: &Way, met: &Cut, at: &Cut) -> Option<Cut>
     requires from { whole (pos 0) ≤ʳ value_of met.now.time }
     requires to { value_of met.now.time ≤ʳ whole (pos (2 ^ 32)) }
     requires small { IsSmall way.now.over }

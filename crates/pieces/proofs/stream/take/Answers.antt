@@ -1,3 +1,4 @@
+use Rattle.std.proofs.Common.{inl, inr}
 use Rattle.rational.proofs.Order.{le_trans}
 use Rattle.rational.proofs.PlaceLemmas.{le_of_at_most, le_of_before}
 use Rattle.frac128.specs.Cuts.{place}
@@ -39,9 +40,16 @@ steady-requires-clause-trend g c = steady_of c.args.way.now.side (g.P.Shape.func
 pub falling-requires-clause-trend : goal.falling-requires-clause-trend
 falling-requires-clause-trend g c = no_better_of c.args.way.now.side (g.P.Shape.function c.args.piece.now.shape) c.in-Less.ensures
 
+pub returns-then-is_one-clause-taken : goal.returns-then-is_one-clause-taken
+returns-then-is_one-clause-taken g c s known = record {
+  hand = taken_climbs (assumption g.met.P.Shape) known (inr (c.is_one.ensures.is c.if-is_one.true));
+  plays = known.plays;
+}
+
 pub returns-in-Greater-clause-taken : goal.returns-in-Greater-clause-taken
 returns-in-Greater-clause-taken g c s known = record {
-  hand = taken_climbs (assumption g.met.P.Shape) known (no_worse_of c.args.way.now.side (g.P.Shape.function c.args.piece.now.shape) c.in-Greater.ensures);
+  hand = taken_climbs (assumption g.met.P.Shape) known
+      (inl (no_worse_of c.args.way.now.side (g.P.Shape.function c.args.piece.now.shape) c.in-Greater.ensures));
   plays = known.plays;
 }
 
