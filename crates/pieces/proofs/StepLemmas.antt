@@ -3,7 +3,7 @@ use Rattle.std.proofs.Common.{◌≡◌, ◌⊎◌, inl, inr, List, [], ◌∷�
 use Rattle.rational.specs.Rational.{IsWithin}
 use Rattle.rational.specs.Time.{Rational, ◌≤ʳ◌, ◌<ʳ◌}
 use Rattle.rational.specs.Extended.{Extended, value_at, Passes}
-use Rattle.rational.specs.Affine.{HasBoundedLevel}
+use Rattle.rational.specs.Affine.{HasBoundedLevel, IsSteady}
 use Rattle.rational.specs.Places.{Place, After, Upto, Before, AtMost, Same}
 use Rattle.rational.proofs.Order.{le_refl, le_trans, lt_of_le_of_lt, lt_of_lt_of_le}
 use Rattle.rational.proofs.AffineLemmas.{same_reflᵉ}
@@ -207,6 +207,12 @@ module _ {P : Type 0} (shape : ShapeOf P) (side : Side) where
             nw_trans g.right (nw_trans (at_begin t r a u h)
             (subst (λ r. IsNoWorse side (value_at (shape.function r) b.at) (value_at (shape.function p) t)) (sym same)
             (nw_trans (nw_of_worse better) (of_begin t p a u level))))
+
+    -- and one whose shape is steady, and better where it begins
+    pub stays_by_shape : IsSteady (shape.function s.shape) → IsWorse side (value_at (shape.function p) b.at) (value_at (shape.function s.shape) b.at)
+        → Outlasts shape side b s p s
+    stays_by_shape steady better = stays (λ t x a u g. nw_trans (with_no_worse s.shape s.other t x g)
+        (nw_trans (nw_same side (steady t b.at)) (nw_trans (nw_of_worse better) (of_begin t p a u level))))
 
     -- one whose shape is better where it begins goes on with the constant
     pub goes_on_with : IsWorse side (value_at (shape.function p) b.at) (value_at (shape.function s.shape) b.at)

@@ -1,6 +1,6 @@
 //! A window on its way over a function of time: what it has told, and the steps down that it will give, should no more come into it.
 //! Source: the steps are the monotonic wedge of Lemire 2006, over pieces of a function in the place of samples.
-ghost use Rattle.std.specs.Prelude.{◌≡◌, ◌⊎◌, ◌^◌, [], Some, IsTrue, IfOk, IfSome, None, OnErr, OnOk};
+ghost use Rattle.std.specs.Prelude.{◌≡◌, ◌⊎◌, ◌^◌, ◌∷◌, [], List, Some, IsTrue, IfOk, IfSome, None, OnErr, OnOk};
 ghost use Rattle.rational.specs.Rational.{IsWithin};
 ghost use Rattle.rational.specs.Affine.{HasBoundedLevel};
 ghost use Rattle.rational.specs.Places.{AtMost, Before, Same};
@@ -8,7 +8,7 @@ ghost use Rattle.frac128.specs.Value.{value as value_of};
 ghost use Rattle.frac128.specs.Cuts.{place};
 ghost use Rattle.pieces.specs.Best.{FallsFrom, RisesFrom};
 ghost use Rattle.pieces.specs.Chains.{stop};
-ghost use Rattle.pieces.specs.Steps.{AreSteps, IsLastChoice, IsOfStep, IsStep};
+ghost use Rattle.pieces.specs.Steps.{AreSteps, IsLastChoice, IsOfStep, IsStep, step_end};
 ghost use Rattle.pieces.specs.Sliding.{HasTold, IsCrossFault, IsToldFault, IsWritten};
 
 use crate::Pieces;
@@ -92,6 +92,29 @@ impl<P: Shape> Sliding<P> {
             return Ok(());
         }
         self.out.put(until, gap)
+    }
+
+    /// Tells up to a place what the first of the steps gives, which has one shape, and goes on past the place.
+    ///
+    /// # Errors
+    ///
+    /// `Memory` where memory is wanting.
+    #[inline(always)]
+    pub(crate) fn tell_first(&mut self, side: Side, until: &Cut) -> Result<(), Memory>
+        requires first { (s : Step P) × (ss : List (Step P)) × (self.old.steps.items ≡ s ∷ ss) × (s.other ≡ None)
+            × Before (place until.now) (step_end s) }
+        requires steps { AreSteps P.Shape side (stop self.old.out) self.old.steps.items }
+        requires within { IsWithin (2 ^ 34) (stop self.old.out).at }
+        requires later { Before (stop self.old.out) (place until.now) }
+        ensures told { (gap : P) → IsLastChoice P.Shape side gap → OnOk result (HasTold P.Shape side gap self.old self.new) }
+        ensures ends { OnOk result (Same (stop self.new.out) (place until.now)) }
+    {
+        // For the proof alone: which values are better, and that the chain is normal.
+        let _ = (side, self.out.len());
+        let Some(first) = self.steps.front() else {
+            return Ok(());
+        };
+        self.out.put(until, &first.shape)
     }
 }
 

@@ -183,7 +183,10 @@ fn beside<P: Shape>(side: Side, begin: &Cut, step: &Step<P>, constant: &P) -> La
         }
     }
     match favour(side, &step.shape, constant, &begin.time) {
-        Ordering::Less => Lasting::Part,
+        Ordering::Less => match step.shape.rises() {
+            Ordering::Equal => Lasting::Whole,
+            _ => Lasting::Part,
+        },
         _ => Lasting::Hidden,
     }
 }

@@ -265,7 +265,9 @@ fn meet_rising<P: Shape>(
         enter(way, from, window, fault)?;
         return rising(way, piece, until, window, fault);
     };
-    window.tell(way.side, &of_none(way.side), true, &next, fault)?;
+    // For the proof alone: a shape that is never better.
+    let _ = of_none::<P>(way.side);
+    window.tell_first(way.side, &next)?;
     hold(way, piece, &piece.until, until, window, fault)
 }
 
@@ -275,15 +277,19 @@ fn meet_rising<P: Shape>(
 fn under<P: Shape>(way: &Way, piece: &Piece<P>, window: &Sliding<P>) -> Option<Cut>
     requires met { (s : Chain P) × (c : Place) × Passes P.Shape s way.now c piece.now window.now }
     ensures reached { IfSome result (λ e. IsReached way.now (end piece.now) (place e)) }
-    ensures on { IfSome result (λ e. AtMost (stop window.now.out) (place way.now.to) → AtMost (stop window.now.out) (place e)) }
+    ensures on { IfSome result (λ e. Before (stop window.now.out) (place e)) }
     ensures under { IfSome result (λ e. IsUnder P.Shape way.now.side way.now.over window.now.steps.items (P.function piece.now.shape) (place e)) }
 {
     let Some(first) = window.steps.front() else {
         return None;
     };
-    let Some(next) = reached(way, &piece.until, &window.out.until()) else {
+    let at = window.out.until();
+    let Some(next) = reached(way, &piece.until, &at) else {
         return None;
     };
+    if !at.precedes(&next) {
+        return None;
+    }
     if covers(way, first, &piece.shape, &next) {
         return Some(next);
     }

@@ -4,7 +4,7 @@ use Rattle.frac128.specs.Value.{value}
 use Rattle.frac128.specs.Cuts.{place}
 use Rattle.pieces.specs.Best.{IsNoWorse}
 use Rattle.pieces.proofs.Bests.{favour_less, favour_second}
-use Rattle.pieces.proofs.StepLemmas.{hidden_of, stays_by_other, goes_on_with}
+use Rattle.pieces.proofs.StepLemmas.{hidden_of, stays_by_other, stays_by_shape, goes_on_with}
 use Rattle.pieces.proofs.steps.beside.Given.{Over}
 use Rattle.pieces.proofs.steps.beside.Goals.{in-Some+in_default-favour, in_default, After-favour-2}
 use Rattle.pieces.proofs.steps.beside.Goals as goal
@@ -35,9 +35,15 @@ returns-in_default-favour-2 g c =
     (value_at (g.P.Shape.function c.args.constant.now) (value c.args.begin.now.time)) c.favour-2.ensures c.in_default-favour-2.not-Less)
     (others g (goal.at.returns-in_default-favour-2 g c).After-favour-2)
 
-pub returns-in-Less-favour : goal.returns-in-Less-favour
-returns-in-Less-favour g c =
+pub returns-in-Equal : goal.returns-in-Equal
+returns-in-Equal g c =
+    stays_by_shape g.P.Shape c.args.side (place c.args.begin.now) c.args.step.now c.args.constant.now c.requires.is c.requires.level c.in-Equal.ensures
+    (favour_less c.args.side (value_at (g.P.Shape.function c.args.step.now.shape) (value c.args.begin.now.time))
+    (value_at (g.P.Shape.function c.args.constant.now) (value c.args.begin.now.time)) c.in-Less-favour.ensures)
+
+pub returns-in_default-rises : goal.returns-in_default-rises
+returns-in_default-rises g c =
     goes_on_with g.P.Shape c.args.side (place c.args.begin.now) c.args.step.now c.args.constant.now c.requires.is c.requires.level
     (favour_less c.args.side (value_at (g.P.Shape.function c.args.step.now.shape) (value c.args.begin.now.time))
     (value_at (g.P.Shape.function c.args.constant.now) (value c.args.begin.now.time)) c.in-Less-favour.ensures)
-    (others g (goal.at.returns-in-Less-favour g c).After-favour-2)
+    (others g (goal.at.returns-in_default-rises g c).After-favour-2)

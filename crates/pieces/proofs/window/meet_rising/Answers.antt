@@ -3,16 +3,15 @@ use Rattle.std.proofs.lemmas.Option.{IfSome_then}
 use Rattle.std.proofs.lemmas.Result.{on_err_weaker, on_ok_weaker}
 use Rattle.rational.specs.Places.{After}
 use Rattle.rational.proofs.Lists.{on_err_anyway}
-use Rattle.rational.proofs.PlaceLemmas.{le_of_at_most}
-use Rattle.frac128.specs.Value.{value}
 use Rattle.frac128.specs.Cuts.{place}
 use Rattle.value_laws.specs.Members.{ShapeLaws}
 use Rattle.pieces.specs.Chains.{end, stop}
-use Rattle.pieces.proofs.Holding.{ahead_here, below_here, met_next, reach_below, rises_entered, stop_below, told_within}
+use Rattle.pieces.specs.Causes.{IsCauseBelow}
+use Rattle.pieces.proofs.Counted.{none_refused}
+use Rattle.pieces.proofs.Holding.{ahead_here, below_here, met_next, rises_entered, stop_below, told_within}
 use Rattle.pieces.proofs.Lagging.{entered_under, holds_under}
-use Rattle.pieces.proofs.Meeting.{none_last, none_level, none_rises, on_ok_two}
+use Rattle.pieces.proofs.Meeting.{none_last, on_ok_two}
 use Rattle.pieces.proofs.Moving.{falls_off}
-use Rattle.pieces.proofs.Played.{told_cause_none}
 use Rattle.pieces.proofs.Refusals.{held_below}
 use Rattle.pieces.proofs.window.meet_rising.Goals as goal
 
@@ -55,29 +54,18 @@ returns-in_default-clause-wide g c chain known = c.rising.ensures.wide chain (pl
     (rises_entered known (assumption g.met.P.Shape) (c.in_ok-enter.ensures.met chain known.met (ahead_here known)) (c.in_ok-enter.ensures.entered chain))
     (stop_below g.P.Shape chain c.args.way.now (end c.args.piece.now) known.ahead)
 
-pub tell-requires-clause-alone : goal.tell-requires-clause-alone
-tell-requires-clause-alone g c = λ h. none_last g.P.Shape (assumption g.met.P.Shape) c.args.way.now.side c.of_none.result c.of_none.ensures.value
+pub tell_first-requires-clause-first : goal.tell_first-requires-clause-first
+tell_first-requires-clause-first g c =
+    let under = c.in-Some.ensures.under in
+    (under.first, under.rest, under.are, under.alone, under.later)
 
-pub tell-requires-clause-rises : goal.tell-requires-clause-rises
-tell-requires-clause-rises g c = none_rises g.P.Shape (assumption g.met.P.Shape) c.args.way.now.side c.of_none.result c.of_none.ensures.value
-    (stop c.args.window.now.out).at (value c.in-Some.next.time)
-
-pub tell-requires-clause-level : goal.tell-requires-clause-level
-tell-requires-clause-level g c =
-    none_level g.P.Shape (assumption g.met.P.Shape) c.args.way.now.side c.of_none.result c.of_none.ensures.value
-
-pub tell-requires-clause-order : goal.tell-requires-clause-order
-tell-requires-clause-order g c =
-    let (chain, known) = c.requires.met in
-    c.in-Some.ensures.on (λ t u. known.met.to t (known.met.stands.upto t u))
-
-pub tell-requires-clause-from_within : goal.tell-requires-clause-from_within
-tell-requires-clause-from_within g c =
+pub tell_first-requires-clause-within : goal.tell_first-requires-clause-within
+tell_first-requires-clause-within g c =
     let (chain, known) = c.requires.met in
     told_within known.met.can known.met.stands
 
-pub tell-requires-clause-steps : goal.tell-requires-clause-steps
-tell-requires-clause-steps g c =
+pub tell_first-requires-clause-steps : goal.tell_first-requires-clause-steps
+tell_first-requires-clause-steps g c =
     let (chain, known) = c.requires.met in
     known.met.stands.steps
 
@@ -86,17 +74,19 @@ hold-requires-clause-met g c =
     let (chain, known) = c.requires.met in (
       chain,
       place c.args.from.now,
-      holds_under g.P.Shape (assumption g.met.P.Shape) chain c.args.way.now (place c.args.from.now) c.args.piece.now c.args.window.now c.tell.new.self
+      holds_under g.P.Shape (assumption g.met.P.Shape) chain c.args.way.now (place c.args.from.now) c.args.piece.now c.args.window.now c.tell_first.new.self
           known c.requires.trend (place c.in-Some.next) c.in-Some.ensures.reached c.in-Some.ensures.under c.of_none.result c.of_none.ensures.still
-          c.of_none.ensures.value c.in_ok-tell.ensures.told c.in_ok-tell.ensures.ends,
+          c.of_none.ensures.value (c.in_ok-tell_first.ensures.told c.of_none.result
+          (none_last g.P.Shape (assumption g.met.P.Shape) c.args.way.now.side c.of_none.result c.of_none.ensures.value)) c.in_ok-tell_first.ensures.ends,
     )
 
 pub returns-clause-met : goal.returns-clause-met
 returns-clause-met g c chain known =
     let from = place c.args.from.now in
-    let held = holds_under g.P.Shape (assumption g.met.P.Shape) chain c.args.way.now from c.args.piece.now c.args.window.now c.tell.new.self
+    let held = holds_under g.P.Shape (assumption g.met.P.Shape) chain c.args.way.now from c.args.piece.now c.args.window.now c.tell_first.new.self
     known c.requires.trend (place c.in-Some.next) c.in-Some.ensures.reached c.in-Some.ensures.under c.of_none.result c.of_none.ensures.still
-    c.of_none.ensures.value c.in_ok-tell.ensures.told c.in_ok-tell.ensures.ends in
+    c.of_none.ensures.value (c.in_ok-tell_first.ensures.told c.of_none.result
+    (none_last g.P.Shape (assumption g.met.P.Shape) c.args.way.now.side c.of_none.result c.of_none.ensures.value)) c.in_ok-tell_first.ensures.ends in
     on_ok_two c.hold.result (λ stands plays. met_next known stands plays) (c.hold.ensures.stands chain from held) (c.hold.ensures.plays chain from held)
 
 pub returns-clause-falls : goal.returns-clause-falls
@@ -106,18 +96,21 @@ returns-clause-falls g c =
     let way = c.args.way.now in
     let from = place c.args.from.now in
     let last = end c.args.piece.now in
-    let held = holds_under g.P.Shape laws chain way from c.args.piece.now c.args.window.now c.tell.new.self
+    let held = holds_under g.P.Shape laws chain way from c.args.piece.now c.args.window.now c.tell_first.new.self
     known c.requires.trend (place c.in-Some.next) c.in-Some.ensures.reached c.in-Some.ensures.under c.of_none.result c.of_none.ensures.still
-    c.of_none.ensures.value c.in_ok-tell.ensures.told c.in_ok-tell.ensures.ends in
+    c.of_none.ensures.value (c.in_ok-tell_first.ensures.told c.of_none.result
+    (none_last g.P.Shape (assumption g.met.P.Shape) c.args.way.now.side c.of_none.result c.of_none.ensures.value)) c.in_ok-tell_first.ensures.ends in
     on_ok_weaker c.hold.result (λ stands. falls_off g.P.Shape laws chain way known.met.can.rising last last last c.hold.new.window stands
-    (λ t a u. entered_under g.P.Shape laws chain way from c.args.piece.now c.args.window.now c.tell.new.self
+    (λ t a u. entered_under g.P.Shape laws chain way from c.args.piece.now c.args.window.now c.tell_first.new.self
     known c.requires.trend (place c.in-Some.next) c.in-Some.ensures.reached c.in-Some.ensures.under c.of_none.result c.of_none.ensures.still
-    c.of_none.ensures.value c.in_ok-tell.ensures.told c.in_ok-tell.ensures.ends t (subst (λ o. After (stop o) t) c.hold.ensures.out a) u))
+    c.of_none.ensures.value (c.in_ok-tell_first.ensures.told c.of_none.result
+    (none_last g.P.Shape (assumption g.met.P.Shape) c.args.way.now.side c.of_none.result c.of_none.ensures.value)) c.in_ok-tell_first.ensures.ends t (subst (λ o. After (stop o) t) c.hold.ensures.out a) u))
     (c.hold.ensures.stands chain from held)
 
 pub returns-clause-from : goal.returns-clause-from
 returns-clause-from g c = on_ok_weaker c.hold.result
-    (λ still. ap (λ o. o.from) c.hold.ensures.out ∙ c.in_ok-tell.ensures.told.begins) c.hold.ensures.still
+    (λ still. ap (λ o. o.from) c.hold.ensures.out ∙ (c.in_ok-tell_first.ensures.told c.of_none.result
+    (none_last g.P.Shape (assumption g.met.P.Shape) c.args.way.now.side c.of_none.result c.of_none.ensures.value)).begins) c.hold.ensures.still
 
 pub returns-clause-wide : goal.returns-clause-wide
 returns-clause-wide g c chain known =
@@ -126,18 +119,11 @@ returns-clause-wide g c chain known =
     let last = end c.args.piece.now in
     on_err_weaker c.hold.result (λ some. IfSome_then c.hold.new.fault some (held_below g.P.Shape chain way last.at (stop chain).at
     (stop_below g.P.Shape chain way last known.ahead)))
-    (c.hold.ensures.wide chain from (holds_under g.P.Shape (assumption g.met.P.Shape) chain way from c.args.piece.now c.args.window.now c.tell.new.self
+    (c.hold.ensures.wide chain from (holds_under g.P.Shape (assumption g.met.P.Shape) chain way from c.args.piece.now c.args.window.now c.tell_first.new.self
     known c.requires.trend (place c.in-Some.next) c.in-Some.ensures.reached c.in-Some.ensures.under c.of_none.result c.of_none.ensures.still
-    c.of_none.ensures.value c.in_ok-tell.ensures.told c.in_ok-tell.ensures.ends))
+    c.of_none.ensures.value (c.in_ok-tell_first.ensures.told c.of_none.result
+    (none_last g.P.Shape (assumption g.met.P.Shape) c.args.way.now.side c.of_none.result c.of_none.ensures.value)) c.in_ok-tell_first.ensures.ends))
 
-pub returns-in_err-tell-clause-wide : goal.returns-in_err-tell-clause-wide
-returns-in_err-tell-clause-wide g c chain known =
-    let way = c.args.way.now in
-    let next = place c.in-Some.next in
-    let last = end c.args.piece.now in
-    let out = stop c.args.window.now.out in
-    let below = stop_below g.P.Shape chain way last known.ahead in
-    on_err_anyway c.from_residual-in_err-tell.result (IfSome_then c.tell.new.fault c.in_err-tell.ensures.wide (told_cause_none g.P.Shape chain way.over (place way.to)
-    (assumption g.met.P.Shape) way.side
-    c.of_none.result next (stop chain).at c.args.window.now c.of_none.ensures.value known.met.plays (le_of_at_most chain.from out known.met.stands.on)
-    (reach_below g.P.Shape chain way last next c.in-Some.ensures.reached (stop chain).at below) below.0))
+pub returns-in_err-tell_first-clause-wide : goal.returns-in_err-tell_first-clause-wide
+returns-in_err-tell_first-clause-wide g c chain known = on_err_anyway c.from_residual-in_err-tell_first.result
+    (none_refused c.args.fault.now (IsCauseBelow g.P.Shape chain c.args.way.now.over (stop chain).at) c.requires.none)

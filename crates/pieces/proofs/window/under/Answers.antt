@@ -1,7 +1,7 @@
 use Rattle.std.proofs.Common.{rules, arith, ◌≡◌, ◌<◌, ℕ, List, [], ◌∷◌, drop, length, sym, ap, subst}
 use Rattle.std.specs.Prelude.{slice_index_or}
 use Rattle.std.specs.VecDeque.{deque_len}
-use Rattle.rational.specs.Places.{AtMost}
+use Rattle.rational.specs.Places.{Before}
 use Rattle.frac128.specs.Cuts.{place}
 use Rattle.pieces.proofs.Holding.{piece_first, piece_last}
 use Rattle.pieces.proofs.Lagging.{first_apart}
@@ -41,8 +41,8 @@ pub covers-requires-clause-within : goal.covers-requires-clause-within
 covers-requires-clause-within g c = c.in-Some-reached.ensures.some.within
 
 pub returns-then-covers-clause-on : goal.returns-then-covers-clause-on
-returns-then-covers-clause-on g c most = subst (λ s. AtMost s (place c.in-Some-reached.next)) c.until.ensures.value
-    (c.in-Some-reached.ensures.on (subst (λ s. AtMost s (place c.args.way.now.to)) (sym c.until.ensures.value) most))
+returns-then-covers-clause-on g c =
+    subst (λ s. Before s (place c.in-Some-reached.next)) c.until-at.ensures.value (c.precedes.ensures.0 c.if-not-precedes.false)
 
 pub returns-then-covers-clause-under : goal.returns-then-covers-clause-under
 returns-then-covers-clause-under g c =
