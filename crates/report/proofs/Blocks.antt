@@ -1,5 +1,5 @@
 -- Objects of one list of JSON that are printed together.
-use Rattle.std.proofs.Common.{◌≡◌, ℕ, zero, suc, length-set, ◌+◌, ◌-◌, ◌<◌, ◌≤◌, Bool, true, false, ◌||◌, List, [], ◌∷◌, ◌++◌, length, get_or, take, drop, set}
+use Rattle.std.proofs.Common.{◌≡◌, ℕ, zero, suc, length-set, ◌+◌, ◌-◌, ◌<◌, ◌≤◌, true, false, ◌||◌, List, [], ◌∷◌, ◌++◌, length, get_or, take, drop, set}
 use Rattle.std.proofs.Common.{append-nil, append_assoc, refl, sym, ap, ◌∙◌, subst, codes, arith, length-append, length-drop}
 use Rattle.std.proofs.lemmas.List.{get_or_at, set_at, take_at, drop_at, take-append-drop, length-take-le, take_more_set, take-set}
 use Rattle.serde_json.specs.Data.{array}

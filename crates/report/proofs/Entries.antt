@@ -1,7 +1,7 @@
 -- The entries of verdicts that describe a signal: there is a text for them, and it grows list by list.
-use Rattle.std.proofs.Common.{◌≡◌, ℕ, ◌*ℤ◌, ◌*◌, ◌^◌, ◌<◌, Bool, true, false, List, [], ◌∷◌, ◌++◌}
+use Rattle.std.proofs.Common.{◌≡◌, ℕ, Bool, true, false, List, [], ◌∷◌, ◌++◌}
 use Rattle.std.proofs.Common.{append-nil, append_assoc, refl, sym, ap, ◌∙◌, subst}
-use Rattle.rational.specs.Time.{◌≈◌, closed}
+use Rattle.rational.specs.Time.{closed}
 use Rattle.frac128.specs.Value.{value}
 use Rattle.value_laws.specs.Members.{ShapeOf}
 use Rattle.stl_syntax.specs.Texts.{IsVerdictLine, AreVerdictLines}

@@ -1,5 +1,6 @@
 -- Objects that take one text after another.
-use Rattle.std.proofs.Common.{◌≡◌, ℕ, ◌<◌, zero, suc, ◌+◌, length, string_cmp, arith, Bool, List, [], ◌∷◌, Option, Some, None, option_map, String, Global, Ordering, Less, Equal, Greater, string_bytes, nat_cmp, is_eq, cond, refl, sym, ap, ◌∙◌, codes}
+use Rattle.std.proofs.Common.{◌≡◌, ℕ, ◌<◌, zero, suc, ◌+◌, length, string_cmp, arith, Bool, List, [], ◌∷◌, Option, Some, None}
+use Rattle.std.proofs.Common.{option_map, String, Global, Ordering, Less, Equal, Greater, string_bytes, nat_cmp, is_eq, cond, refl, sym, ap, ◌∙◌, codes}
 use Rattle.std.proofs.lemmas.Option.{same_Some}
 use Rattle.std.specs.Cmp.Lexicographic.{slice_cmp}
 use Rattle.std.specs.Map.{lookup, set_value, keys_of, values_of}
@@ -12,7 +13,7 @@ use Rattle.serde_json.specs.View.{view, members_view}
 use Rattle.serde_json.specs.declared.value.Value.{Value}
 use Rattle.serde_json.proofs.OnLiterals.{serde_json_on_literals}
 use Rattle.serde_json.proofs.Views.{view-lookup, members_view-insert_entry}
-use Rattle.report.specs.Forms.{replaced, with_member, knot_object, piece_object, verdict_object, EndAt}
+use Rattle.report.specs.Forms.{replaced, with_member, knot_object, piece_object, verdict_object, BeginAt, EndAt, IsFirst, IsLast}
 
 abbrev pub Entry : Type 0
 Entry = String Global × Value
@@ -108,6 +109,28 @@ pub verdict_with_truth : (o : List ℕ) (b h : Bool) → put (codes "value") (bo
 unfolding serde_json_on_literals
 verdict_with_truth o b h = refl
 
+-- ---- with what the objects begin and end
+
+pub knot_at_first : (a m : List ℕ) → IsFirst (codes "at") (knot_object a m)
+unfolding serde_json_on_literals
+knot_at_first a m = (_, refl, (a, (refl, refl), λ e. refl))
+
+pub knot_margin_last : (a m : List ℕ) → IsLast (codes "margin") (knot_object a m)
+unfolding serde_json_on_literals
+knot_margin_last a m = (_, refl, (m, (refl, refl), λ e. refl))
+
+pub piece_from_first : (f o t : List ℕ) → IsFirst (codes "from") (piece_object f o t)
+unfolding serde_json_on_literals
+piece_from_first f o t = (_, refl, (f, (refl, refl), λ e. refl))
+
+pub piece_to_last : (f o t : List ℕ) → IsLast (codes "to") (piece_object f o t)
+unfolding serde_json_on_literals
+piece_to_last f o t = (_, refl, (t, (refl, refl), λ e. refl))
+
+pub verdict_on_first : (o : List ℕ) (b : Bool) → IsFirst (codes "on") (verdict_object o b)
+unfolding serde_json_on_literals
+verdict_on_first o b = (_, refl, (o, (refl, refl), λ e. refl))
+
 -- ---- an object that takes a text is one of its kind
 
 module _ (d e : Data) where
@@ -130,6 +153,18 @@ module _ (d e : Data) where
   verdict_on o w b is h = h ∙ ap (with_member (codes "on") (string w)) is ∙ verdict_with_on o w b
 
 -- ---- what stands at the end of a map
+
+-- the first key and the first value of a map are what its members begin with
+pub begins_with : (k : List ℕ) (e : Data) (es : List Entry) → BeginAt k e (members_view es)
+    → (key : String Global) → slice_get (keys_of es) 0 ≡ Some key → (v : Value) → slice_get (values_of es) 0 ≡ Some v
+    → (string_bytes key ≡ k) × (view v ≡ e)
+begins_with k e [] h key is v at = absurd h
+begins_with k e (x ∷ es) (l, f) key is v at = (ap string_bytes (sym (same_Some _ _ is)) ∙ l, ap view (sym (same_Some _ _ at)) ∙ f)
+
+-- a map whose members begin with something is not empty
+pub begins_some : (k : List ℕ) (e : Data) (es : List Entry) → BeginAt k e (members_view es) → 0 < length es
+begins_some k e [] h = absurd h
+begins_some k e (x ∷ es) h = omega arith
 
 -- the last key and the last value of a map are what its members end with
 pub ends_with : (k : List ℕ) (e : Data) (es : List Entry) (n : ℕ) → n + 1 ≡ length es → EndAt k e (members_view es)

@@ -2,7 +2,7 @@
 use Rattle.std.specs.Prelude.{◌≡◌, ℕ, List, Bool, codes, Some}
 use Rattle.std.specs.Ordering.{nat_cmp, match_ordering}
 use Rattle.std.specs.Cmp.Lexicographic.{slice_cmp}
-use Rattle.serde_json.specs.Data.{Data, null, boolean, number, string, array, object, Members, no_members, member}
+use Rattle.serde_json.specs.Data.{Data, null, boolean, number, string, array, object, Members, no_members, member, put}
 use Rattle.serde_json.specs.Find.{get_member, get}
 
 -- the members, with d in the place of what is at k
@@ -35,11 +35,36 @@ Sets P k old new = (s : List ℕ) × P s × (new ≡ with_member k (string s) ol
 abbrev pub SetsSome : List ℕ → Data → Data → Type 0
 SetsSome k old new = (s : List ℕ) × (new ≡ with_member k (string s) old)
 
+-- the members begin with e at k
+abbrev pub BeginAt : List ℕ → Data → Members → Type 0
+BeginAt k e no_members = ⊥
+BeginAt k e (member l f ms) = (l ≡ k) × (f ≡ e)
+
 -- the members end with e at k
 abbrev pub EndAt : List ℕ → Data → Members → Type 0
 EndAt k e no_members = ⊥
 EndAt k e (member l f no_members) = (l ≡ k) × (f ≡ e)
 EndAt k e (member l f (member m g ms)) = EndAt k e (member m g ms)
+
+-- what is put at k takes the place of what is there
+abbrev pub TakesPlace : List ℕ → Members → Type 0
+TakesPlace k ms = (e : Data) → put k e ms ≡ replaced k e ms
+
+-- the members begin with a text at k
+abbrev pub BeginsAt : List ℕ → Members → Type 0
+BeginsAt k ms = (s : List ℕ) × BeginAt k (string s) ms × TakesPlace k ms
+
+-- the members end with a text at k
+abbrev pub EndsAt : List ℕ → Members → Type 0
+EndsAt k ms = (s : List ℕ) × EndAt k (string s) ms × TakesPlace k ms
+
+-- the object begins with a text at k
+abbrev pub IsFirst : List ℕ → Data → Type 0
+IsFirst k d = (ms : Members) × (d ≡ object ms) × BeginsAt k ms
+
+-- the object ends with a text at k
+abbrev pub IsLast : List ℕ → Data → Type 0
+IsLast k d = (ms : Members) × (d ≡ object ms) × EndsAt k ms
 
 -- the object of a knot
 abbrev pub knot_object : List ℕ → List ℕ → Data

@@ -18,7 +18,6 @@ use Rattle.report.specs.Json.{IsReportData}
 use Rattle.report.specs.Table.{IsTableText}
 use Rattle.stl_syntax.specs.declared.items.Verdict.{Verdict}
 use Rattle.stl_syntax.specs.declared.items.Item.{Item}
-use Rattle.stl_syntax.specs.declared.node.Node.{Node}
 use Rattle.stl_syntax.specs.declared.node.Node.TheVariants.{Atom as Leaf}
 use Rattle.stl_syntax.specs.declared.atom.Atom.{Atom}
 

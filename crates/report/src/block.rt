@@ -1,5 +1,5 @@
-//! Objects of one list of JSON that are printed by one call, as an array whose brackets are then left out: each call of `serde_json` makes a
-//! list of bytes, and one for each object would take a third of what printing it takes.
+//! Objects of one list of JSON that are printed by one call, as an array of which a bracket is then left out, and the other becomes a comma: each
+//! call of `serde_json` makes a list of bytes, and one for each object would take a third of what printing it takes.
 ghost use Rattle.std.specs.Prelude.{◌≡◌, ◌<◌, ◌++◌, Vec, false, length, IfOk, OnOk, OnErr};
 ghost use Rattle.std.specs.declared.alloc.Global.{Global};
 ghost use Rattle.serde_json.specs.Data.{array};

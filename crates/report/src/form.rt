@@ -8,7 +8,8 @@ ghost use Rattle.serde_json.specs.Data.{string, boolean, put};
 ghost use Rattle.serde_json.specs.Find.{as_bool, as_str};
 ghost use Rattle.serde_json.specs.View.{view, members_view};
 ghost use Rattle.stl_syntax.specs.Texts.{IsNumberText, IsValueText};
-ghost use Rattle.report.specs.Forms.{replaced, with_member, HasText, HasTextAt, Sets, SetsSome, EndAt, IsVerdictForm, verdict_object};
+ghost use Rattle.report.specs.Forms.{replaced, with_member, verdict_object, HasText, HasTextAt, IsVerdictForm, Sets, SetsSome};
+ghost use Rattle.report.specs.Forms.{EndAt, BeginsAt, EndsAt, IsFirst, IsLast};
 
 use answer_lines::{TimeText, ValueText};
 use frac128::{Frac, Memory};
@@ -68,7 +69,7 @@ fn put_truth(slot: &mut Value, holds: bool)
 }
 
 /// Puts a truth in the place of the one with which the members end.
-fn set_last(members: &mut Map<String, Value>, holds: bool)
+fn set_last_truth(members: &mut Map<String, Value>, holds: bool)
     requires { (k : List ℕ) × (b : Bool) × EndAt k (boolean b) (members_view members.old.entries) }
     ensures { (k : List ℕ) (b : Bool) → EndAt k (boolean b) (members_view members.old.entries)
         → members_view members.new.entries ≡ put k (boolean holds) (members_view members.old.entries) }
@@ -85,7 +86,7 @@ pub(crate) fn set_truth(verdict: &mut Value, holds: bool)
     ensures { (on : List ℕ) (b : Bool) → view verdict.old ≡ verdict_object on b → view verdict.new ≡ verdict_object on holds }
 {
     match verdict.as_object_mut() {
-        Some(members) => set_last(members, holds),
+        Some(members) => set_last_truth(members, holds),
         None => unreachable!(),
     }
 }
@@ -103,7 +104,64 @@ pub(crate) fn set_text(object: &mut Value, key: &str, content: &[u8]) -> Result<
     }
 }
 
-/// Puts a time in the place of the text at the key, in units. What `room` has does not matter: it lends its bytes, here and below.
+/// Puts a text in the place of the one with which the members begin, which is at the key.
+fn set_first_member(
+    members: &mut Map<String, Value>,
+    key: &str,
+    content: &str,
+) -> Result<(), Memory>
+    requires { BeginsAt key.now (members_view members.old.entries) }
+    ensures ok { OnOk result (members_view members.new.entries ≡ replaced key.now (string content.now) (members_view members.old.entries)) }
+    ensures form { (s : List ℕ) × (members_view members.new.entries ≡ replaced key.now (string s) (members_view members.old.entries)) }
+{
+    match members.first_entry() {
+        Some(entry) => put_text(entry.into_mut(), content),
+        None => unreachable!(),
+    }
+}
+
+/// Puts a text in the place of the one with which the object begins, which it has at the key. It costs less than `set_text`, since no key is looked up.
+pub(crate) fn set_first(object: &mut Value, key: &str, content: &[u8]) -> Result<(), Memory>
+    requires form { HasText key.now (view object.old) }
+    requires place { IsFirst key.now (view object.old) }
+    ensures ok { OnOk result (view object.new ≡ with_member key.now (string content.now) (view object.old)) }
+    ensures form { SetsSome key.now (view object.old) (view object.new) }
+{
+    let content = text_of(content)?;
+    match object.as_object_mut() {
+        Some(members) => set_first_member(members, key, content),
+        None => unreachable!(),
+    }
+}
+
+/// Puts a text in the place of the one with which the members end, which is at the key.
+fn set_last_member(members: &mut Map<String, Value>, key: &str, content: &str) -> Result<(), Memory>
+    requires { EndsAt key.now (members_view members.old.entries) }
+    ensures ok { OnOk result (members_view members.new.entries ≡ replaced key.now (string content.now) (members_view members.old.entries)) }
+    ensures form { (s : List ℕ) × (members_view members.new.entries ≡ replaced key.now (string s) (members_view members.old.entries)) }
+{
+    match members.last_entry() {
+        Some(entry) => put_text(entry.into_mut(), content),
+        None => unreachable!(),
+    }
+}
+
+/// Puts a text in the place of the one with which the object ends, which it has at the key. It costs less than `set_text`, since no key is looked up.
+pub(crate) fn set_last(object: &mut Value, key: &str, content: &[u8]) -> Result<(), Memory>
+    requires form { HasText key.now (view object.old) }
+    requires place { IsLast key.now (view object.old) }
+    ensures ok { OnOk result (view object.new ≡ with_member key.now (string content.now) (view object.old)) }
+    ensures form { SetsSome key.now (view object.old) (view object.new) }
+{
+    let content = text_of(content)?;
+    match object.as_object_mut() {
+        Some(members) => set_last_member(members, key, content),
+        None => unreachable!(),
+    }
+}
+
+/// Puts a time in the place of the text with which the object begins, at the key, in units. What `room` has does not matter: it lends its bytes, here
+/// and below.
 pub(crate) fn set_time(
     object: &mut Value,
     key: &str,
@@ -114,15 +172,16 @@ pub(crate) fn set_time(
 ) -> Result<(), Memory>
     requires digits { digits ≤ 6 }
     requires form { HasText key.now (view object.old) }
+    requires place { IsFirst key.now (view object.old) }
     ensures ok { OnOk result (Sets (IsNumberText digits (value t.now)) key.now (view object.old) (view object.new)) }
     ensures form { SetsSome key.now (view object.old) (view object.new) }
 {
     let end = last.put(room, 0, t, digits);
-    set_text(object, key, &room[..end])
+    set_first(object, key, &room[..end])
 }
 
-/// Puts the value of a margin at a time in the place of the text at the key, in units.
-pub(crate) fn set_value(
+/// Puts the value of a margin at a time in the place of the text with which the object begins, at the key, in units.
+pub(crate) fn set_first_value(
     object: &mut Value,
     key: &str,
     room: &mut [u8; SPAN_ROOM],
@@ -134,9 +193,31 @@ pub(crate) fn set_value(
     requires digits { digits ≤ 6 }
     requires time { IsWithin (2 ^ 34) (value at.now) }
     requires form { HasText key.now (view object.old) }
+    requires place { IsFirst key.now (view object.old) }
     ensures ok { OnOk result (Sets (IsValueText digits (value_at (margin_function m.now) (value at.now))) key.now (view object.old) (view object.new)) }
     ensures form { SetsSome key.now (view object.old) (view object.new) }
 {
     let end = last.put(room, 0, m, at, digits);
-    set_text(object, key, &room[..end])
+    set_first(object, key, &room[..end])
+}
+
+/// Puts the value of a margin at a time in the place of the text with which the object ends, at the key, in units.
+pub(crate) fn set_last_value(
+    object: &mut Value,
+    key: &str,
+    room: &mut [u8; SPAN_ROOM],
+    last: &mut ValueText,
+    m: &Margin,
+    at: &Frac,
+    digits: u8,
+) -> Result<(), Memory>
+    requires digits { digits ≤ 6 }
+    requires time { IsWithin (2 ^ 34) (value at.now) }
+    requires form { HasText key.now (view object.old) }
+    requires place { IsLast key.now (view object.old) }
+    ensures ok { OnOk result (Sets (IsValueText digits (value_at (margin_function m.now) (value at.now))) key.now (view object.old) (view object.new)) }
+    ensures form { SetsSome key.now (view object.old) (view object.new) }
+{
+    let end = last.put(room, 0, m, at, digits);
+    set_last(object, key, &room[..end])
 }

@@ -15,7 +15,7 @@ ghost use Rattle.answer_lines.specs.Steps.{step};
 
 use crate::block::{MOST, put_after_commas};
 use crate::entry::put_data;
-use crate::form::{SPAN_ROOM, set_text, set_time, set_value};
+use crate::form::{SPAN_ROOM, set_first_value, set_last_value, set_text, set_time};
 use answer_lines::{KnotTexts, TimeText, add_byte};
 use frac128::{Frac, Memory};
 use pl_signal::Knot;
@@ -63,7 +63,7 @@ fn fill_knot(
     ensures form { IsKnotForm (view knot.new) }
 {
     set_time(knot, "at", room, &mut last.time, &k.time, scale.time)?;
-    set_value(
+    set_last_value(
         knot,
         "margin",
         room,
@@ -92,7 +92,7 @@ fn fill_piece(
     ensures form { IsPieceForm (view piece.new) }
 {
     let digits = scale.value;
-    set_value(
+    set_first_value(
         piece,
         "from",
         room,
@@ -102,7 +102,7 @@ fn fill_piece(
         digits,
     )?;
     set_gap(piece, room, &mut last.time, &k.time, &n.time, scale.time)?;
-    set_value(
+    set_last_value(
         piece,
         "to",
         room,

@@ -5,12 +5,12 @@ ghost use Rattle.serde_json.specs.declared.value.Value.{Value};
 ghost use Rattle.stl_syntax.specs.Texts.{IsSpanText};
 ghost use Rattle.answer_lines.specs.Appended.{Grew};
 ghost use Rattle.report.specs.Blocks.{before_commas, AreVerdictForms};
-ghost use Rattle.report.specs.Forms.{verdict_object, HasText, IsVerdictForm, Sets, SetsSome};
+ghost use Rattle.report.specs.Forms.{verdict_object, HasText, IsFirst, IsVerdictForm, Sets, SetsSome};
 ghost use Rattle.report.specs.JsonTexts.{IsVerdictData};
 ghost use Rattle.report.specs.VerdictForms.{IsEntry};
 
 use crate::block::{MOST, put_before_commas, put_closed};
-use crate::form::{SPAN_ROOM, set_text, set_truth};
+use crate::form::{SPAN_ROOM, set_first, set_truth};
 use answer_lines::{TimeText, add_byte, bracket};
 use frac128::{Memory, Span};
 use serde_json::{Value, json};
@@ -35,6 +35,7 @@ fn set_span(
 ) -> Result<(), Memory>
     requires digits { scale.time ≤ 6 }
     requires form { HasText (codes "on") (view verdict.old) }
+    requires place { IsFirst (codes "on") (view verdict.old) }
     ensures ok { OnOk result (Sets (IsSpanText scale on.now) (codes "on") (view verdict.old) (view verdict.new)) }
     ensures form { SetsSome (codes "on") (view verdict.old) (view verdict.new) }
 {
@@ -44,7 +45,7 @@ fn set_span(
     let to = add_byte(room, comma, b',');
     let close = last.put_new(room, to, &on.to, digits);
     let end = add_byte(room, close, closing(on.to_in));
-    set_text(verdict, "on", &room[..end])
+    set_first(verdict, "on", &room[..end])
 }
 
 /// Has the object be that of a verdict.

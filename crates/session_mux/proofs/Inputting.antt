@@ -21,7 +21,7 @@ use Rattle.session_mux.specs.Inputs.{InputFault, fault_line, FaultOfInput, sound
 use Rattle.session_mux.specs.Taking.{ended_line, IsSized, ArePassed, none, blank, old_tag, new_tag}
 use Rattle.session_mux.specs.Taking.{HasLines, IsTaking, fault_in, IsInputStop, IsLineStop, IsPartStop}
 use Rattle.session_mux.specs.Taking.{HasAll, IsHanded, IsRefusedBy, IsNotHanded, IsUnsizedBy, IsUnsized}
-use Rattle.session_mux.specs.declared.stop.LineFault.{LineFault}
+use Rattle.session_mux.specs.declared.stop.FaultAt.{FaultAt}
 use Rattle.session_mux.specs.declared.stop.LineKind.{LineKind}
 use Rattle.session_mux.specs.declared.stop.LineKind.TheVariants as kind
 use Rattle.session_mux.specs.declared.stop.InputStop.{InputStop}
@@ -69,7 +69,7 @@ fault_there {front = front} more all ended k l e fault =
 
 -- so of a stored one
 pub stored_there : {f : Formula} {mux : Muxed} {front : List Line} {text : List ℕ} (more : List Line) (all : List ℕ) (ended : Bool)
-    (k : HasLines f mux front text) (x : LineFault) → x.line ≡ 1 + length front → lines ended all ≡ front ++ more
+    (k : HasLines f mux front text) (x : FaultAt) → x.line ≡ 1 + length front → lines ended all ≡ front ++ more
     → FaultOfInput (1 + length front) k.after more (fault_in (1 + length front) x.kind) → IsInputStop f all ended text (Faulty x)
 stored_there {f} {text = text} more all ended k x at e fault =
     subst (λ m. FaultOfInput 1 [] (lines ended all) (fault_in m x.kind) × OwesLines f all ended text) (sym at)

@@ -8,7 +8,7 @@ use Rattle.session_mux.specs.Sessions.{Tagged, IsTagged, AreTagged, AreAnswers}
 use Rattle.session_mux.specs.Knowing.{tags_of}
 use Rattle.session_mux.specs.Muxes.{Muxed, Past, StandsFor, StandsForAll, HasTaken}
 use Rattle.session_mux.specs.Inputs.{InputFault, too_many_lines, too_long, bad_tag, too_many_sessions, FaultOfInput, OwesLines}
-use Rattle.session_mux.specs.declared.stop.LineFault.{LineFault}
+use Rattle.session_mux.specs.declared.stop.FaultAt.{FaultAt}
 use Rattle.session_mux.specs.declared.stop.LineKind.{LineKind}
 use Rattle.session_mux.specs.declared.stop.LineKind.TheVariants as kind
 use Rattle.session_mux.specs.declared.stop.InputStop.{InputStop}
@@ -75,7 +75,7 @@ fault_in n kind.BadTag = bad_tag n
 fault_in n kind.TooManySessions = too_many_sessions n
 
 -- the fault that is stored
-abbrev pub fault_of : LineFault → InputFault
+abbrev pub fault_of : FaultAt → InputFault
 fault_of x = fault_in x.line x.kind
 
 -- why no more was taken of these bytes, of which this text was made

@@ -14,7 +14,7 @@ ghost use Rattle.session_mux.specs.Taking.{IsLineStop, IsPartStop, HasAll, IsHan
 use crate::fault::MuxFault;
 use crate::mux::Mux;
 use crate::run::{content_of, front_tag, gather};
-use crate::stop::{InputStop, LineFault, LineKind};
+use crate::stop::{FaultAt, InputStop, LineKind};
 use frac128::Memory;
 use memchr::memchr;
 use std::alloc::Global;
@@ -49,7 +49,7 @@ pub struct Input {
 fn refused(line: u64, kind: LineKind) -> InputStop
     ensures { result ≡ InputStop.Fault (record { line = line; kind = kind }) }
 {
-    InputStop::Fault(LineFault { line, kind })
+    InputStop::Fault(FaultAt { line, kind })
 }
 
 /// Refuses a line that is one too many, or too long.

@@ -19,4 +19,4 @@ pub use fault::MuxFault;
 pub use input::Input;
 pub use line::input_fault_line;
 pub use mux::Mux;
-pub use stop::{InputStop, LineFault, LineKind};
+pub use stop::{FaultAt, InputStop, LineKind};

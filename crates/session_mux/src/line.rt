@@ -4,11 +4,11 @@ ghost use Rattle.answer_lines.specs.Lines.{line_text};
 ghost use Rattle.session_mux.specs.Inputs.{input_fault_text};
 ghost use Rattle.session_mux.specs.Taking.{fault_of};
 
-use crate::stop::{LineFault, LineKind};
+use crate::stop::{FaultAt, LineKind};
 use answer_lines::Line;
 
 /// The line of the first fault of an input of several sessions.
-pub fn input_fault_line(fault: LineFault) -> Line<'static>
+pub fn input_fault_line(fault: FaultAt) -> Line<'static>
     ensures { line_text result ≡ input_fault_text (fault_of fault) }
 {
     let n = fault.line;

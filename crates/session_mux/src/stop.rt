@@ -13,9 +13,9 @@ pub enum LineKind {
     TooManySessions,
 }
 
-/// The first fault of an input's lines, with its line.
+/// The first fault of an input of several sessions, and the line that has it.
 #[derive(Clone, Copy)]
-pub struct LineFault {
+pub struct FaultAt {
     pub line: u64,
     pub kind: LineKind,
 }
@@ -24,7 +24,7 @@ pub struct LineFault {
 #[derive(Clone, Copy)]
 pub enum InputStop {
     /// The bytes that were handed over have this fault.
-    Fault(LineFault),
+    Fault(FaultAt),
     /// There was too little memory.
     NoMemory,
 }

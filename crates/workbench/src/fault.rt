@@ -2,7 +2,7 @@
 ghost use Rattle.std.specs.Prelude.{◌≡◌};
 ghost use Rattle.workbench.specs.Stopping.{stop_of, stop_for as stop_of_answer, outcome_of};
 
-use session_mux::LineFault;
+use session_mux::FaultAt;
 use trace_stream::{StreamStop, TraceFault};
 use whole_answers::NoAnswer;
 use written_streams::Halt;
@@ -13,7 +13,7 @@ pub(crate) enum Stop {
     /// The bytes that were read have this fault.
     Fault(TraceFault),
     /// A line of several sessions' input has this fault.
-    Input(LineFault),
+    Input(FaultAt),
     /// The source failed.
     Unread,
     /// The sink failed.

@@ -1,31 +1,47 @@
-use Rattle.std.proofs.Common.{◌≡◌, ◌+◌, ◌-◌, ◌<◌, Some, length, refl, sym, subst, ap, ◌∙◌, true≢false, arith}
-use Rattle.std.specs.Prelude.{IsSome}
-use Rattle.serde_json.specs.Data.{boolean, put}
-use Rattle.serde_json.specs.Find.{as_bool}
+use Rattle.std.proofs.Common.{◌∙◌, ap, subst}
+use Rattle.std.specs.Prelude.{◌≡◌}
+use Rattle.std.proofs.lemmas.Result.{on_ok_weaker}
+use Rattle.serde_json.specs.Data.{object, string}
 use Rattle.serde_json.specs.View.{view, members_view}
-use Rattle.report.proofs.Forms.{ends_with, ends_some, written_at}
+use Rattle.serde_json.proofs.Views.{view-Object}
+use Rattle.report.specs.Forms.{replaced, EndsAt}
+use Rattle.report.proofs.Forms.{with_same, same_members, object_of, has_members, object_with}
 use Rattle.report.proofs.form.set_last.Goals as goal
+use Rattle.report.proofs.form.set_last.Goals.{In-Some}
+
+-- it is an object
+is_object : (c : In-Some) → view c.args.object.now ≡ object (members_view c.in-Some.members.now.entries)
+is_object c = object_of (view c.args.object.now) (members_view c.in-Some.members.now.entries) c.in-Some.ensures.value
+
+pub returns-in_err-content-clause-form : goal.returns-in_err-content-clause-form
+returns-in_err-content-clause-form c =
+    (c.requires.form.0, with_same c.args.key.now (string c.requires.form.0) (view c.args.object.now) c.requires.form.1)
+
+pub set_last_member-requires : goal.set_last_member-requires
+set_last_member-requires c =
+    let (ms, e, place) = c.requires.place in
+    let is = is_object (goal.at.set_last_member-requires c).In-Some in
+    subst (EndsAt c.args.key.now) (same_members (view c.args.object.now) ms (members_view c.in-Some.members.now.entries) e is) place
 
 pub unreachable-requires : goal.unreachable-requires
-unreachable-requires c =
-    let (k, b, h) = c.requires in
-    true≢false (sym (c.in-None.ensures.variant.1 (ends_some k (boolean b) c.args.members.now.entries h)))
+unreachable-requires c = has_members c.args.key.now (view c.args.object.now) (string c.requires.form.0) c.requires.form.1 c.in-None.ensures.value
 
-pub put_truth-requires : goal.put_truth-requires
-put_truth-requires c =
-    let (k, b, h) = c.requires in
-    let es = c.args.members.now.entries in
-    let some = ends_some k (boolean b) es h in
-    let (_, told) = ends_with k (boolean b) es (length es - 1) (omega (arith, some)) h _ c.in-Some.ensures.key _
-    (sym c.in-Some.ensures.value.0 ∙ c.into_mut.ensures.value) in
-    subst (λ d. IsSome (as_bool d)) (sym told) refl
+pub returns-clause-ok : goal.returns-clause-ok
+returns-clause-ok c =
+    let is = is_object (goal.at.returns-clause-ok c).In-Some in
+    let k = c.args.key.now in
+    let ms = members_view c.in-Some.members.now.entries in
+    on_ok_weaker c.set_last_member.result
+    (λ e. view-Object c.set_last_member.new.members
+    ∙ object_with (view c.args.object.now) ms (members_view c.set_last_member.new.members.entries) k (string c.args.content.now) is
+    (e ∙ ap (λ w. replaced k (string w) ms) c.in_ok-content.ensures)) c.set_last_member.ensures.ok
 
-pub returns : goal.returns
-returns c = λ k b h.
-    let es = c.args.members.now.entries in
-    let some = ends_some k (boolean b) es h in
-    let (name, _) = ends_with k (boolean b) es (length es - 1) (omega (arith, some)) h _ c.in-Some.ensures.key _
-    (sym c.in-Some.ensures.value.0 ∙ c.into_mut.ensures.value) in
-    let new = c.members-in-Some-1.given.1 (sym c.in-Some.ensures.same_map) in
-    written_at k es _ _ c.put_truth.new.slot (boolean c.args.holds) name
-    (ap (λ m. m.entries) new ∙ c.in-Some.ensures.update.1 c.put_truth.new.slot) c.put_truth.ensures
+pub returns-clause-form : goal.returns-clause-form
+returns-clause-form c =
+    let is = is_object (goal.at.returns-clause-form c).In-Some in
+    let (s, e) = c.set_last_member.ensures.form in (
+      s,
+      view-Object c.set_last_member.new.members
+          ∙ object_with (view c.args.object.now) (members_view c.in-Some.members.now.entries) (members_view c.set_last_member.new.members.entries)
+          c.args.key.now (string s) is e,
+    )

@@ -15,10 +15,10 @@ members c on b e =
     same_members (view c.args.verdict.now) (members_view c.in-Some.members.now.entries) (verdict_members on b)
     (object_of (view c.args.verdict.now) (members_view c.in-Some.members.now.entries) c.in-Some.ensures.value) e
 
-pub set_last-requires : goal.set_last-requires
-set_last-requires c =
+pub set_last_truth-requires : goal.set_last_truth-requires
+set_last_truth-requires c =
     let (on, b, e) = c.requires in
-    (codes "value", b, subst (EndAt (codes "value") (boolean b)) (sym (members (goal.at.set_last-requires c).In-Some on b e)) (refl, refl))
+    (codes "value", b, subst (EndAt (codes "value") (boolean b)) (sym (members (goal.at.set_last_truth-requires c).In-Some on b e)) (refl, refl))
 
 pub unreachable-requires : goal.unreachable-requires
 unreachable-requires c = let (on, b, e) = c.requires in not_object (view c.args.verdict.now) (verdict_members on b) e c.in-None.ensures.value
@@ -26,6 +26,6 @@ unreachable-requires c = let (on, b, e) = c.requires in not_object (view c.args.
 pub returns : goal.returns
 returns c = λ on b e.
     let is = members (goal.at.returns c).In-Some on b e in
-    let new = c.set_last.ensures (codes "value") b (subst (EndAt (codes "value") (boolean b)) (sym is) (refl, refl)) in
-    view-Object c.set_last.new.members
+    let new = c.set_last_truth.ensures (codes "value") b (subst (EndAt (codes "value") (boolean b)) (sym is) (refl, refl)) in
+    view-Object c.set_last_truth.new.members
     ∙ ap object (new ∙ (ap (put (codes "value") (boolean c.args.holds)) is ∙ verdict_with_truth on b c.args.holds))

@@ -4,7 +4,7 @@ use Rattle.rational.proofs.Lists.{on_err_anyway}
 use Rattle.value_laws.specs.Kinds.{margin_shape}
 use Rattle.pl_signal.specs.Plain.{knots_of}
 use Rattle.answer_lines.specs.Appended.{Grew, GrewInPart, AreEach, Is}
-use Rattle.report.specs.JsonTexts.{AreMarginEntries, IsKnotEntry, IsStepEntry}
+use Rattle.report.specs.JsonTexts.{IsKnotEntry, IsStepEntry}
 use Rattle.answer_lines.specs.Steps.{steps_of}
 use Rattle.answer_lines.proofs.Growths.{grew_is, grew_then, part_none, part_then, part_first}
 use Rattle.answer_lines.proofs.MarginTexts.{knot_within}

@@ -1,8 +1,8 @@
-use Rattle.std.proofs.Common.{◌≡◌, ◌≤◌, ◌<◌, ◌++◌, ℕ, List, [], length, take, drop, append-nil, length-append, refl, sym, ap, ◌∙◌, subst, arith}
+use Rattle.std.proofs.Common.{◌≡◌, ◌≤◌, ◌<◌, ◌++◌, ℕ, List, [], length, take, drop, append-nil, length-append, sym, ap, ◌∙◌, subst, arith}
 use Rattle.std.proofs.lemmas.List.{take_all, take_at, drop_at}
 use Rattle.serde_json.specs.declared.value.Value.{Value}
-use Rattle.report.specs.Blocks.{after_commas, AreStepForms, IsStepForm}
-use Rattle.report.proofs.Blocks.{no_float, forms_of_two, long}
+use Rattle.report.specs.Blocks.{AreStepForms, IsStepForm}
+use Rattle.report.proofs.Blocks.{no_float, long}
 use Rattle.report.proofs.margin_entry.make_room.Goals as goal
 
 module _ (vs : List Value) (used : ℕ) (inside : used ≤ length vs) (all : length vs ≤ used) where

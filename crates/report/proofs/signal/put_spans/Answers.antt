@@ -10,11 +10,10 @@ use Rattle.stl_syntax.specs.declared.items.Verdict.{Verdict}
 use Rattle.report.specs.SignalVerdicts.{DescribesFunction}
 use Rattle.report.specs.Spelling.{Past, listed}
 use Rattle.report.specs.VerdictForms.{IsEntry, WrittenPast, CutPast}
-use Rattle.stl_syntax.specs.declared.scale.Scale.{Scale}
 use Rattle.report.specs.declared.spelling.OpenSpan.{OpenSpan}
 use Rattle.pl_signal.specs.declared.knot.Knot.{Knot}
 use Rattle.value_laws.specs.declared.truth.Truth.{Truth}
-use Rattle.answer_lines.specs.Appended.{Grew, GrewInPart}
+use Rattle.answer_lines.specs.Appended.{GrewInPart}
 use Rattle.report.specs.VerdictForms.{AreEntries}
 use Rattle.answer_lines.proofs.Growths.{part_none, part_shorter, front_then}
 use Rattle.report.proofs.Entries.{entries_all, entries_part, entries_part_last, entry_exists}

@@ -1,7 +1,7 @@
-use Rattle.std.proofs.Common.{◌≡◌, ◌≤◌, ◌<◌, ◌+◌, ◌++◌, ◌∷◌, ℕ, List, [], length, take, append-nil, length-append, refl, sym, ap, ◌∙◌, subst, arith}
+use Rattle.std.proofs.Common.{◌≡◌, ◌≤◌, ◌<◌, ◌++◌, ◌∷◌, ℕ, List, [], length, take, append-nil, length-append, sym, ap, ◌∙◌, subst, arith}
 use Rattle.std.proofs.lemmas.List.{take_all, take_at}
 use Rattle.serde_json.specs.declared.value.Value.{Value}
-use Rattle.report.specs.Blocks.{before_commas, AreVerdictForms}
+use Rattle.report.specs.Blocks.{AreVerdictForms}
 use Rattle.report.proofs.Blocks.{verdicts_no_float, verdicts_more}
 use Rattle.report.proofs.verdict_entry.make_room.Goals as goal
 

@@ -15,6 +15,6 @@ returns-clause-ok c =
     let begin = add_as {v = before on.from_in} c.bracket.ensures c.add_byte-from.ensures in
     let end = add_as {v = after on.to_in} c.closing.ensures c.add_byte-end.ensures in
     let all = add_then (add_then (add_then (add_then begin a) c.add_byte-to.ensures) b) end in
-    on_ok_weaker c.set_text.result
+    on_ok_weaker c.set_first.result
     (λ e. (_, span_text c.args.scale on A B is_a is_b, e ∙ ap (λ w. with_member (codes "on") (string w) (view c.args.verdict.now)) all.added))
-    c.set_text.ensures.ok
+    c.set_first.ensures.ok

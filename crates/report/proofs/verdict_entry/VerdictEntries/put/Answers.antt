@@ -1,4 +1,4 @@
-use Rattle.std.proofs.Common.{◌≡◌, ◌+◌, ◌<◌, ◌≤◌, ◌++◌, ◌∷◌, [], ℕ, List, take, set, length, append_assoc, refl, sym, ap, ◌∙◌, subst, arith}
+use Rattle.std.proofs.Common.{◌≡◌, ◌+◌, ◌<◌, ◌≤◌, ◌++◌, ◌∷◌, [], ℕ, List, take, set, length, append_assoc, sym, ap, ◌∙◌, subst, arith}
 use Rattle.std.specs.Vec.{with_items}
 use Rattle.std.proofs.lemmas.List.{with_items_is}
 use Rattle.rational.proofs.Lists.{on_err_anyway}
@@ -71,7 +71,8 @@ returns-clause-ok c =
       before_commas one,
       verdict_entry c.args.scale c.args.v.now w told,
       ap (λ l. text ++ before_commas (take (u f + 1) l)) (whole f c.fill_at.new.objects w is)
-          ∙ (ap (λ x. text ++ x) (ap before_commas (filled_waits_one (seen f) c.fill_at.new.objects w (u f) (inside f) is) ∙ before_join (take (u f) (seen f)) one)
+          ∙ (ap (λ x. text ++ x) (ap before_commas (filled_waits_one (seen f) c.fill_at.new.objects w (u f) (inside f) is)
+          ∙ before_join (take (u f) (seen f)) one)
           ∙ (sym (append_assoc text (before_commas (take (u f) (seen f))) (before_commas one)) ∙ ap (λ x. x ++ before_commas one) (joined f))),
     )
 
