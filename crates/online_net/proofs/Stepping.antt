@@ -24,7 +24,7 @@ use Rattle.std.specs.Prelude.{IfSome}
 use Rattle.online_nodes.specs.Belonging.{Belongs, HasStepped, StandsForSteps}
 use Rattle.online_nodes.specs.declared.operator.Operator.{Operator}
 use Rattle.online_nodes.proofs.RunLaw.{none_is_none, allowed_bound}
-use Rattle.online_nodes.proofs.DroppingLemmas.{slice_get-drop, held_of-without}
+use Rattle.node_edges.proofs.DroppingLemmas.{slice_get-drop, held_of-without}
 use Rattle.online_nodes.proofs.RisingLaw.{IsSound, sound_of, same_is, same_of}
 use Rattle.online_nodes.proofs.EdgeLaw.{root_stays}
 use Rattle.online_nodes.proofs.StretchLaw.{joined_stays}

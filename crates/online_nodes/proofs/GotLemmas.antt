@@ -2,9 +2,8 @@
 use Rattle.std.proofs.Common.{◌≡◌, ◌≢◌, ℕ, ◌<◌, List, [], ◌++◌, length, get_or, set, refl, sym, ap, ◌∙◌, arith, append_assoc, length-append}
 use Rattle.std.proofs.lemmas.List.{append-nil, get_or-set_same, get_or-set_other, length-set, set-get_or, set-set}
 use Rattle.stl_syntax.specs.declared.items.Verdict.{Verdict}
-use Rattle.online_nodes.specs.Held.{HasMore, Held, Edge, no_edge, edge_at, with_more}
+use Rattle.online_nodes.specs.Held.{Held, Edge, no_edge, edge_at, with_more}
 use Rattle.online_nodes.specs.Written.{HasGot}
-use Rattle.online_nodes.proofs.Stretches.{stand_given}
 
 -- an edge with nothing more stays
 pub with_more-none : (x : Edge) → with_more x [] ≡ x
@@ -13,10 +12,6 @@ with_more-none x = ap (λ vs. record { seen = x.seen; fresh = vs; number = x.num
 -- verdicts more, and then others
 pub with_more-both : (x : Edge) (xs ys : List Verdict) → with_more (with_more x xs) ys ≡ with_more x (xs ++ ys)
 with_more-both x xs ys = ap (λ vs. record { seen = x.seen; fresh = vs; number = x.number; joins = x.joins }) (append_assoc x.fresh xs ys)
-
--- verdicts at the back of an edge, as they are
-pub more_given : (x : Edge) (more : List Verdict) → HasMore x (with_more x more) more
-more_given x more = record { seen = refl; fresh = stand_given x.joins (x.fresh ++ more); number = refl; joins = refl }
 
 -- nothing more was put
 pub got_none : (e : Held) (i : ℕ) → HasGot e e i []

@@ -16,12 +16,6 @@ mod WindowPlaces
 mod UntilLaw
 mod SinceLaw
 mod SettledLaw
-mod EdgesLemmas
-mod FarLemmas
-mod FarSteps
-mod QueueLemmas
-mod TrackLemmas
-pub mod DroppingLemmas
 pub mod WorkLemmas
 mod SaidLemmas
 mod Sweeping

@@ -17,7 +17,7 @@ use Rattle.online_nodes.specs.Held.{Edge, held_of, IsDroppedBy}
 use Rattle.online_nodes.specs.Laws.{answered_to, beyond, AreTiles}
 use Rattle.online_nodes.specs.Needed.{AreMeeting, AreNeeded}
 use Rattle.online_nodes.specs.Network.{Front}
-use Rattle.online_nodes.proofs.DroppingLemmas.{held_of-without}
+use Rattle.node_edges.proofs.DroppingLemmas.{held_of-without}
 use Rattle.online_nodes.proofs.HeldFacts.{needed_part}
 use Rattle.online_nodes.proofs.HeldLaw.{meeting_is_suffix}
 use Rattle.online_nodes.proofs.MeetingLaw.{beyond_later, needed_first}

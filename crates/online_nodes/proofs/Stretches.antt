@@ -1,17 +1,14 @@
 -- Verdicts of which some neighbours of one truth are joined.
-use Rattle.std.proofs.Common.{◌≡◌, ◌⊎◌, inl, inr, refl, sym, ap, subst, ◌∙◌, ℕ, ◌≤◌, Bool, true, false, not, ◌&&◌, Some, None, List, [], ◌∷◌, ◌++◌}
-use Rattle.std.proofs.Common.{length, arith, append_assoc, length-append}
+use Rattle.std.proofs.Common.{◌≡◌, ◌⊎◌, inl, inr, refl, sym, ap, subst, ◌∙◌, ℕ, ◌≤◌, Bool, Some, None, List, [], ◌∷◌, ◌++◌}
+use Rattle.std.proofs.Common.{length, arith}
 use Rattle.std.specs.Prelude.{slice_get, MatchBool}
 use Rattle.std.proofs.lemmas.Option.{same_Some}
-use Rattle.rational.specs.Rational.{Rational, ◌≤ʳ◌}
-use Rattle.rational.specs.Time.{Interval, IsIn, HasTimeBetween}
-use Rattle.rational.specs.Places.{Place, begins, ends, After, Upto, AtMost, Before, Same}
-use Rattle.rational.proofs.Order.{le_of_same, le_trans, lt_of_lt_of_le, lt_or_same_or_gt, not_lt_of_le}
-use Rattle.rational.proofs.PlaceLemmas.{after_of_before, after_same, before_trans, le_of_before, room_of_before, same_before, same_places}
+use Rattle.rational.specs.Rational.{Rational}
+use Rattle.rational.specs.Time.{Interval, IsIn}
+use Rattle.rational.specs.Places.{Place, begins, ends, After, Upto, AtMost, Same}
+use Rattle.rational.proofs.PlaceLemmas.{after_of_before, after_same, same_places}
 use Rattle.rational.proofs.PlaceLemmas.{sides, upto_of_before, upto_same}
-use Rattle.rational.proofs.TimeLemmas.{precedes_of_room}
 use Rattle.frac128.specs.Spans.{interval}
-use Rattle.frac128.specs.Value.{value}
 use Rattle.stl_syntax.specs.Trace.{Trace}
 use Rattle.stl_syntax.specs.Formula.{Subformula}
 use Rattle.stl_syntax.specs.Truth.{Truth}
@@ -19,67 +16,16 @@ use Rattle.stl_syntax.specs.Verdicts.{IsTold}
 use Rattle.stl_syntax.specs.declared.items.Verdict.{Verdict}
 use Rattle.online_nodes.specs.Network.{Front}
 use Rattle.online_nodes.specs.Needed.{Meets, AreMeeting}
-use Rattle.online_nodes.specs.Held.{AreStretches, GoesOn, IsJoined, Stand, as_given, joined}
+use Rattle.online_nodes.specs.Held.{AreStretches, IsJoined, Stand, as_given, joined}
 use Rattle.online_nodes.specs.Laws.{AreTiles, AreTold, IsWhole, answered_to}
 use Rattle.online_nodes.specs.Operators.{first_place}
+use Rattle.node_edges.specs.Kinds.{verdict_part}
+use Rattle.node_edges.proofs.Stretches as of
+pub use Rattle.node_edges.proofs.Stretches.{all_stretches, none_long, stretches_again, stretches_behind, stretches_few, stretches_more, stretches_none}
+pub use Rattle.node_edges.proofs.Verdicts.{some_verdict}
 use Rattle.online_nodes.proofs.HeldLaw.{is_in}
 use Rattle.online_nodes.proofs.MeetingLaw.{Each, one_meeting}
 use Rattle.online_nodes.proofs.Writing.{in_after, in_upto, some_in}
-
--- a list that is no longer than none is empty
-pub none_long : {X : Type 0} (xs : List X) → length xs ≤ 0 → xs ≡ []
-none_long [] l = refl
-none_long (x ∷ xs) l = absurd (omega (arith, l))
-
--- each verdict begins before it ends
-pub some_verdict : (v : Verdict) → Before (begins (interval v.on)) (ends (interval v.on))
-some_verdict v = by_ends v.on.from_in v.on.to_in v.on.not_empty
-  where
-    by_ends : (a b : Bool) → HasTimeBetween (value v.on.from) (value v.on.to) (a && b)
-        → Before (record { at = value v.on.from; after = not a }) (record { at = value v.on.to; after = b })
-    by_ends false b h = inl (precedes_of_room false (value v.on.from) (value v.on.to) h)
-    by_ends true false h = inl (precedes_of_room false (value v.on.from) (value v.on.to) h)
-    by_ends true true h = elim (lt_or_same_or_gt (value v.on.from) (value v.on.to)) [
-      | inl l ↦ inl l
-      | inr o ↦ elim o [
-        | inl s ↦ inr (s, refl, refl)
-        | inr l ↦ absurd (not_lt_of_le (precedes_of_room true (value v.on.from) (value v.on.to) h) l)
-      ]
-    ]
-
--- a verdict may end at the time at which one that goes on from it ends, and be in or out there as it was
-pub room_midway : {v w : Verdict} → GoesOn v w → HasTimeBetween (value v.on.from) (value w.on.to) (v.on.from_in && v.on.to_in)
-room_midway {v} {w} on =
-    subst (λ b. HasTimeBetween (value v.on.from) (value w.on.to) (b && v.on.to_in)) (twice v.on.from_in)
-    (room_of_before (begins (interval v.on)) (record { at = value w.on.to; after = v.on.to_in }) (by_end (some_verdict v)))
-  where
-    twice : (b : Bool) → not (not b) ≡ b
-    twice true = refl
-    twice false = refl
-
-    later : value v.on.to ≤ʳ value w.on.to
-    later = le_of_before (ends (interval v.on)) (ends (interval w.on))
-        (same_before (ends (interval v.on)) (begins (interval w.on)) (ends (interval w.on)) on.touch (some_verdict w))
-
-    by_end : Before (begins (interval v.on)) (ends (interval v.on))
-        → Before (begins (interval v.on)) (record { at = value w.on.to; after = v.on.to_in })
-    by_end (inl l) = inl (lt_of_lt_of_le l later)
-    by_end (inr (s, e, f)) = elim (lt_or_same_or_gt (value v.on.from) (value w.on.to)) [
-      | inl l ↦ inl l
-      | inr o ↦ elim o [ inl r ↦ inr (r, e, f) | inr l ↦ absurd (not_lt_of_le (le_trans (le_of_same s) later) l) ]
-    ]
-
--- two verdicts of which the second goes on from the first have times from where that begins to where this ends
-pub room_of_both : {v w : Verdict} → GoesOn v w → HasTimeBetween (value v.on.from) (value w.on.to) (v.on.from_in && w.on.to_in)
-room_of_both {v} {w} on =
-    subst (λ b. HasTimeBetween (value v.on.from) (value w.on.to) (b && w.on.to_in)) (twice v.on.from_in)
-    (room_of_before (begins (interval v.on)) (ends (interval w.on))
-    (before_trans (begins (interval v.on)) (ends (interval v.on)) (ends (interval w.on)) (some_verdict v)
-    (same_before (ends (interval v.on)) (begins (interval w.on)) (ends (interval w.on)) on.touch (some_verdict w))))
-  where
-    twice : (b : Bool) → not (not b) ≡ b
-    twice true = refl
-    twice false = refl
 
 module _ {v w u : Verdict} (j : IsJoined v w u) where
   -- the joined verdict ends no earlier than the first of the two
@@ -183,69 +129,29 @@ module _ {v w u : Verdict} (j : IsJoined v w u) where
       let next = meeting_joined stretch front back hs rest in
       record { held = next.held; meeting = inr (d, next.meeting); few = next.few }
 
--- ---- stretches
-
--- with the same verdicts behind them
-pub stretches_more : {a b : List Verdict} → AreStretches a b → (c : List Verdict) → AreStretches (a ++ c) (b ++ c)
-stretches_more as_given c = as_given
-stretches_more {a} (joined {v = v} {w = w} {u = u} front back j rest) c =
-    subst (λ l. AreStretches (a ++ c) l) (sym (append_assoc front (v ∷ w ∷ back) c))
-    (joined front (back ++ c) j (subst (λ l. AreStretches (a ++ c) l) (append_assoc front (u ∷ back) c) (stretches_more rest c)))
-
--- and with the same before them
-pub stretches_behind : {a b : List Verdict} (p : List Verdict) → AreStretches a b → AreStretches (p ++ a) (p ++ b)
-stretches_behind p as_given = as_given
-stretches_behind {a} p (joined {v = v} {w = w} {u = u} front back j rest) =
-    subst (λ l. AreStretches (p ++ a) l) (append_assoc p front (v ∷ w ∷ back))
-    (joined (p ++ front) back j (subst (λ l. AreStretches (p ++ a) l) (sym (append_assoc p front (u ∷ back))) (stretches_behind p rest)))
-
--- stretches of stretches
-pub stretches_again : {a b c : List Verdict} → AreStretches a b → AreStretches b c → AreStretches a c
-stretches_again first as_given = first
-stretches_again first (joined front back j rest) = joined front back j (stretches_again first rest)
-
--- verdicts are their own stretches
-pub all_stretches : {a b : List Verdict} → a ≡ b → AreStretches a b
-all_stretches {a} {b} e = subst (λ l. AreStretches l b) (sym e) as_given
-
 -- ---- as verdicts stand on an edge, by whether it joins
 
 -- they stand so as they were given
 pub stand_given : (b : Bool) (vs : List Verdict) → Stand b vs vs
-stand_given true vs = as_given
-stand_given false vs = refl
+stand_given = of.stand_given verdict_part
 
 -- they are stretches
 pub stand_stretches : (b : Bool) {all stretches : List Verdict} → Stand b all stretches → AreStretches stretches all
-stand_stretches true s = s
-stand_stretches false s = all_stretches s
+stand_stretches b s = of.stand_stretches verdict_part b s
 
 -- with the same verdicts behind them
 pub stand_more : (b : Bool) (all stretches : List Verdict) → Stand b all stretches → (c : List Verdict) → Stand b (all ++ c) (stretches ++ c)
-stand_more true all stretches s c = stretches_more s c
-stand_more false all stretches s c = ap (λ l. l ++ c) s
+stand_more = of.stand_more verdict_part
 
 -- and with the same before them
 pub stand_behind : (b : Bool) (all stretches p : List Verdict) → Stand b all stretches → Stand b (p ++ all) (p ++ stretches)
-stand_behind true all stretches p s = stretches_behind p s
-stand_behind false all stretches p s = ap (λ l. p ++ l) s
+stand_behind = of.stand_behind verdict_part
 
 -- and as what stood so stands
 pub stand_again : (b : Bool) (all mid stretches : List Verdict) → Stand b all mid → Stand b mid stretches → Stand b all stretches
-stand_again true all mid stretches first second = stretches_again second first
-stand_again false all mid stretches first second = second ∙ first
+stand_again = of.stand_again verdict_part
 
 -- ---- what stretches are
-
--- there are no more of them
-pub stretches_few : {a b : List Verdict} → AreStretches a b → length a ≤ length b
-stretches_few as_given = omega arith
-stretches_few (joined {v = v} {w = w} {u = u} front back j rest) =
-    let few = stretches_few rest in omega (arith, few, length-append front (u ∷ back), length-append front (v ∷ w ∷ back))
-
--- and none where there are no verdicts
-pub stretches_none : {a b : List Verdict} → AreStretches a b → b ≡ [] → a ≡ []
-stretches_none {a} s none = none_long a (let few = stretches_few s in let e = ap length none in omega (arith, few, e))
 
 -- they begin where the verdicts do
 pub stretches_first : {a b : List Verdict} → AreStretches a b → (d : Place) → first_place a d ≡ first_place b d

@@ -15,7 +15,7 @@ use Rattle.online_nodes.specs.Written.{HasGot, IsSound, waiting}
 use Rattle.frac128.specs.declared.cut.Cut.{Cut}
 use Rattle.online_nodes.specs.declared.window.Window.{Window}
 use Rattle.online_nodes.specs.declared.window.Sweep.{Sweep}
-use Rattle.online_nodes.proofs.DroppingLemmas.{drop-drop}
+use Rattle.node_edges.proofs.DroppingLemmas.{drop-drop}
 use Rattle.online_nodes.proofs.GotLemmas.{got-other}
 use Rattle.online_nodes.proofs.WorkLemmas.{worked_none, worked_put, worked_both}
 

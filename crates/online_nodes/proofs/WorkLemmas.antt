@@ -7,7 +7,7 @@ use Rattle.stl_syntax.specs.declared.items.Verdict.{Verdict}
 use Rattle.online_nodes.specs.Held.{Held, Edge, no_edge, edge_at, held_of, with_more, with_read}
 use Rattle.online_nodes.specs.Written.{HasGot}
 use Rattle.online_nodes.specs.Working.{HasPassed, IsReadOn, HasWorked}
-use Rattle.online_nodes.proofs.DroppingLemmas.{drop-drop}
+use Rattle.node_edges.proofs.DroppingLemmas.{drop-drop}
 use Rattle.online_nodes.proofs.GotLemmas.{got-length, got-here, got-other, with_more-none, with_more-both}
 
 -- nothing was read

@@ -6,7 +6,6 @@ pub mod MarginStream
 pub mod MarginEdges
 pub mod Truths
 pub mod Held
-pub mod Queues
 pub mod Written
 pub mod Laws
 pub mod Working
@@ -21,4 +20,3 @@ pub mod Kinds
 pub mod Answering
 pub mod Belonging
 pub mod Stepping
-pub mod Lengthening

@@ -4,13 +4,11 @@
 
 mod answering;
 mod edges;
-mod far;
 mod join;
 mod kind;
 mod laws;
 mod negation;
 mod operator;
-mod queue;
 mod since;
 mod until;
 mod window;

@@ -1,6 +1,6 @@
 -- What is left of an edge without its first parts.
 use Rattle.std.proofs.Common.{◌≡◌, ℕ, ◌-◌, drop, length, sym, ap, arith}
-use Rattle.online_nodes.proofs.DroppingLemmas.{drop-both}
+use Rattle.node_edges.proofs.DroppingLemmas.{drop-both}
 use Rattle.online_robust.specs.Held.{Edge, held_of, without}
 
 -- an edge without its first lines holds the others

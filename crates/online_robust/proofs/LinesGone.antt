@@ -12,7 +12,7 @@ use Rattle.online_robust.specs.Lines.{end_of}
 use Rattle.online_robust.specs.Held.{Edge, Held, edge_at, held_at, held_of, no_edge, with_edge, without}
 use Rattle.online_robust.specs.ReadLines.{Loses, LosesAt, LosesAtBoth}
 use Rattle.online_robust.specs.declared.line.MarginLine.{MarginLine}
-use Rattle.online_nodes.proofs.DroppingLemmas.{drop-drop}
+use Rattle.node_edges.proofs.DroppingLemmas.{drop-drop}
 use Rattle.online_robust.proofs.DroppingLemmas.{held_of-without, without-none}
 
 -- lines are dropped in two turns

@@ -20,7 +20,7 @@ use Rattle.online_robust.specs.Pasts.{IsRest}
 use Rattle.online_robust.specs.declared.line.MarginLine.{MarginLine}
 use Rattle.online_robust.specs.declared.line.MarginLine.TheVariants.{Point, Gap}
 use Rattle.online_robust.proofs.JoinedLemmas.{joined_same}
-use Rattle.online_nodes.proofs.DroppingLemmas.{drop-drop}
+use Rattle.node_edges.proofs.DroppingLemmas.{drop-drop}
 
 -- ---- dropping
 

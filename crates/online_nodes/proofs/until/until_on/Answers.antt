@@ -4,7 +4,7 @@ use Rattle.rational.proofs.Lists.{on_err_anyway}
 use Rattle.frac128.specs.Cuts.{place}
 use Rattle.online_nodes.specs.Held.{fresh_at}
 use Rattle.frac128.specs.declared.cut.Cut.{Cut}
-use Rattle.online_nodes.proofs.DroppingLemmas.{slice_get-drop}
+use Rattle.node_edges.proofs.DroppingLemmas.{slice_get-drop}
 use Rattle.online_nodes.proofs.UntilGoes.{gone_none, gone_one, gone_to_end}
 use Rattle.online_nodes.proofs.until.until_on.Goals as goal
 

@@ -1,1 +1,0 @@
--- Lists of verdicts by their first item.
