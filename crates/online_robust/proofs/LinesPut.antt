@@ -1,8 +1,8 @@
 -- Lines that are put onto an edge, one after another.
 use Rattle.std.proofs.Common.{◌≡◌, ℕ, zero, suc, ◌+◌, ◌-◌, ◌<◌, ◌≤◌, true, false, List, [], ◌∷◌, ◌++◌, length, refl, sym, ap}
-use Rattle.std.proofs.Common.{◌∙◌, arith, append_assoc, Some, set, get_or, get_or-set_same, length-set, take}
+use Rattle.std.proofs.Common.{◌∙◌, arith, append-nil, append_assoc, Some, set, get_or, get_or-set_same, length-set, take}
 use Rattle.std.specs.Prelude.{slice_get}
-use Rattle.std.proofs.lemmas.List.{set-set}
+use Rattle.std.proofs.lemmas.List.{set-get_or, set-set}
 use Rattle.std.proofs.lemmas.Option.{same_Some}
 use Rattle.value_laws.specs.declared.margin.Margin.{Margin}
 use Rattle.pl_signal.specs.declared.knot.Knot.{Knot}
@@ -13,6 +13,16 @@ use Rattle.online_robust.specs.declared.line.MarginLine.TheVariants.{Point, Gap}
 
 more_more : (x : Edge) (a b : List MarginLine) → with_more (with_more x a) b ≡ with_more x (a ++ b)
 more_more x a b = ap (λ l. record { seen = x.seen; fresh = l; number = x.number }) (append_assoc x.fresh a b)
+
+-- no lines
+pub put_nothing : (node : ℕ) (e : Held) → HasPut node [] e e
+put_nothing node e = record {
+  edges = sym (ap (set e.edges node) (no_more (edge_at e node)) ∙ set-get_or e.edges node no_edge);
+  start = refl;
+}
+  where
+    no_more : (x : Edge) → with_more x [] ≡ x
+    no_more x = ap (λ l. record { seen = x.seen; fresh = l; number = x.number }) (append-nil x.fresh)
 
 -- lines, and then others
 pub put_both : (node : ℕ) (a b : List MarginLine) (e f g : Held) → node < length e.edges → HasPut node a e f → HasPut node b f g → HasPut node (a ++ b) e g

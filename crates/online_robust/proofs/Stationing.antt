@@ -14,7 +14,7 @@ use Rattle.stl_syntax.proofs.RowsLemmas.{last_time-push}
 use Rattle.atom_lines.specs.Binding.{Binding, IsAtomNode}
 use Rattle.online_nodes.specs.Needed.{IsReader}
 use Rattle.online_robust.specs.Held.{Held, edge_at, number_at, with_edge, with_number}
-use Rattle.online_robust.specs.Steps.{Step, Belongs, HasSwept, IsStreamedFault, IsSwept, StandsNow}
+use Rattle.online_robust.specs.Steps.{Step, Belongs, GivesOut, IsStreamedFault}
 use Rattle.online_robust.specs.Putting.{constant_margin, lines_of, HasPut, HasPutAtom, HasPutRow, IsAtomPiece, IsAtomValue}
 use Rattle.online_robust.specs.Pasts.{Past, trace_of, number_by, shown_by, number_of, shown_of}
 use Rattle.online_robust.specs.Moving.{Move, CanMove, CanGiveOut, CanGoTo, CanMoveByRow, CanMoveByEnd}
@@ -26,6 +26,7 @@ use Rattle.online_robust.specs.declared.station.Work.TheVariants as W
 use Rattle.online_robust.proofs.OperatorGoesOn.{belongs, belongs_now, has_moved}
 use Rattle.online_robust.proofs.Idling.{both_hidden, idle_moved, idle_noted, idle_there, same_number}
 use Rattle.online_robust.proofs.Leaves.{IsLeafAt}
+use Rattle.online_robust.proofs.LinesPut.{put_within}
 use Rattle.online_robust.proofs.LeafMoved.{atom_leaf, constant_leaf, leaf_moved}
 use Rattle.online_robust.proofs.Readers.{tree_at_node}
 use Rattle.online_robust.proofs.RowFacts.{number_here, number_hidden, number_rises, number_shown}
@@ -41,27 +42,32 @@ module _ (m : Move) (node : ℕ) (op : Operator) (e : Held) (to : ℕ) (with_fir
   pub swept_fault : (f : OpFault Margin) → ((t : Step) → Belongs t op e to → IsStreamedFault t f) → IsFaultOf m f
   swept_fault f h = h (turn_of m (trace_of m.header m.new)) (belongs_now m node op e to with_first g)
 
-  -- the node has an edge after its operator went on
-  pub swept_edge : (e' : Held) → ((t : Step) → Belongs t op e to → HasSwept t e e' to) → node < length e'.edges
-  swept_edge e' h =
-      let count = (h swept_turn.0 swept_turn.1).edges in
+  -- the node has an edge
+  pub turn_edge : node < length e.edges
+  turn_edge =
       let all = g.can.edges in
       let within = slice_get_within m.nodes m.place g.can.node g.can.at in
       let place = g.place in
-      omega (arith, count, all, within, place)
+      omega (arith, all, within, place)
 
-  -- what the operator told is put on the node's edge
-  pub given_out : (s : List (Knot Margin)) (op' : Operator) (e' e'' e3 : Held) → ((t : Step) → Belongs t op e to → IsSwept t to s)
-      → ((t : Step) → Belongs t op e to → HasSwept t e e' to) → ((t : Step) → Belongs t op e to → StandsNow t op' e' to)
-      → HasPut node (lines_of with_first s) e' e'' → e3 ≡ record e'' { edges = with_edge e'' node (with_number (edge_at e'' node) (pos to)) }
-      → HasMoved m (W.Operator op') e e3
-  given_out s op' e' e'' e3 swept left stands put is =
-      subst (HasMoved m (W.Operator op') e) (sym (is ∙ ap (λ k. record e'' { edges = with_edge e'' k (with_number (edge_at e'' k) (pos to)) }) (sym g.place)))
-      (has_moved m node op e to with_first g s op' e' e''
-      (λ tr trace c. swept (turn_of m tr) (belongs m node op e to with_first g tr trace c))
-      (left (turn_of m (trace_of m.header m.new)) (belongs_now m node op e to with_first g))
-      (λ tr trace c. stands (turn_of m tr) (belongs m node op e to with_first g tr trace c))
-      (subst (λ k. HasPut k (lines_of with_first s) e' e'') (sym g.place) put))
+  module _ (op' : Operator) (new : Held) (out : GivesOut node with_first op to e op' new) where
+    -- also after its operator gave out what it told
+    pub given_within : node < length new.edges
+    given_within =
+        let count = (out.edges swept_turn.0 swept_turn.1).edges in
+        let within = turn_edge in
+        put_within node (lines_of with_first out.swept) out.between new out.put (omega (arith, count, within))
+
+    -- and once its number was noted the node has moved
+    pub given_out : (noted : Held) → noted ≡ record new { edges = with_edge new node (with_number (edge_at new node) (pos to)) }
+        → HasMoved m (W.Operator op') e noted
+    given_out noted is =
+        subst (HasMoved m (W.Operator op') e) (sym (is ∙ ap (λ k. record new { edges = with_edge new k (with_number (edge_at new k) (pos to)) }) (sym g.place)))
+        (has_moved m node op e to with_first g out.swept op' out.between new
+        (λ tr trace c. out.told (turn_of m tr) (belongs m node op e to with_first g tr trace c))
+        (out.edges (turn_of m (trace_of m.header m.new)) (belongs_now m node op e to with_first g))
+        (λ tr trace c. out.stands (turn_of m tr) (belongs m node op e to with_first g tr trace c))
+        (subst (λ k. HasPut k (lines_of with_first out.swept) out.between new) (sym g.place) out.put))
 
 -- ---- an operator goes on
 

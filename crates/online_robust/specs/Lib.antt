@@ -15,3 +15,4 @@ pub mod Windows
 pub mod Slides
 pub mod Refusing
 pub mod Operators
+pub mod ToldLines

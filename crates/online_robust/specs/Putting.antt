@@ -37,11 +37,6 @@ pub record HasPut (node : ℕ) (more : List MarginLine) (old new : Held) : Type 
   pub edges : new.edges ≡ with_edge old node (with_more (edge_at old node) more)
   pub start : new.start ≡ old.start
 
--- so did it, and then its number was noted
-abbrev pub HasPutOut : ℕ → List MarginLine → ℕ → Held → Held → Type 0
-HasPutOut node more to old new =
-    (e : Held) × HasPut node more old e × (new ≡ record e { edges = with_edge e node (with_number (edge_at e node) (pos to)) })
-
 -- the lines of a row, after the row before, if there is one: the gap since then with this margin, and the point with that value
 abbrev pub AreRowLines : Option Row → Row → Margin → Margin → List MarginLine → Type 0
 AreRowLines None r piece v more = (at : Frac) × (value at ≈ row_time r) × (more ≡ Point at v ∷ [])

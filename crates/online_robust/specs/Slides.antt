@@ -1,6 +1,6 @@
 -- A window that moves over its input as that comes: what it has met and told, and what of the input is still to come.
 use Rattle.std.specs.Prelude.{◌≡◌, ◌≢◌, ◌⊎◌, ℕ, ℤ, pos, neg_ℤ, ◌<ℤ◌, ◌<◌, ◌^◌, ◌+◌, ◌++◌, List, [], ◌∷◌, drop, length, map, slice_get}
-use Rattle.std.specs.Prelude.{Option, Some, None, IfSome, true, false, if◌then◌else◌, int_lt}
+use Rattle.std.specs.Prelude.{Bool, Option, Some, None, IfSome, true, false, if◌then◌else◌, int_lt}
 use Rattle.rational.specs.Rational.{IsWithin, whole}
 use Rattle.rational.specs.Time.{Rational, shifted, ◌≈◌, ◌≤ʳ◌, ◌<ʳ◌}
 use Rattle.rational.specs.Extended.{Extended, Affine, Passes, value_at}
@@ -19,7 +19,6 @@ use Rattle.pl_signal.specs.declared.faults.WidePair.TheVariants.{Cross, Value}
 use Rattle.pieces.specs.declared.piece.Piece.{Piece}
 use Rattle.pl_signal.specs.declared.knot.Knot.{Knot}
 use Rattle.pl_signal.specs.Knots as knots
-use Rattle.pl_signal.specs.Building.{GoesOn as GoesFurther}
 use Rattle.pl_signal.specs.Knots.{IsSignal}
 use Rattle.pieces.specs.declared.reach.Reach.{Reach}
 use Rattle.pieces.specs.declared.reach.Way.{Way}
@@ -32,6 +31,7 @@ use Rattle.stl_syntax.specs.Formula.{Subformula}
 use Rattle.stl_syntax.specs.SupInf.{Robustness}
 use Rattle.online_robust.specs.Held.{Held, edge_at, fresh_at, held_at}
 use Rattle.online_robust.specs.Lines.{end_of, margin_of}
+use Rattle.online_robust.specs.Putting.{HasPut, lines_of}
 use Rattle.online_robust.specs.ReadLines.{LosesAt}
 use Rattle.online_robust.specs.Told.{AreFit, AreJoined, AreTold, IsMovedBy, IsTick}
 use Rattle.online_robust.specs.Windows.{InPlayOver, IsOwned, SettledOver, best_over}
@@ -226,14 +226,6 @@ pub record DropsBy (limit : Rational) (of : ℕ) (old new : Held) : Type 0 where
 abbrev pub WithPoint : Chain Margin → Rational → Margin → Function
 WithPoint told to point t v = IsWorth margin_shape told t v ⊎ ((t ≈ to) × Passes (margin_function point) t v)
 
--- a signal goes on with a piece of what was told, up to its end, and has there what was told or the point; a piece of one time adds nothing
-abbrev pub IsAddedTo : Chain Margin → Rational → Margin → Rational → Piece Margin → List (Knot Margin) → List (Knot Margin) → Type 0
-IsAddedTo told to point at p old new =
-    (¬ (at <ʳ value p.until.time) × (new ≡ old))
-    ⊎ ((at <ʳ value p.until.time) × (q : Margin) × (HasShape told q ⊎ (q ≡ point))
-    × WithPoint told to point (value p.until.time) (value_at (margin_function q) (value p.until.time))
-    × GoesFurther margin_shape old p.shape p.until.time q new)
-
 -- a signal of what was told up to a time, and of the point there
 pub record IsStretchOf (told : Chain Margin) (to : Rational) (point : Margin) (ks : List (Knot Margin)) : Type 0 where
   pub signal : IsSignal margin_shape ks
@@ -305,6 +297,17 @@ pub record HasGoneTo (x : Course) (w : Stream Margin) (kept : Option (Piece Marg
   pub told : Same (stop w.sliding.out) (before_time x.to)
   pub goes_on : (x.to ≈ last_of x.trace)
       ⊎ (HasMet x.from x.to ps w × GoesOn x (cursor (stop_from x.from ps) kept) (edge_at e x.window.of).seen)
+
+-- a window has gone on to a time, and a node's edge got the lines of the best up to it: in each course that it may be on
+pub record GoesOut (v : Window) (to : Rational) (node : ℕ) (with_first : Bool) (w : Stream Margin) (kept : Option (Piece Margin)) (old : Held)
+    (w' : Stream Margin) (kept' : Option (Piece Margin)) (new : Held) : Type 0 where
+  pub swept : List (Knot Margin)
+  pub between : Held
+  pub told : (x : Course) (from : Rational) → CanSlide x from w kept old → x.window ≡ v → x.to ≡ to → IsBestStretch x from swept
+  pub gone : (x : Course) (from : Rational) → CanSlide x from w kept old → x.window ≡ v → x.to ≡ to → HasGoneTo x w' kept' between
+  pub way : w'.way ≡ w.way
+  pub read : HasRead v.of old (shifted to (back_offset v)) between
+  pub put : HasPut node (lines_of with_first swept) between new
 
 -- a window was told up to the number g: the pieces that it has met, and where its input goes on, by what it has read of it and may still need.
 -- It goes on unless g is the end

@@ -29,6 +29,7 @@ use Rattle.online_nodes.specs.StreamedWide.{IsUnstreamed, front_at, IsStreamedCr
 use Rattle.online_robust.specs.Lines.{end_of}
 use Rattle.online_robust.specs.Held.{Edge, Held, edge_at, held_at, held_of}
 use Rattle.online_robust.specs.Told.{AreTold, AreFit, AreJoined, IsMovedBy}
+use Rattle.online_robust.specs.Putting.{HasPut, lines_of}
 use Rattle.online_robust.specs.Standing.{Stands}
 use Rattle.online_robust.specs.declared.line.MarginLine.{MarginLine}
 use Rattle.online_robust.specs.declared.line.MarginLine.TheVariants.{Point}
@@ -160,6 +161,16 @@ pub record HasSwept (t : Step) (old new : Held) (to : ℕ) : Type 0 where
 -- the operator stands for its node at the number `to`
 abbrev pub StandsNow : Step → Operator → Held → ℕ → Type 0
 StandsNow t op e to = (node : Node) → slice_get t.nodes t.place ≡ Some node → Stands node t.nodes t.place t.trace (Some (pos to)) op (seen_by node e)
+
+-- an operator has gone on to a number and given out the lines of what it tells: its inputs' edges lost what it needs no more, and then its
+-- node's edge got the lines, with the point at which they begin or without. Its turn may be in any trace that goes on from the rows
+pub record GivesOut (node : ℕ) (with_first : Bool) (op : Operator) (to : ℕ) (old : Held) (op' : Operator) (new : Held) : Type 0 where
+  pub swept : List (Knot Margin)
+  pub between : Held
+  pub told : (t : Step) → Belongs t op old to → IsSwept t to swept
+  pub edges : (t : Step) → Belongs t op old to → HasSwept t old between to
+  pub stands : (t : Step) → Belongs t op old to → StandsNow t op' between to
+  pub put : HasPut node (lines_of with_first swept) between new
 
 -- the pair is in play at the node by what the rows have settled
 abbrev pub IsStreamedCause : Step → WidePair Margin → Type 0

@@ -1,18 +1,19 @@
 //! The operator of a node: what it keeps in mind of its inputs, and how it goes on.
-ghost use Rattle.std.specs.Prelude.{◌≡◌, IfOk, OnOk, None, OnErr};
+ghost use Rattle.std.specs.Prelude.{◌≡◌, ◌<◌, length, OnOk, None, OnErr};
 ghost use Rattle.online_nodes.specs.StreamedWide.{IsUnstreamed};
 ghost use Rattle.online_robust.specs.Slides.{slide_of};
 ghost use Rattle.online_robust.specs.Operators.{two_by, window_by};
 ghost use Rattle.online_robust.specs.declared.operator.Operator.TheVariants as Op;
-ghost use Rattle.online_robust.specs.Steps.{Step, Belongs, BelongsSomewhere, HasSwept, IsFirstOperator, IsStreamedFault, IsSwept, StandsNow};
+ghost use Rattle.online_robust.specs.Steps.{Step, Belongs, BelongsSomewhere, GivesOut, IsFirstOperator, IsStreamedFault};
 ghost use Rattle.online_robust.specs.Refusing.{told_by};
 
 use crate::edges::Edges;
 use crate::pointwise::{Not, Two};
+use crate::put::put_signal;
 use crate::room::Room;
 use crate::slide::{Slide, Window};
 use frac128::{Frac, Memory};
-use pl_signal::{Side, Signal, WidePair};
+use pl_signal::{Side, WidePair};
 use stl_syntax::{Asks, Join, Node, Offsets, View};
 use value_laws::Margin;
 
@@ -76,18 +77,19 @@ fn sweep_not(
     not: &mut Not,
     room: &mut Room,
     edges: &mut Edges,
+    node: u32,
     to: u32,
-) -> Result<Signal<Margin>, Memory>
-    requires { BelongsSomewhere (Op.Not not.old) edges.old to }
-    ensures told { (t : Step) → Belongs t (Op.Not not.old) edges.old to → IfOk result (IsSwept t to) }
-    ensures edges { (t : Step) → Belongs t (Op.Not not.old) edges.old to → OnOk result (HasSwept t edges.old edges.new to) }
-    ensures stands { (t : Step) → Belongs t (Op.Not not.old) edges.old to → OnOk result (StandsNow t (Op.Not not.new) edges.new to) }
+    with_first: bool,
+) -> Result<(), Memory>
+    requires can { BelongsSomewhere (Op.Not not.old) edges.old to }
+    requires edge { node < length edges.old.edges }
+    ensures { OnOk result (GivesOut node with_first (Op.Not not.old) to edges.old (Op.Not not.new) edges.new) }
 {
     let end = Frac::of(i64::from(to));
-    match not.sweep(room, edges, &end) {
-        Ok(swept) => Ok(swept),
-        Err(Memory) => Err(Memory),
-    }
+    let swept = not.sweep(room, edges, &end)?;
+    put_signal(edges, node, &swept, with_first)?;
+    room.keep(swept);
+    Ok(())
 }
 
 /// A connective goes on to a number.
@@ -95,22 +97,23 @@ fn sweep_two(
     two: &mut Two,
     room: &mut Room,
     edges: &mut Edges,
+    node: u32,
     to: u32,
+    with_first: bool,
     fault: &mut Option<WidePair<Margin>>,
-) -> Result<Signal<Margin>, Memory>
+) -> Result<(), Memory>
     requires can { BelongsSomewhere (Op.Two two.old) edges.old to }
+    requires edge { node < length edges.old.edges }
     requires unset { fault.old ≡ None }
-    ensures told { (t : Step) → Belongs t (Op.Two two.old) edges.old to → IfOk result (IsSwept t to) }
-    ensures edges { (t : Step) → Belongs t (Op.Two two.old) edges.old to → OnOk result (HasSwept t edges.old edges.new to) }
-    ensures stands { (t : Step) → Belongs t (Op.Two two.old) edges.old to → OnOk result (StandsNow t (Op.Two two.new) edges.new to) }
+    ensures out { OnOk result (GivesOut node with_first (Op.Two two.old) to edges.old (Op.Two two.new) edges.new) }
     ensures still { OnOk result (fault.new ≡ None) }
     ensures wide { (t : Step) → Belongs t (Op.Two two.old) edges.old to → OnErr result (IsStreamedFault t (told_by fault.new)) }
 {
     let end = Frac::of(i64::from(to));
-    match two.sweep(room, edges, &end, fault) {
-        Ok(swept) => Ok(swept),
-        Err(Memory) => Err(Memory),
-    }
+    let swept = two.sweep(room, edges, &end, fault)?;
+    put_signal(edges, node, &swept, with_first)?;
+    room.keep(swept);
+    Ok(())
 }
 
 impl Operator {
@@ -129,7 +132,7 @@ impl Operator {
         }
     }
 
-    /// The margins of its node from where it stood, or from the start, on up to a number.
+    /// Puts the margins of its node from where it stood, or from the start, on up to a number onto the node's edge.
     ///
     /// # Errors
     ///
@@ -139,21 +142,22 @@ impl Operator {
         &mut self,
         room: &mut Room,
         edges: &mut Edges,
+        node: u32,
         to: u32,
+        with_first: bool,
         fault: &mut Option<WidePair<Margin>>,
-    ) -> Result<Signal<Margin>, Memory>
+    ) -> Result<(), Memory>
         requires can { BelongsSomewhere self.old edges.old to }
+        requires edge { node < length edges.old.edges }
         requires unset { fault.old ≡ None }
-        ensures told { (t : Step) → Belongs t self.old edges.old to → IfOk result (IsSwept t to) }
-        ensures edges { (t : Step) → Belongs t self.old edges.old to → OnOk result (HasSwept t edges.old edges.new to) }
-        ensures stands { (t : Step) → Belongs t self.old edges.old to → OnOk result (StandsNow t self.new edges.new to) }
+        ensures out { OnOk result (GivesOut node with_first self.old to edges.old self.new edges.new) }
         ensures still { OnOk result (fault.new ≡ None) }
         ensures wide { (t : Step) → Belongs t self.old edges.old to → OnErr result (IsStreamedFault t (told_by fault.new)) }
     {
         match self {
-            Operator::Not(not) => sweep_not(not, room, edges, to),
-            Operator::Two(two) => sweep_two(two, room, edges, to, fault),
-            Operator::Slide(slide) => slide.sweep(room, edges, to, fault),
+            Operator::Not(not) => sweep_not(not, room, edges, node, to, with_first),
+            Operator::Two(two) => sweep_two(two, room, edges, node, to, with_first, fault),
+            Operator::Slide(slide) => slide.sweep(room.alloc, edges, node, to, with_first, fault),
         }
     }
 }

@@ -17,7 +17,7 @@ use value_laws::Margin;
 
 /// Puts a point.
 #[inline(always)]
-fn put_point(edges: &mut Edges, node: u32, at: Frac, value: Margin) -> Result<(), Memory>
+pub(crate) fn put_point(edges: &mut Edges, node: u32, at: Frac, value: Margin) -> Result<(), Memory>
     requires { node < length edges.old.edges }
     ensures { OnOk result (HasPut node (Part.Point at value ∷ []) edges.old edges.new) }
 {
@@ -26,7 +26,7 @@ fn put_point(edges: &mut Edges, node: u32, at: Frac, value: Margin) -> Result<()
 
 /// Puts a gap and the point that ends it.
 #[inline(always)]
-fn put_pair(
+pub(crate) fn put_pair(
     edges: &mut Edges,
     node: u32,
     from: &Frac,

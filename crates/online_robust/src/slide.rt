@@ -1,31 +1,29 @@
 //! A window over its input, which it meets as that comes.
-ghost use Rattle.std.specs.Prelude.{◌≡◌, ◌⊎◌, ◌<◌, ◌^◌, ℕ, pos, false, if◌then◌else◌, IfOk, IfSome, MatchOption, OnErr, OnOk, None, Some, length};
-ghost use Rattle.std.specs.Prelude.{option_map, slice_get};
-ghost use Rattle.rational.specs.Rational.{Rational, IsWithin};
-ghost use Rattle.rational.specs.Time.{shifted, ◌≈◌};
-ghost use Rattle.rational.specs.Places.{AtMost, Same};
+ghost use Rattle.std.specs.Prelude.{◌≡◌, ◌<◌, ◌+◌, ◌^◌, ◌++◌, List, pos, if◌then◌else◌, IfOk, IfSome, MatchOption, OnErr, OnOk, None, Some, length};
+ghost use Rattle.std.specs.Prelude.{drop, option_map, slice_get};
+ghost use Rattle.rational.specs.Rational.{Rational};
 ghost use Rattle.frac128.specs.Value.{value};
-ghost use Rattle.rational.specs.Extended.{value_at};
-ghost use Rattle.value_laws.specs.Margins.{margin_function};
-ghost use Rattle.pl_signal.specs.Knots.{stop as last_time};
+ghost use Rattle.frac128.specs.declared.frac.Frac.{Frac as Time};
 ghost use Rattle.pieces.specs.declared.piece.Piece.{Piece as Part};
-ghost use Rattle.pieces.specs.Chains.{HasShape as HasPieceShape, end, stop};
-ghost use Rattle.pieces.specs.Streaming.{before_time};
+ghost use Rattle.pieces.specs.declared.stream.Stream.{Stream as Over};
 ghost use Rattle.pieces.specs.Windows.{IsSmall};
 ghost use Rattle.online_robust.specs.Held.{Held};
-ghost use Rattle.online_robust.specs.Slides.{CanSlide, Course, DropsBy, HasBegun, HasGoneTo, HasRead, IsAddedTo, IsBestStretch, IsKeptBelow, IsOnWay};
+ghost use Rattle.online_robust.specs.Putting.{HasPut};
+ghost use Rattle.online_robust.specs.Slides.{CanSlide, Course, DropsBy, HasBegun, GoesOut, IsKeptBelow, IsOnWay};
 ghost use Rattle.online_robust.specs.Slides.{IsRefused, IsTakenIn, IsUnder};
-ghost use Rattle.online_robust.specs.Slides.{IsStretchOf, ReadsOn, Stays, WithPoint, back_offset, piece_of as piece_that, reach_of, slide_of};
-ghost use Rattle.online_robust.specs.Steps.{Step, Belongs, BelongsSomewhere, HasSwept, IsStreamedFault, IsSwept, StandsNow};
+ghost use Rattle.online_robust.specs.Slides.{ReadsOn, Stays, back_offset, piece_of as piece_that, reach_of, slide_of};
+ghost use Rattle.online_robust.specs.Steps.{Step, Belongs, BelongsSomewhere, GivesOut, IsStreamedFault};
+ghost use Rattle.online_robust.specs.ToldLines.{all_told, first_shape, lines_told, shape_at_end};
+ghost use Rattle.online_robust.specs.declared.line.MarginLine.{MarginLine as Line};
 ghost use Rattle.online_robust.specs.declared.operator.Operator.TheVariants as Op;
 ghost use Rattle.online_robust.specs.Refusing.{told_by};
 
 use crate::edges::Edges;
 use crate::line::MarginLine;
-use crate::room::Room;
+use crate::put::{put_pair, put_point};
 use frac128::{Cut, Frac, Memory};
 use pieces::{Piece, Pieces, Reach, Stream};
-use pl_signal::{Builder, Side, Signal, WidePair};
+use pl_signal::{Side, WidePair};
 use std::alloc::Global;
 use std::cmp::Ordering;
 use value_laws::Margin;
@@ -177,44 +175,39 @@ fn seen_under(high_in: bool, kept: &Option<Piece<Margin>>) -> Option<Margin>
     }
 }
 
-/// Goes on with a piece of what was told, which begins at a place, and with what stands at its end: `point` behind the last piece. A piece of
-/// one time is there already.
-fn add_piece(
-    built: &mut Builder<Margin>,
+/// Puts a piece of what was told from a time on, and the point at its end: `point` behind the last piece. Answers up to which time the edge
+/// goes now: a piece of one time is there already.
+#[inline(always)]
+fn put_piece(
+    edges: &mut Edges,
+    node: u32,
     told: &Pieces<Margin>,
     i: usize,
-    at: &Cut,
-    to: &Frac,
+    at: Frac,
     point: &Margin,
-) -> Result<(), Memory>
+) -> Result<Frac, Memory>
+    requires edge { node < length edges.old.edges }
     requires place { i < length told.now.pieces }
-    requires ends { Same (stop told.now) (before_time (value to.now)) }
-    requires here { value at.now.time ≈ last_time built.old }
-    requires within { IsWithin (2 ^ 34) (last_time built.old) }
-    ensures { OnOk result ((p : Part Margin) → slice_get told.now.pieces i ≡ Some p
-        → IsAddedTo told.now (value to.now) point.now (value at.now.time) p built.old built.new) }
+    ensures { IfOk result (λ end. (more : List Line) × HasPut node more edges.old edges.new
+        × (lines_told at (drop i told.now.pieces) point.now ≡ more ++ lines_told end (drop (i + 1) told.now.pieces) point.now)) }
 {
     let piece = told.piece(i);
-    match at.time.cmp(&piece.until.time) {
-        Ordering::Less => built.go_along(
-            &piece.shape,
-            &piece.until.time,
-            shape_behind(told, i, to, point),
-        ),
-        _ => Ok(()),
+    let end = &piece.until.time;
+    match at.cmp(end) {
+        Ordering::Less => {
+            let value = shape_behind(told, i, point);
+            put_pair(edges, node, &at, &piece.shape, end, value)?;
+            Ok(*end)
+        }
+        _ => Ok(at),
     }
 }
 
 /// A shape that has the value at the time at which a piece ends: of what was told, and behind it of the point.
-fn shape_behind<'a>(told: &'a Pieces<Margin>, i: usize, to: &Frac, point: &'a Margin) -> &'a Margin
-    requires place { i < length told.now.pieces }
-    requires ends { Same (stop told.now) (before_time (value to.now)) }
-    ensures shape { HasPieceShape told.now result.now ⊎ (result.now ≡ point.now) }
-    ensures worth { (p : Part Margin) → slice_get told.now.pieces i ≡ Some p
-        → WithPoint told.now (value to.now) point.now (end p).at (value_at (margin_function result.now) (end p).at) }
+fn shape_behind<'a>(told: &'a Pieces<Margin>, i: usize, point: &'a Margin) -> &'a Margin
+    requires { i < length told.now.pieces }
+    ensures { (p : Part Margin) → slice_get told.now.pieces i ≡ Some p → result.now ≡ shape_at_end p (drop (i + 1) told.now.pieces) point.now }
 {
-    // For the proof alone: to what time it was told.
-    let _ = to;
     let count = told.len();
     let piece = told.piece(i);
     if piece.until.side != 0 {
@@ -226,32 +219,52 @@ fn shape_behind<'a>(told: &'a Pieces<Margin>, i: usize, to: &Frac, point: &'a Ma
     point
 }
 
-/// What was told up to a time, with the point there, as a signal.
-fn stretch_of(
-    room: &mut Room,
-    told: &Pieces<Margin>,
-    to: &Frac,
-    point: &Margin,
-) -> Result<Signal<Margin>, Memory>
-    requires begins { told.now.from.after ≡ false }
-    requires ends { Same (stop told.now) (before_time (value to.now)) }
-    requires from_within { IsWithin (2 ^ 34) told.now.from.at }
-    requires to_within { IsWithin (2 ^ 34) (value to.now) }
-    requires order { AtMost told.now.from (stop told.now) }
-    ensures { IfOk result (IsStretchOf told.now (value to.now) point.now) }
+/// The margin where what was told begins; `point` where that is all.
+fn first_of(told: &Pieces<Margin>, point: &Margin) -> Margin
+    ensures { result ≡ first_shape told.now.pieces point.now }
 {
-    let count = told.len();
-    if count == 0 {
-        let built = room.start(*to, *point)?;
-        return Ok(built.finish());
+    if told.len() == 0 {
+        return *point;
     }
-    let mut at = told.from();
-    let mut built = room.start(at.time, told.piece(0).shape)?;
-    for i in 0..count {
-        add_piece(&mut built, told, i, &at, to, point)?;
-        at = told.piece(i).until;
+    told.piece(0).shape
+}
+
+/// Puts the gaps of what was told from a time on, each with the point that ends it, and `point` at the end of the last.
+fn put_gaps(
+    edges: &mut Edges,
+    node: u32,
+    told: &Pieces<Margin>,
+    from: Frac,
+    point: &Margin,
+) -> Result<(), Memory>
+    requires { node < length edges.old.edges }
+    ensures { OnOk result (HasPut node (lines_told from told.now.pieces point.now) edges.old edges.new) }
+{
+    let mut at = from;
+    for i in 0..told.len() {
+        at = put_piece(edges, node, told, i, at, point)?;
     }
-    Ok(built.finish())
+    Ok(())
+}
+
+/// Puts what was told, with the point at which it begins or without, and with `point` where it ends.
+fn put_told(
+    edges: &mut Edges,
+    node: u32,
+    told: &Pieces<Margin>,
+    point: &Margin,
+    with_first: bool,
+) -> Result<(), Memory>
+    requires { node < length edges.old.edges }
+    ensures { OnOk result ((at : Time) × (value at ≡ told.now.from.at)
+        × HasPut node (all_told with_first at told.now.pieces point.now) edges.old edges.new) }
+{
+    let at = told.from().time;
+    if with_first {
+        put_point(edges, node, at, first_of(told, point))?;
+        return put_gaps(edges, node, told, at, point);
+    }
+    put_gaps(edges, node, told, at, point)
 }
 
 /// Drops the lines at the front of an edge that end by a time.
@@ -267,24 +280,22 @@ fn drop_by(edges: &mut Edges, of: u32, limit: &Frac)
     }
 }
 
-/// The window goes on to a time: it meets what counts before, tells the best up to it, and drops what it needs no more.
+/// The window goes on to a time: it meets what counts before, tells the best up to it, drops what it needs no more, and puts what it told.
 fn go_to(
-    room: &mut Room,
     stream: &mut Stream<Margin>,
     kept: &mut Option<Piece<Margin>>,
     window: &Window,
     edges: &mut Edges,
+    node: u32,
     to: &Frac,
+    with_first: bool,
     fault: &mut Option<WidePair<Margin>>,
-) -> Result<Signal<Margin>, Memory>
+) -> Result<(), Memory>
     requires can { (x : Course) × (from : Rational) × CanSlide x from stream.old kept.old edges.old × (x.window ≡ window.now) × (x.to ≡ value to.now) }
+    requires edge { node < length edges.old.edges }
     requires unset { fault.old ≡ None }
-    ensures told { (x : Course) (from : Rational) → CanSlide x from stream.old kept.old edges.old → x.window ≡ window.now → x.to ≡ value to.now
-        → IfOk result (IsBestStretch x from) }
-    ensures on { (x : Course) (from : Rational) → CanSlide x from stream.old kept.old edges.old → x.window ≡ window.now → x.to ≡ value to.now
-        → OnOk result (HasGoneTo x stream.new kept.new edges.new) }
-    ensures kept { OnOk result (stream.new.way ≡ stream.old.way) }
-    ensures dropped { OnOk result (HasRead window.now.of edges.old (shifted (value to.now) (back_offset window.now)) edges.new) }
+    ensures gone { OnOk result
+        (GoesOut window.now (value to.now) node with_first stream.old kept.old edges.old stream.new kept.new edges.new) }
     ensures still { OnOk result (fault.new ≡ None) }
     ensures wide { (x : Course) (from : Rational) → CanSlide x from stream.old kept.old edges.old → x.window ≡ window.now → x.to ≡ value to.now
         → OnErr result (IfSome fault.new (IsRefused x)) }
@@ -295,9 +306,9 @@ fn go_to(
     stream.tell(to, fault)?;
     let point = stream.point(to, &seen_under(window.high_in, kept));
     drop_by(edges, window.of, &to.shift(window.back()));
-    let stretch = stretch_of(room, stream.told(), to, &point)?;
+    put_told(edges, node, stream.told(), &point, with_first)?;
     stream.restart();
-    Ok(stretch)
+    Ok(())
 }
 
 impl Slide {
@@ -312,59 +323,62 @@ impl Slide {
         }
     }
 
-    /// What goes over the input, which begins now if it has not before.
-    fn take(&mut self, alloc: Global, start: u32) -> Stream<Margin>
+    /// What goes over the input begins, if it has not before.
+    fn begin(&mut self, alloc: Global, start: u32)
         requires { IsSmall (reach_of self.old.window) }
-        ensures made { MatchOption self.old.stream (HasBegun self.old.window start result) (λ w. result ≡ w) }
-        ensures kept { self.new ≡ record self.old { stream = None } }
+        ensures { (w : Over Margin) × (self.new ≡ record self.old { stream = Some w })
+            × MatchOption self.old.stream (HasBegun self.old.window start w) (λ old. w ≡ old) }
     {
-        match self.stream.take() {
-            Some(stream) => stream,
-            None => Stream::begin(
-                alloc,
-                self.window.side,
-                self.window.reach(),
-                &Cut::before_whole(i64::from(start)),
-                &Cut::after_whole(4_294_967_295),
-            ),
+        if let Some(_going) = &self.stream {
+            return;
         }
+        self.stream = Some(Stream::begin(
+            alloc,
+            self.window.side,
+            self.window.reach(),
+            &Cut::before_whole(i64::from(start)),
+            &Cut::after_whole(4_294_967_295),
+        ));
     }
 
-    /// The margins of its node from where it stood, or from the start, on up to a number.
+    /// Puts the margins of its node from where it stood, or from the start, on up to a number onto the node's edge.
     ///
     /// # Errors
     ///
     /// As those of `Operator::sweep`.
     pub(crate) fn sweep(
         &mut self,
-        room: &mut Room,
+        alloc: Global,
         edges: &mut Edges,
+        node: u32,
         to: u32,
+        with_first: bool,
         fault: &mut Option<WidePair<Margin>>,
-    ) -> Result<Signal<Margin>, Memory>
+    ) -> Result<(), Memory>
         requires can { BelongsSomewhere (Op.Slide self.old) edges.old to }
+        requires edge { node < length edges.old.edges }
         requires unset { fault.old ≡ None }
-        ensures told { (t : Step) → Belongs t (Op.Slide self.old) edges.old to → IfOk result (IsSwept t to) }
-        ensures edges { (t : Step) → Belongs t (Op.Slide self.old) edges.old to → OnOk result (HasSwept t edges.old edges.new to) }
-        ensures stands { (t : Step) → Belongs t (Op.Slide self.old) edges.old to → OnOk result (StandsNow t (Op.Slide self.new) edges.new to) }
+        ensures out { OnOk result (GivesOut node with_first (Op.Slide self.old) to edges.old (Op.Slide self.new) edges.new) }
         ensures still { OnOk result (fault.new ≡ None) }
         ensures wide { (t : Step) → Belongs t (Op.Slide self.old) edges.old to → OnErr result (IsStreamedFault t (told_by fault.new)) }
     {
         let Some(start) = edges.start() else {
             unreachable!()
         };
-        let mut stream = self.take(room.alloc, start);
+        self.begin(alloc, start);
+        let Some(stream) = &mut self.stream else {
+            unreachable!()
+        };
         let end = Frac::of(i64::from(to));
-        let swept = go_to(
-            room,
-            &mut stream,
+        go_to(
+            stream,
             &mut self.kept,
             &self.window,
             edges,
+            node,
             &end,
+            with_first,
             fault,
-        )?;
-        self.stream = Some(stream);
-        Ok(swept)
+        )
     }
 }

@@ -5,7 +5,6 @@ ghost use Rattle.stl_syntax.specs.Trace.{Header};
 ghost use Rattle.stl_syntax.specs.declared.node.Node.{Node as ANode};
 ghost use Rattle.online_nodes.specs.StreamedWide.{IsUnstreamed};
 ghost use Rattle.online_robust.specs.Steps.{IsLeaf};
-ghost use Rattle.online_robust.specs.Putting.{lines_of, HasPutOut};
 ghost use Rattle.online_robust.specs.Moving.{Move, CanGiveOut, CanGoTo, CanMoveByRow, CanMoveByEnd, HasMoved, IsFaultOf};
 ghost use Rattle.online_robust.specs.Firsts.{IsFirstWork};
 ghost use Rattle.online_robust.specs.declared.station.Work.TheVariants as W;
@@ -13,11 +12,11 @@ ghost use Rattle.online_robust.specs.Refusing.{told_by};
 
 use crate::edges::Edges;
 use crate::operator::Operator;
-use crate::put::{put_atom, put_const, put_signal};
+use crate::put::{put_atom, put_const};
 use crate::room::Room;
 use atom_lines::Bound;
 use frac128::Memory;
-use pl_signal::{Signal, WidePair};
+use pl_signal::WidePair;
 use stl_syntax::Node;
 use trace_reader::Row;
 use value_laws::Margin;
@@ -91,22 +90,6 @@ fn was_shown(number: Option<i64>, start: u32) -> bool
     }
 }
 
-/// Puts the parts of a signal onto an edge, and notes up to where they go.
-fn put_out(
-    edges: &mut Edges,
-    node: u32,
-    s: &Signal<Margin>,
-    with_first: bool,
-    to: u32,
-) -> Result<(), Memory>
-    requires { node < length edges.old.edges }
-    ensures { OnOk result (HasPutOut node (lines_of with_first s.now) to edges.old edges.new) }
-{
-    put_signal(edges, node, s, with_first)?;
-    edges.reach(node, i64::from(to));
-    Ok(())
-}
-
 /// An operator gives out its margins from the number at which it stood, or from the start, on up to another.
 fn give_out(
     room: &mut Room,
@@ -124,16 +107,9 @@ fn give_out(
     ensures still { OnOk result (fault.new ≡ None) }
     ensures fault { (m : Move) → CanGiveOut m node operator.old edges.old to with_first → OnErr result (IsFaultOf m (told_by fault.new)) }
 {
-    match operator.sweep(room, edges, to, fault) {
-        Ok(swept) => {
-            let Ok(()) = put_out(edges, node, &swept, with_first, to) else {
-                return Err(Memory);
-            };
-            room.keep(swept);
-            Ok(())
-        }
-        Err(Memory) => Err(Memory),
-    }
+    operator.sweep(room, edges, node, to, with_first, fault)?;
+    edges.reach(node, i64::from(to));
+    Ok(())
 }
 
 /// An operator goes on to a number: where that is not below the start, and above the number at which it stood, it gives out its margins

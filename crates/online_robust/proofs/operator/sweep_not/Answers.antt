@@ -1,4 +1,4 @@
-use Rattle.std.proofs.Common.{rules, ◌≡◌, ap, pos, to_z, of_z, subst}
+use Rattle.std.proofs.Common.{rules, ◌≡◌, ◌<◌, ap, pos, sym, to_z, of_z, subst}
 use Rattle.std.specs.Int.{w64}
 use Rattle.std.proofs.lemmas.Int.{to_z-of_z}
 use Rattle.rational.specs.Rational.{◌≈◌, whole}
@@ -9,29 +9,29 @@ use Rattle.online_robust.proofs.operator.sweep_not.Goals as goal
 
 pub sweep-requires : goal.sweep-requires
 sweep-requires c =
-    let (t, b) = c.requires in
-    let to : to_z w64 (of_z w64 c.from.result) ≡ pos c.args.to = search (rules, to_z-of_z) in
+    let (t, b) = c.requires.can in
+    let to : to_z w64 (of_z w64 c.from.result) ≡ pos c.args.to = search rules in
     let end : value c.of-end.result ≈ whole (pos c.args.to) = subst (λ n. value c.of-end.result ≈ whole n) to c.of-end.ensures.value in
     (not_couple t c.args.not.now c.args.edges.now c.args.to b, can_negate t c.args.not.now c.args.edges.now c.args.to b, end)
 
-pub returns-in-Ok-clause-told : goal.returns-in-Ok-clause-told
-returns-in-Ok-clause-told c = λ t b.
-    let to : to_z w64 (of_z w64 c.from.result) ≡ pos c.args.to = search (rules, to_z-of_z) in
-    let end : value c.of-end.result ≈ whole (pos c.args.to) = subst (λ n. value c.of-end.result ≈ whole n) to c.of-end.ensures.value in
-    not_told t c.args.not.now c.args.edges.now c.args.to b c.in-Ok.swept
-    (c.in-Ok.ensures.told (not_couple t c.args.not.now c.args.edges.now c.args.to b) (can_negate t c.args.not.now c.args.edges.now c.args.to b) end)
+pub put_signal-requires : goal.put_signal-requires
+put_signal-requires c = subst (λ n. c.args.node < n) (sym c.in_ok-swept.ensures.lost.edges) c.requires.edge
 
-pub returns-in-Ok-clause-edges : goal.returns-in-Ok-clause-edges
-returns-in-Ok-clause-edges c = λ t b.
-    let to : to_z w64 (of_z w64 c.from.result) ≡ pos c.args.to = search (rules, to_z-of_z) in
+pub returns : goal.returns
+returns c =
+    let to : to_z w64 (of_z w64 c.from.result) ≡ pos c.args.to = search rules in
     let end : value c.of-end.result ≈ whole (pos c.args.to) = subst (λ n. value c.of-end.result ≈ whole n) to c.of-end.ensures.value in
-    not_edges t c.args.not.now c.args.edges.now c.args.to b c.sweep.new.edges (value c.of-end.result) end c.in-Ok.ensures.lost
-    (c.in-Ok.ensures.ahead (not_couple t c.args.not.now c.args.edges.now c.args.to b) (can_negate t c.args.not.now c.args.edges.now c.args.to b) end)
-
-pub returns-in-Ok-clause-stands : goal.returns-in-Ok-clause-stands
-returns-in-Ok-clause-stands c = λ t b.
-    let to : to_z w64 (of_z w64 c.from.result) ≡ pos c.args.to = search (rules, to_z-of_z) in
-    let end : value c.of-end.result ≈ whole (pos c.args.to) = subst (λ n. value c.of-end.result ≈ whole n) to c.of-end.ensures.value in
-    not_stands t c.args.not.now c.args.edges.now c.args.to b c.sweep.new.self c.sweep.new.edges
-    (ap (λ (y : Own.Not). y.of) c.sweep.ensures.kept) c.in-Ok.ensures.some
-    (c.in-Ok.ensures.reached (not_couple t c.args.not.now c.args.edges.now c.args.to b) (can_negate t c.args.not.now c.args.edges.now c.args.to b) end)
+    let not = c.args.not.now in
+    let e = c.args.edges.now in
+    let ens = c.in_ok-swept.ensures in
+    record {
+      swept = c.in_ok-swept.swept;
+      between = c.sweep.new.edges;
+      told = λ t b. not_told t not e c.args.to b c.in_ok-swept.swept
+          (ens.told (not_couple t not e c.args.to b) (can_negate t not e c.args.to b) end);
+      edges = λ t b. not_edges t not e c.args.to b c.sweep.new.edges (value c.of-end.result) end ens.lost
+          (ens.ahead (not_couple t not e c.args.to b) (can_negate t not e c.args.to b) end);
+      stands = λ t b. not_stands t not e c.args.to b c.sweep.new.self c.sweep.new.edges (ap (λ (y : Own.Not). y.of) c.sweep.ensures.kept) ens.some
+          (ens.reached (not_couple t not e c.args.to b) (can_negate t not e c.args.to b) end);
+      put = c.in_ok-put_signal.ensures;
+    }

@@ -26,13 +26,16 @@ use Rattle.pieces.specs.Windows.{BestOver}
 use Rattle.pieces.proofs.ChainLemmas.{to_stop}
 use Rattle.pieces.proofs.Shifts.{fits}
 use Rattle.online_robust.specs.Held.{Held}
+use Rattle.online_robust.specs.Putting.{HasPut}
 use Rattle.online_robust.specs.Slides.{CanSlide, Course, DropsBy, IsOnWay, IsRefused, IsStretchOf, IsTakenIn, IsUnder}
 use Rattle.online_robust.specs.Slides.{after_time, back_offset}
+use Rattle.online_robust.specs.ToldLines.{all_told}
 use Rattle.online_robust.specs.declared.slide.Window.{Window}
 use Rattle.online_robust.proofs.Builts.{tick_between, tick_within}
 use Rattle.online_robust.proofs.SlideCuts.{read_drops, reads_both}
 use Rattle.online_robust.proofs.SlideGone.{all_under, follows_under, gone, has_all, next_seen, none_early, read_same}
 use Rattle.online_robust.proofs.SlideRefused.{some_of_none, tell_refused}
+use Rattle.online_robust.proofs.SlideStretch.{told_stretch}
 use Rattle.online_robust.proofs.SlideTelling.{best_told}
 use Rattle.online_robust.proofs.slide.go_to.Goals.{After-read_under, In_ok-tell}
 use Rattle.online_robust.proofs.slide.go_to.Goals as goal
@@ -190,12 +193,6 @@ module _ (c : In_ok-tell) (x : Course) (from : Rational) (can : CanSlide x from 
   begun = same_trans_places told_up_to.begins (subst (λ d. Same d (before_time from))
       (sym (c.in_ok-take_in.ensures.kept.from ∙ c.in_ok-meet_kept.ensures.kept.from ∙ ap (λ (o : Chain Margin). o.from) can.out)) can.told)
 
-  from_within : IsWithin (2 ^ 34) c.tell.new.self.sliding.out.from.at
-  from_within = within_same (2 ^ 34) (same_sym begun.0) (tick_within (tick_between can.from_tick can.to_tick can.first can.order))
-
-  to_within : IsWithin (2 ^ 34) (value c.args.to.now)
-  to_within = subst (IsWithin (2 ^ 34)) to (tick_within can.to_tick)
-
 pub point-point-requires-clause-seen : goal.point-point-requires-clause-seen
 point-point-requires-clause-seen c =
     let (x, from, can, window, to) = c.requires.can in
@@ -225,85 +222,58 @@ drop_by-requires c =
     let k = (goal.at.drop_by-requires c).In_ok-tell in
     subst (λ n. n < length c.read_under.new.edges.edges) (ap (λ (w : Window). w.of) window) (under k x from can window to).0.within
 
-pub stretch_of-requires-clause-begins : goal.stretch_of-requires-clause-begins
-stretch_of-requires-clause-begins c =
-    let (x, from, can, window, to) = c.requires.can in
-    let k = (goal.at.stretch_of-requires-clause-begins c).In_ok-tell in
-    subst (λ (o : Chain Margin). o.from.after ≡ false) (sym c.told.ensures) (begun k x from can window to).1
+pub put_told-requires : goal.put_told-requires
+put_told-requires c =
+    subst (λ n. c.args.node < n) (sym (c.drop_by.ensures.lost.edges ∙ (reads_both c.in_ok-take_in.ensures.read c.read_under.ensures.read).edges))
+    c.requires.edge
 
-pub stretch_of-requires-clause-ends : goal.stretch_of-requires-clause-ends
-stretch_of-requires-clause-ends c =
-    let (x, from, can, window, to) = c.requires.can in
-    let k = (goal.at.stretch_of-requires-clause-ends c).In_ok-tell in
-    subst (λ (o : Chain Margin). Same (stop o) (before_time (value c.args.to.now))) (sym c.told.ensures) (is_at k x from can window to).at
+pub returns-in_err-put_told-clause-wide : goal.returns-in_err-put_told-clause-wide
+returns-in_err-put_told-clause-wide c x from can window to =
+    on_err_anyway c.from_residual-in_err-put_told.result (some_of_none c.tell.new.fault (IsRefused x) c.in_ok-tell.ensures.still)
 
-pub stretch_of-requires-clause-from_within : goal.stretch_of-requires-clause-from_within
-stretch_of-requires-clause-from_within c =
-    let (x, from, can, window, to) = c.requires.can in
-    let k = (goal.at.stretch_of-requires-clause-from_within c).In_ok-tell in
-    subst (λ (o : Chain Margin). IsWithin (2 ^ 34) o.from.at) (sym c.told.ensures) (from_within k x from can window to)
-
-pub stretch_of-requires-clause-to_within : goal.stretch_of-requires-clause-to_within
-stretch_of-requires-clause-to_within c =
-    let (x, from, can, window, to) = c.requires.can in
-    to_within (goal.at.stretch_of-requires-clause-to_within c).In_ok-tell x from can window to
-
-pub stretch_of-requires-clause-order : goal.stretch_of-requires-clause-order
-stretch_of-requires-clause-order c =
-    let (x, from, can, window, to) = c.requires.can in
-    let k = (goal.at.stretch_of-requires-clause-order c).In_ok-tell in
-    let out = c.tell.new.self.sliding.out in
-    subst (λ (o : Chain Margin). AtMost o.from (stop o)) (sym c.told.ensures) (to_stop out.from out.pieces (told_up_to k x from can window to).normal.rising)
-
-pub returns-in_err-stretch-clause-wide : goal.returns-in_err-stretch-clause-wide
-returns-in_err-stretch-clause-wide c x from can window to =
-    on_err_anyway c.from_residual-in_err-stretch.result (some_of_none c.tell.new.fault (IsRefused x) c.in_ok-tell.ensures.still)
-
-pub returns-clause-told : goal.returns-clause-told
-returns-clause-told c x from can window to =
-    let k = (goal.at.returns-clause-told c).In_ok-tell in
-    let u = under k x from can window to in
-    let w = c.take_in.new.stream in
+pub returns-clause-gone : goal.returns-clause-gone
+returns-clause-gone c =
+    let k = (goal.at.returns-clause-gone c).In_ok-tell in
+    let (some, since, may, its, there) = c.requires.can in
     let told = c.tell.new.self in
     let point = c.point-point.result in
-    let ks = c.in_ok-stretch.stretch in
-    let line = chain k x from can window to in
-    let at = is_at k x from can window to in
-    let seen = subst (λ o. IsNextSeen margin_shape line told (value c.args.to.now) o) (sym c.seen_under.ensures) (next k x from can window to) in
-    let there = c.point-point.ensures.value line at seen in
-    let is = subst (λ (o : Chain Margin). IsStretchOf o (value c.args.to.now) point ks) c.told.ensures c.in_ok-stretch.ensures in
-    best_told x w told u.0.way line u.0.is_whole c.in_ok-tell.ensures.way from point ks
-    (subst (λ t. Tells margin_shape (BestOver margin_shape line w.way.over w.way.side) w.sliding.out.from (before_time t) told.sliding.out) (sym to)
-    (told_up_to k x from can window to))
-    (c.in_ok-tell.ensures.bases line (known k x from can window to) (has k x from can window to))
-    (subst (λ t. BestOver margin_shape line told.way.over told.way.side t (value_at (margin_function point) t)) (sym to) there)
-    (c.point-point.ensures.base line at seen) (subst (λ t. IsStretchOf told.sliding.out t point ks) (sym to) is) (begun k x from can window to).0
-
-pub returns-clause-on : goal.returns-clause-on
-returns-clause-on c x from can window to =
-    let u = under (goal.at.returns-clause-on c).In_ok-tell x from can window to in
-    let w = c.take_in.new.stream in
-    let told = c.tell.new.self in
-    let tells = c.in_ok-tell.ensures in
-    let again = c.restart.ensures in
-    let passed = back_passed x from c.args.stream.now c.args.kept.now c.args.edges.now c.args.window.now c.back.result can window c.back.ensures in
-    gone x w c.read_under.result c.read_under.new.edges u.0 u.1 u.2 told c.restart.new.self c.drop_by.new.edges (value c.shift.result)
-    (λ line known all. subst (IsAt margin_shape line told) (sym to) (tells.at line known (subst (HasAll margin_shape line w) to all)))
-    again.follows (again.way ∙ tells.way) (again.met ∙ tells.met) again.told
-    (subst (λ n. DropsBy (value c.shift.result) n c.read_under.new.edges c.drop_by.new.edges) (sym (ap (λ (v : Window). v.of) window)) c.drop_by.ensures)
-    (subst (λ t. value c.shift.result ≈ shifted t (back_offset x.window)) (sym to)
-    (subst (λ (v : Window). value c.shift.result ≈ shifted (value c.args.to.now) (back_offset v)) (sym window) (limit_is (value c.args.to.now)
-    (back_offset c.args.window.now) (to_z w64 (of_z w64 c.back.result)) (value c.shift.result) (passed.1 ∙ c.back.ensures) c.shift.ensures.value)))
-
-pub returns-clause-kept : goal.returns-clause-kept
-returns-clause-kept c =
-    c.restart.ensures.way ∙ c.in_ok-tell.ensures.way ∙ c.in_ok-take_in.ensures.kept.way ∙ c.in_ok-meet_kept.ensures.kept.way
-
-pub returns-clause-dropped : goal.returns-clause-dropped
-returns-clause-dropped c =
-    let (x, from, can, window, to) = c.requires.can in
-    let passed = back_passed x from c.args.stream.now c.args.kept.now c.args.edges.now c.args.window.now c.back.result can window c.back.ensures in
-    read_same (value c.shift.result) (shifted (value c.args.to.now) (back_offset c.args.window.now))
-    (limit_is (value c.args.to.now) (back_offset c.args.window.now) (to_z w64 (of_z w64 c.back.result)) (value c.shift.result)
-    (passed.1 ∙ c.back.ensures) c.shift.ensures.value)
-    (read_drops (reads_both c.in_ok-take_in.ensures.read c.read_under.ensures.read) c.drop_by.ensures)
+    let (at, begins, put) = c.in_ok-put_told.ensures in
+    let (ks, lines, is) = told_stretch told.sliding.out (value c.args.to.now) point at c.args.with_first (told_up_to k some since may its there).normal
+    (begun k some since may its there).1 (is_at k some since may its there).at (begins ∙ ap (λ (o : Chain Margin). o.from.at) c.told.ensures) in
+    record {
+      swept = ks;
+      between = c.drop_by.new.edges;
+      told = λ x from can window to.
+          let line = chain k x from can window to in
+          let seen = subst (λ o. IsNextSeen margin_shape line told (value c.args.to.now) o) (sym c.seen_under.ensures) (next k x from can window to) in
+          let w = c.take_in.new.stream in
+          best_told x w told (under k x from can window to).0.way line (under k x from can window to).0.is_whole c.in_ok-tell.ensures.way from point ks
+          (subst (λ t. Tells margin_shape (BestOver margin_shape line w.way.over w.way.side) w.sliding.out.from (before_time t) told.sliding.out) (sym to)
+          (told_up_to k x from can window to))
+          (c.in_ok-tell.ensures.bases line (known k x from can window to) (has k x from can window to))
+          (subst (λ t. BestOver margin_shape line told.way.over told.way.side t (value_at (margin_function point) t)) (sym to)
+          (c.point-point.ensures.value line (is_at k x from can window to) seen))
+          (c.point-point.ensures.base line (is_at k x from can window to) seen) (subst (λ t. IsStretchOf told.sliding.out t point ks) (sym to) is)
+          (begun k x from can window to).0;
+      gone = λ x from can window to.
+          let u = under k x from can window to in
+          let w = c.take_in.new.stream in
+          let tells = c.in_ok-tell.ensures in
+          let again = c.restart.ensures in
+          let passed = back_passed x from c.args.stream.now c.args.kept.now c.args.edges.now c.args.window.now c.back.result can window c.back.ensures in
+          gone x w c.read_under.result c.read_under.new.edges u.0 u.1 u.2 told c.restart.new.self c.drop_by.new.edges (value c.shift.result)
+          (λ line known all. subst (IsAt margin_shape line told) (sym to) (tells.at line known (subst (HasAll margin_shape line w) to all)))
+          again.follows (again.way ∙ tells.way) (again.met ∙ tells.met) again.told
+          (subst (λ n. DropsBy (value c.shift.result) n c.read_under.new.edges c.drop_by.new.edges) (sym (ap (λ (v : Window). v.of) window)) c.drop_by.ensures)
+          (subst (λ t. value c.shift.result ≈ shifted t (back_offset x.window)) (sym to)
+          (subst (λ (v : Window). value c.shift.result ≈ shifted (value c.args.to.now) (back_offset v)) (sym window) (limit_is (value c.args.to.now)
+          (back_offset c.args.window.now) (to_z w64 (of_z w64 c.back.result)) (value c.shift.result) (passed.1 ∙ c.back.ensures) c.shift.ensures.value)));
+      way = c.restart.ensures.way ∙ c.in_ok-tell.ensures.way ∙ c.in_ok-take_in.ensures.kept.way ∙ c.in_ok-meet_kept.ensures.kept.way;
+      read = read_same (value c.shift.result) (shifted (value c.args.to.now) (back_offset c.args.window.now))
+          (limit_is (value c.args.to.now) (back_offset c.args.window.now) (to_z w64 (of_z w64 c.back.result)) (value c.shift.result)
+          ((back_passed some since c.args.stream.now c.args.kept.now c.args.edges.now c.args.window.now c.back.result may its c.back.ensures).1
+          ∙ c.back.ensures) c.shift.ensures.value)
+          (read_drops (reads_both c.in_ok-take_in.ensures.read c.read_under.ensures.read) c.drop_by.ensures);
+      put = subst (λ l. HasPut c.args.node l c.drop_by.new.edges c.put_told.new.edges)
+          (ap (λ (o : Chain Margin). all_told c.args.with_first at o.pieces point) c.told.ensures ∙ sym lines) put;
+    }

@@ -1,30 +1,34 @@
+use Rattle.std.proofs.Common.{rules, ◌≡◌, ◌∙◌, ap, pos, to_z, of_z, subst}
+use Rattle.std.specs.Int.{w64}
+use Rattle.std.proofs.lemmas.Int.{to_z-of_z}
+use Rattle.rational.proofs.Lists.{on_err_anyway}
+use Rattle.online_robust.specs.Held.{edge_at, with_edge, with_number}
 use Rattle.online_robust.specs.Moving.{IsFaultOf}
+use Rattle.online_robust.specs.Putting.{lines_of}
 use Rattle.online_robust.specs.Refusing.{told_by}
-use Rattle.online_robust.proofs.Refusing.{memory_told}
-use Rattle.online_robust.proofs.Stationing.{given_out, swept_edge, swept_fault, swept_turn}
+use Rattle.online_robust.proofs.LinesPut.{put_within}
+use Rattle.online_robust.proofs.Stationing.{given_out, given_within, swept_fault, swept_turn, turn_edge}
 use Rattle.online_robust.proofs.station.give_out.Goals as goal
 
 pub sweep-requires-clause-can : goal.sweep-requires-clause-can
 sweep-requires-clause-can c = let (m, g) = c.requires.can in swept_turn m c.args.node c.args.operator.now c.args.edges.now c.args.to c.args.with_first g
 
-pub put_out-requires : goal.put_out-requires
-put_out-requires c =
+pub sweep-requires-clause-edge : goal.sweep-requires-clause-edge
+sweep-requires-clause-edge c = let (m, g) = c.requires.can in turn_edge m c.args.node c.args.operator.now c.args.edges.now c.args.to c.args.with_first g
+
+pub reach-requires : goal.reach-requires
+reach-requires c =
     let (m, g) = c.requires.can in
-    swept_edge m c.args.node c.args.operator.now c.args.edges.now c.args.to c.args.with_first g c.sweep.new.edges c.in-Ok.ensures.edges
+    given_within m c.args.node c.args.operator.now c.args.edges.now c.args.to c.args.with_first g c.sweep.new.self c.sweep.new.edges c.in_ok-sweep.ensures.out
 
-pub returns-in-Ok-put_out-clause-moved : goal.returns-in-Ok-put_out-clause-moved
-returns-in-Ok-put_out-clause-moved c = λ m g.
-    let (e, put, is) = c.in-Ok-put_out.ensures in
-    given_out m c.args.node c.args.operator.now c.args.edges.now c.args.to c.args.with_first g c.in-Ok.swept c.sweep.new.self
-    c.sweep.new.edges e c.put_out.new.edges
-    c.in-Ok.ensures.told c.in-Ok.ensures.edges c.in-Ok.ensures.stands put is
+pub returns-clause-moved : goal.returns-clause-moved
+returns-clause-moved c = λ m g.
+    let to : to_z w64 (of_z w64 c.from.result) ≡ pos c.args.to = search rules in
+    let e = c.sweep.new.edges in
+    given_out m c.args.node c.args.operator.now c.args.edges.now c.args.to c.args.with_first g c.sweep.new.self e c.in_ok-sweep.ensures.out
+    c.reach.new.self (c.reach.ensures ∙ ap (λ n. record e { edges = with_edge e c.args.node (with_number (edge_at e c.args.node) n) }) to)
 
-pub returns-in-Err-clause-fault : goal.returns-in-Err-clause-fault
-returns-in-Err-clause-fault c = λ m g.
-    swept_fault m c.args.node c.args.operator.now c.args.edges.now c.args.to c.args.with_first g (told_by c.sweep.new.fault) c.in-Err.ensures.wide
-
-pub returns-in_default-clause-fault : goal.returns-in_default-clause-fault
-returns-in_default-clause-fault c = λ m g. memory_told (IsFaultOf m) c.sweep.new.fault c.in-Ok.ensures.still tt
-
-pub returns-in-Ok-put_out-clause-still : goal.returns-in-Ok-put_out-clause-still
-returns-in-Ok-put_out-clause-still c = c.in-Ok.ensures.still
+pub returns-in_err-sweep-clause-fault : goal.returns-in_err-sweep-clause-fault
+returns-in_err-sweep-clause-fault c = λ m g.
+    on_err_anyway c.from_residual.result (swept_fault m c.args.node c.args.operator.now c.args.edges.now c.args.to c.args.with_first g (told_by c.sweep.new.fault)
+    c.in_err-sweep.ensures.wide)

@@ -5,7 +5,7 @@ use Rattle.std.proofs.lemmas.Int.{to_z-of_z}
 use Rattle.std.proofs.lemmas.Option.{same_Some}
 use Rattle.rational.specs.Rational.{◌≈◌, whole}
 use Rattle.rational.specs.Time.{shifted}
-use Rattle.rational.proofs.Lists.{on_err_anyway}
+use Rattle.std.proofs.lemmas.Result.{on_err_weaker, on_ok_weaker}
 use Rattle.frac128.specs.Value.{value}
 use Rattle.online_robust.specs.Slides.{CanSlide, Course, HasBegun, HasRead, back_offset}
 use Rattle.online_robust.specs.Steps.{Belongs, IsStreamedFault, Step, StandsNow, begin_of, from_of}
@@ -23,15 +23,20 @@ unreachable-requires c =
     let (t, b) = c.requires.can in
     let e : ◌≡◌ {A = Option _} (Some (begin_of t)) None = sym b.start ∙ sym c.start.ensures ∙ c.in_default.is in absurd (let z = e in cc)
 
-pub take-stream-requires : goal.take-stream-requires
-take-stream-requires c =
+pub begin-requires : goal.begin-requires
+begin-requires c =
     let (t, b) = c.requires.can in
     small t c.args.self.now c.args.edges.now c.args.to b
+
+pub unreachable-requires-in_default-stream : goal.unreachable-requires-in_default-stream
+unreachable-requires-in_default-stream c =
+    let e : ◌≡◌ {A = Option _} (Some c.begin.ensures.0) None = sym (ap (λ (y : Slide). y.stream) c.begin.ensures.1) ∙ c.in_default-stream.is in
+    absurd (let z = e in cc)
 
 -- it goes on to the number
 ends : (c : After-of-end) → value c.of-end.result ≈ whole (pos c.args.to)
 ends c =
-    let to : to_z w64 (of_z w64 c.from.result) ≡ pos c.args.to = search (rules, to_z-of_z) in
+    let to : to_z w64 (of_z w64 c.from.result) ≡ pos c.args.to = search rules in
     subst (λ n. value c.of-end.result ≈ whole n) to c.of-end.ensures.value
 
 module _ (c : After-of-end) (t : Step) (b : Belongs t (Op.Slide c.args.self.now) c.args.edges.now c.args.to) where
@@ -39,20 +44,25 @@ module _ (c : After-of-end) (t : Step) (b : Belongs t (Op.Slide c.args.self.now)
   first : c.in-Some.start ≡ begin_of t
   first = same_Some _ _ (sym c.in-Some.is ∙ c.start.ensures ∙ b.start)
 
-  -- what goes over the input may go on
-  now : Slides t c.args.self.now c.args.edges.now c.args.to b c.take-stream.result (value c.of-end.result)
-  now = may_slide t c.args.self.now c.args.edges.now c.args.to b (value c.of-end.result) (ends c) c.take-stream.result
-      (subst (λ (n : ℕ). MatchOption c.args.self.now.stream (HasBegun c.args.self.now.window n c.take-stream.result)
-      (λ s. c.take-stream.result ≡ s)) first c.take-stream.ensures.made)
+  -- what goes over the input
+  stream_is : c.in-Some-stream.stream ≡ c.begin.ensures.0
+  stream_is = same_Some _ _ (sym c.in-Some-stream.is ∙ ap (λ (y : Slide). y.stream) c.begin.ensures.1)
+
+  -- it may go on
+  now : Slides t c.args.self.now c.args.edges.now c.args.to b c.in-Some-stream.stream (value c.of-end.result)
+  now = may_slide t c.args.self.now c.args.edges.now c.args.to b (value c.of-end.result) (ends c) c.in-Some-stream.stream
+      (subst (λ (n : ℕ). MatchOption c.args.self.now.stream (HasBegun c.args.self.now.window n c.in-Some-stream.stream)
+      (λ s. c.in-Some-stream.stream ≡ s)) first
+      (subst (λ w. MatchOption c.args.self.now.stream (HasBegun c.args.self.now.window c.in-Some.start w) (λ s. w ≡ s)) (sym stream_is) c.begin.ensures.2))
 
   abbrev x : Course
   x = course_of t c.args.self.now c.args.edges.now c.args.to b (value c.of-end.result) now.from
 
-  window : x.window ≡ c.take-stream.new.self.window
-  window = sym (ap (λ (y : Slide). y.window) c.take-stream.ensures.kept)
+  window : x.window ≡ c.begin.new.self.window
+  window = sym (ap (λ (y : Slide). y.window) c.begin.ensures.1)
 
-  can : CanSlide x (from_of t) c.take-stream.result c.take-stream.new.self.kept c.args.edges.now
-  can = subst (λ k. CanSlide x (from_of t) c.take-stream.result k c.args.edges.now) (sym (ap (λ (y : Slide). y.kept) c.take-stream.ensures.kept)) now.can
+  can : CanSlide x (from_of t) c.in-Some-stream.stream c.begin.new.self.kept c.args.edges.now
+  can = subst (λ k. CanSlide x (from_of t) c.in-Some-stream.stream k c.args.edges.now) (sym (ap (λ (y : Slide). y.kept) c.begin.ensures.1)) now.can
 
 pub go_to-requires-clause-can : goal.go_to-requires-clause-can
 go_to-requires-clause-can c =
@@ -60,34 +70,32 @@ go_to-requires-clause-can c =
     let a = (goal.at.go_to-requires-clause-can c).After-of-end in
     (x a t b, from_of t, can a t b, window a t b, refl)
 
-pub returns-in_err-swept-clause-wide : goal.returns-in_err-swept-clause-wide
-returns-in_err-swept-clause-wide c t b =
-    let a = (goal.at.returns-in_err-swept-clause-wide c).After-of-end in
+pub returns-clause-wide : goal.returns-clause-wide
+returns-clause-wide c t b =
+    let a = (goal.at.returns-clause-wide c).After-of-end in
     let z = c.args.self.now in
     let e = c.args.edges.now in
-    on_err_anyway c.from_residual.result (each_told (IsStreamedFault t) c.go_to.new.fault tt
-    (c.in_err-swept.ensures.wide (x a t b) (from_of t) (can a t b) (window a t b) refl)
-    (slide_cause t z e c.args.to b (value c.of-end.result) (now a t b).from (ends a)))
+    on_err_weaker c.go_to.result
+    (λ wide. each_told (IsStreamedFault t) c.go_to.new.fault tt wide (slide_cause t z e c.args.to b (value c.of-end.result) (now a t b).from (ends a)))
+    (c.go_to.ensures.wide (x a t b) (from_of t) (can a t b) (window a t b) refl)
 
-pub returns-clause-told : goal.returns-clause-told
-returns-clause-told c t b =
-    let a = (goal.at.returns-clause-told c).After-of-end in
-    slide_told t c.args.self.now c.args.edges.now c.args.to b (value c.of-end.result) (now a t b).from (ends a) c.in_ok-swept.swept
-    (c.in_ok-swept.ensures.told (x a t b) (from_of t) (can a t b) (window a t b) refl)
-
-pub returns-clause-edges : goal.returns-clause-edges
-returns-clause-edges c t b =
-    let a = (goal.at.returns-clause-edges c).After-of-end in
-    slide_edges t c.args.self.now c.args.edges.now c.args.to b (value c.of-end.result) (ends a) c.go_to.new.edges
-    (subst (λ (w : Window). HasRead w.of c.args.edges.now (shifted (value c.of-end.result) (back_offset w)) c.go_to.new.edges) (sym (window a t b))
-    c.in_ok-swept.ensures.dropped)
-
-pub returns-clause-stands : goal.returns-clause-stands
-returns-clause-stands c t b =
-    let a = (goal.at.returns-clause-stands c).After-of-end in
-    let ens = c.in_ok-swept.ensures in
+pub returns-clause-out : goal.returns-clause-out
+returns-clause-out c =
+    let a = (goal.at.returns-clause-out c).After-of-end in
+    let z = c.args.self.now in
+    let e = c.args.edges.now in
+    let end = value c.of-end.result in
     let new = c.go_to.new in
-    subst (λ (w : Window). StandsNow t (Op.Slide (record { window = w; stream = Some new.stream; kept = new.kept })) new.edges c.args.to)
-    (window a t b)
-    (slide_stands t c.args.self.now c.args.edges.now c.args.to b (value c.of-end.result) (ends a) (now a t b).from c.take-stream.result c.go_to.new.stream
-    c.go_to.new.kept c.go_to.new.edges (now a t b).can ens.kept (ens.on (x a t b) (from_of t) (can a t b) (window a t b) refl))
+    on_ok_weaker c.go_to.result
+    (λ g. record {
+      swept = g.swept;
+      between = g.between;
+      told = λ t b. slide_told t z e c.args.to b end (now a t b).from (ends a) g.swept (g.told (x a t b) (from_of t) (can a t b) (window a t b) refl);
+      edges = λ t b. slide_edges t z e c.args.to b end (ends a) g.between
+          (subst (λ (w : Window). HasRead w.of e (shifted end (back_offset w)) g.between) (sym (window a t b)) g.read);
+      stands = λ t b. subst (λ (w : Window). StandsNow t (Op.Slide (record { window = w; stream = Some new.stream; kept = new.kept })) g.between c.args.to)
+          (window a t b) (slide_stands t z e c.args.to b end (ends a) (now a t b).from c.in-Some-stream.stream new.stream new.kept g.between (now a t b).can g.way
+          (g.gone (x a t b) (from_of t) (can a t b) (window a t b) refl));
+      put = g.put;
+    })
+    c.go_to.ensures.gone
