@@ -1,13 +1,13 @@
 -- The first LF among 32 bytes, by the marks of a vector.
 use Rattle.std.proofs.Common.{◌≡◌, ◌↔◌, inl, inr, ℕ, ◌+◌, ◌-◌, ◌<◌, ◌≤◌, List, ◌++◌, Bool, true, false, length, take, arith, refl, sym, ap, ◌∙◌}
-use Rattle.std.specs.Prelude.{◌==◌, slice_index, if◌then◌else◌}
+use Rattle.std.specs.Prelude.{◌≢◌, ◌==◌, slice_index, if◌then◌else◌}
 use Rattle.std.specs.Int.{bit_at}
 use Rattle.std.proofs.lemmas.Bool.{eqb-true, eq-eqb, cases_lt}
 use Rattle.std.proofs.lemmas.Grind.{same_number_lists}
 use Rattle.std.proofs.lemmas.List.{get_or_past, get_or_append_left, get_or-append-add, get_or-take, length-append, length-take-le}
 use Rattle.std.proofs.lemmas.List.Elements.{All-get_or}
 use Rattle.std.proofs.lemmas.Nat.Bits.{bit_at-zero}
-use Rattle.memchr.specs.Find.{is_byte, NoneBefore, Passes}
+use Rattle.memchr.specs.Find.{is_byte, Nowhere, NoneBefore, Passes}
 use Rattle.memchr.specs.Lanes.{HasLanes}
 use Rattle.trace_reader.specs.Feeds.{HasNoFeed}
 use Rattle.session_mux.specs.Near.{IsNoFeed, IsNextFeed}
@@ -125,3 +125,28 @@ near_is_first text n h long =
       },
       eq-eqb (slice_index text n) 10 (ap (slice_index text) (sym (at n)) ∙ h.is),
     )
+
+-- a text that stands at the front of a room of 32 bytes
+module _ (text room : List ℕ) (end : ℕ) (is : take end room ≡ text) (size : end ≡ length text) where
+  in_room : (k : ℕ) → k < end → slice_index text k ≡ slice_index room k
+  in_room k less = ap (λ w. slice_index w k) (sym is) ∙ get_or-take end room k 0 less
+
+  -- where the room has its first LF within the text, the text has its first there
+  pub room_first : (n : ℕ) → IsNextFeed room 0 n → n < end → NoneBefore (Passes (is_byte 10) text) 0 (length text) n × Passes (is_byte 10) text n
+  room_first n h less =
+      let at : (k : ℕ) → 0 + k ≡ k = λ k. omega arith in (
+        record {
+          low = omega arith;
+          high = omega (arith, less, size);
+          before = λ k low early is. h.before k early
+              (ap (slice_index room) (at k) ∙ sym (in_room k (omega (arith, early, less))) ∙ eqb-true (slice_index text k) 10 is);
+        },
+        eq-eqb (slice_index text n) 10 (in_room n less ∙ ap (slice_index room) (sym (at n)) ∙ h.is),
+      )
+
+  -- where it has none before the text ends, the text has none
+  pub room_none : ((k : ℕ) → k < end → slice_index room (0 + k) ≢ 10) → Nowhere (Passes (is_byte 10) text) 0 (length text)
+  room_none none k low less is =
+      let at : 0 + k ≡ k = omega arith in
+      let early : k < end = omega (arith, less, size) in
+      none k early (ap (slice_index room) at ∙ sym (in_room k early) ∙ eqb-true (slice_index text k) 10 is)

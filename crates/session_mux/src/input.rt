@@ -1,5 +1,5 @@
 //! An input of several sessions, whose lines are cut from the pieces of its bytes.
-ghost use Rattle.std.specs.Prelude.{◌≡◌, ◌<◌, ◌≤◌, ◌++◌, ◌∷◌, ◌+◌, ℕ, List, [], true, false, length, take, MatchResult, OnOk};
+ghost use Rattle.std.specs.Prelude.{◌≡◌, ◌<◌, ◌≤◌, ◌++◌, ◌∷◌, ◌+◌, ℕ, List, [], true, false, length, take, MatchResult, OnOk, MatchOption};
 ghost use Rattle.stl_syntax.specs.Formula.{Formula as Parsed};
 ghost use Rattle.trace_reader.specs.Feeds.{HasNoFeed};
 ghost use Rattle.trace_reader.proofs.LineLemmas.{rest};
@@ -129,6 +129,18 @@ fn all_bytes<'a>(part: &[u8], piece: &'a [u8], room: &'a Text) -> &'a [u8]
     room.bytes()
 }
 
+/// The tag at the front of a piece, if bytes of a tag stand there, and not too many. That of the session whose turn it is is known at once.
+#[inline(always)]
+fn tag_of<'a>(mux: &Mux, piece: &'a [u8]) -> Option<&'a [u8]>
+    requires { (p : Past) × StandsFor p mux.now }
+    ensures { MatchOption result (Unit {0}) (λ t. IsTag t.now × (t.now ≡ take (length t.now) piece.now)) }
+{
+    if let Some(len) = mux.turn(piece) {
+        return Some(&piece[..len]);
+    }
+    front_tag(piece)
+}
+
 impl Input {
     /// Takes no bytes yet. It takes no memory.
     pub fn new(alloc: Global, formula: Formula) -> Input
@@ -197,7 +209,7 @@ impl Input {
             return Err(InputStop::NoMemory);
         };
         let bytes = all_bytes(self.part.bytes(), piece, &self.joined);
-        let Some(tag) = front_tag(bytes) else {
+        let Some(tag) = tag_of(&self.mux, bytes) else {
             return Ok(0);
         };
         let Ok(run) = gather(&mut self.run, tag, bytes, MOST_LINES - self.whole) else {

@@ -1,5 +1,5 @@
 //! The sessions of an input, found by their tags.
-ghost use Rattle.std.specs.Prelude.{◌≡◌, ◌<◌, ◌≤◌, ◌++◌, ℕ, List, [], length, take, IsTrue, IfSome, OnOk, OnErr, MatchResult};
+ghost use Rattle.std.specs.Prelude.{◌≡◌, ◌<◌, ◌≤◌, ◌++◌, ℕ, List, [], length, take, IsTrue, IfSome, OnOk, OnErr, MatchResult, MatchOption};
 ghost use Rattle.stl_syntax.specs.Formula.{Formula as Parsed};
 ghost use Rattle.stl_syntax.specs.Texts.{newline};
 ghost use Rattle.session_mux.specs.Sessions.{Tagged, IsTag, AreEnds};
@@ -85,6 +85,22 @@ impl Known {
     fn next_place(&self) -> usize {
         let next = self.last.saturating_add(1);
         if next < self.sessions.len() { next } else { 0 }
+    }
+
+    /// How many bytes the tag at the front of a piece has, where it is that of the session whose turn it is.
+    #[inline(always)]
+    pub(crate) fn turn(&self, piece: &[u8]) -> Option<usize>
+        requires { HasKnown (shown self.now) }
+        ensures { MatchOption result (Unit {0}) (λ n. (n ≤ length piece.now) × IsTag (take n piece.now)) }
+    {
+        let next = self.next_place();
+        if next >= self.sessions.len() {
+            return None;
+        }
+        match self.sessions[next].front(piece) {
+            Some(len) => Some(len),
+            None => None,
+        }
     }
 
     /// The place of the session of the tag, where it is found at once.

@@ -1,5 +1,5 @@
 //! Sessions in one input.
-ghost use Rattle.std.specs.Prelude.{◌≡◌, ◌++◌, ◌∷◌, ℕ, List, [], length, MatchResult, OnErr};
+ghost use Rattle.std.specs.Prelude.{◌≡◌, ◌++◌, ◌∷◌, ℕ, List, [], length, MatchResult, OnErr, ◌≤◌, take, MatchOption};
 ghost use Rattle.stl_syntax.specs.Texts.{newline};
 ghost use Rattle.session_mux.specs.Sessions.{IsTag};
 ghost use Rattle.session_mux.specs.Owning.{IsWithFeed};
@@ -85,6 +85,15 @@ impl Mux {
         ensures { (p : Past) → HasTags p self.now → result ≡ length (tags_of p.seen) }
     {
         self.known.count()
+    }
+
+    /// How many bytes the tag at the front of a piece has, where it is that of the session whose turn it is, since benches take turns.
+    #[inline(always)]
+    pub(crate) fn turn(&self, piece: &[u8]) -> Option<usize>
+        requires { (p : Past) × StandsFor p self.now }
+        ensures { MatchOption result (Unit {0}) (λ n. (n ≤ length piece.now) × IsTag (take n piece.now)) }
+    {
+        self.known.turn(piece)
     }
 
     /// Takes a line of the input, without its LF and without one CR before it, and adds the answer: what the line's session says by it,

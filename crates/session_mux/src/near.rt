@@ -85,13 +85,30 @@ pub(crate) fn front_feed(text: &[u8]) -> Option<usize>
     near_feed(text, 0)
 }
 
+/// Where the first LF of a text stands that has fewer bytes than are looked at: they are copied into a room that has as many.
+#[inline(always)]
+fn short_feed(text: &[u8]) -> Option<usize>
+    requires { length text.now < 32 }
+    ensures { IsFirstByte (is_byte 10) text.now result }
+{
+    let mut room = [0; NEAR];
+    let end = add_part(&mut room, 0, text, text.len());
+    let Some(at) = near_feed(&room, 0) else {
+        return None;
+    };
+    if at >= end {
+        return None;
+    }
+    Some(at)
+}
+
 /// Where the first LF stands.
 #[inline(always)]
 pub(crate) fn first_feed(text: &[u8]) -> Option<usize>
     ensures { IsFirstByte (is_byte 10) text.now result }
 {
     if text.len() < NEAR {
-        return memchr(b'\n', text);
+        return short_feed(text);
     }
     match near_feed(text, 0) {
         Some(at) => Some(at),

@@ -46,6 +46,7 @@ fn room(recent: &mut Recent, alloc: Global) -> Text
 ///
 /// # Errors
 /// Want of memory.
+#[inline(always)]
 pub(crate) fn keep(recent: &mut Recent, alloc: Global, line: &[u8]) -> Result<(), Memory>
     requires { recent.old.capacity ≡ 8 }
     ensures { OnOk result (recent.new ≡ buffer (keep_last 8 (recent.old.items ++ line.now ∷ [])) 8) }

@@ -1,15 +1,16 @@
 //! Lines of a session, said to its bench after its tag.
-ghost use Rattle.std.specs.Prelude.{◌≡◌, ◌<◌, ◌≤◌, ◌++◌, ◌∷◌, ℕ, List, [], true, codes, length, take, OnOk, OnErr, MatchResult};
+ghost use Rattle.std.specs.Prelude.{◌≡◌, ◌<◌, ◌≤◌, ◌++◌, ◌∷◌, ℕ, List, [], true, codes, length, take, IsTrue, OnOk, OnErr, MatchResult};
 ghost use Rattle.stl_syntax.specs.Texts.{newline};
 ghost use Rattle.trace_reader.specs.TraceText.{lines};
 ghost use Rattle.answer_lines.specs.Appended.{GrewInPart, Is};
 ghost use Rattle.circular_buffer.specs.Buffer.{buffer, keep_last};
-ghost use Rattle.session_mux.specs.Saying.{texts, prefixed_texts, said_lines, HasPutFirst, HasPutInPart, HasSaid};
+ghost use Rattle.session_mux.specs.Saying.{texts, prefixed_texts, said_lines, HasPutFirst, HasPutInPart, HasSaid, IsShortLine};
 
-use crate::near::{first_feed, front_feed};
+use crate::near::{NEAR, first_feed, front_feed};
 use crate::recent::{Recent, keep, last_lines};
 use crate::tag::Tag;
 use crate::waiting::Waiting;
+use answer_lines::add_part;
 use frac128::Memory;
 use std::alloc::Global;
 use stl_syntax::Text;
@@ -161,6 +162,58 @@ fn keep_lines(alloc: Global, recent: &mut Recent, text: &[u8]) -> Result<(), Mem
     Ok(())
 }
 
+/// Whether a text is one line with its LF, and a short one.
+#[inline(always)]
+fn is_short_line(text: &[u8]) -> bool
+    ensures { IsTrue result → IsShortLine text.now }
+{
+    if text.len() > NEAR {
+        return false;
+    }
+    match first_feed(text) {
+        Some(at) => at + 1 == text.len(),
+        None => false,
+    }
+}
+
+/// Adds a short line, which has its LF, after the tag and a space.
+///
+/// # Errors
+/// Want of memory; the text stays as it was.
+#[inline(always)]
+fn put_short(tag: &Tag, line: &[u8], out: &mut Text) -> Result<(), Memory>
+    requires { length line.now ≤ 32 }
+    ensures ok { OnOk result (out.new ≡ out.old ++ ((tag.now ++ codes " ") ++ line.now)) }
+    ensures err { OnErr result (out.new ≡ out.old) }
+{
+    let mut room = [0; 2 * NEAR];
+    let begin = tag.put(&mut room, 0);
+    let end = add_part(&mut room, begin, line, line.len());
+    out.push(&room[..end])
+}
+
+/// As `say`, of a short line with its LF: what one row answers, as a rule.
+///
+/// # Errors
+/// Want of memory. A first part of the line was added.
+#[inline(always)]
+fn say_short(
+    alloc: Global,
+    tag: &Tag,
+    recent: &mut Recent,
+    line: &[u8],
+    out: &mut Text,
+) -> Result<(), Memory>
+    requires room { recent.old.capacity ≡ 8 }
+    requires short { IsShortLine line.now }
+    ensures { MatchResult result
+        (λ _. HasSaid tag.now line.now recent.old recent.new out.old out.new)
+        (λ _. GrewInPart (Is (said_lines tag.now line.now)) out.old out.new) }
+{
+    keep(recent, alloc, &line[..line.len() - 1])?;
+    put_short(tag, line, out)
+}
+
 /// Adds the lines of a text, each after the tag and a space, and keeps them among the last ones.
 ///
 /// # Errors
@@ -179,6 +232,9 @@ pub(crate) fn say(
 {
     if text.is_empty() {
         return Ok(());
+    }
+    if is_short_line(text) {
+        return say_short(alloc, tag, recent, text, out);
     }
     keep_lines(alloc, recent, last_lines(text))?;
     put_lines(tag, text, out)

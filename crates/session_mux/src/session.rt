@@ -1,5 +1,5 @@
 //! One session: its trace as it comes, and the last lines that were said to it.
-ghost use Rattle.std.specs.Prelude.{◌≡◌, ◌<◌, ◌≤◌, ◌++◌, ◌∷◌, bytes_eq, length, ℕ, IsTrue, List, [], false, true, None, IfOk, MatchResult};
+ghost use Rattle.std.specs.Prelude.{◌≡◌, ◌<◌, ◌≤◌, ◌++◌, ◌∷◌, bytes_eq, length, ℕ, IsTrue, List, [], false, true, None, IfOk, MatchResult, take, MatchOption};
 ghost use Rattle.answer_lines.specs.Appended.{GrewInPart, Is};
 ghost use Rattle.answer_lines.specs.FaultTexts.{fault_text};
 ghost use Rattle.stl_syntax.specs.Formula.{Formula as Parsed};
@@ -195,6 +195,14 @@ impl Session {
         ensures { IsTrue result → self.now.tag ≡ tag.now }
     {
         self.tag.bytes() == tag
+    }
+
+    /// How many bytes the tag has, where a piece begins with it and a space.
+    #[inline(always)]
+    pub(crate) fn front(&self, piece: &[u8]) -> Option<usize>
+        ensures { MatchOption result (Unit {0}) (λ n. (n ≤ length piece.now) × (take n piece.now ≡ self.now.tag)) }
+    {
+        self.tag.front(piece)
     }
 
     /// Takes a line of the trace with its LF, and says what it answers.

@@ -127,6 +127,17 @@ impl Tag {
         None
     }
 
+    /// How many bytes the tag has, where a piece begins with it and a space.
+    #[inline(always)]
+    pub(crate) fn front(&self, piece: &[u8]) -> Option<usize>
+        ensures { MatchOption result (Unit {0}) (λ n. (n ≤ length piece.now) × (take n piece.now ≡ self.now)) }
+    {
+        match self.rest(piece) {
+            Some(_) => Some(self.len),
+            None => None,
+        }
+    }
+
     /// Puts the tag and a space behind what stands before `at`, and answers where they end.
     #[inline(always)]
     pub(crate) fn put(&self, buf: &mut [u8], at: usize) -> usize

@@ -12,6 +12,12 @@ pub all_bytes-bytes-requires : goal.all_bytes-bytes-requires
 all_bytes-bytes-requires c =
     subst (λ p. IsJoined p c.args.piece.now c.join.new.room) (c.bytes.ensures ∙ sym c.bytes-2.ensures) c.in-Ok.ensures
 
+pub tag_of-requires : goal.tag_of-requires
+tag_of-requires c =
+    let r = c.requires in
+    let past : Past = record { formula = r.formula; seen = r.is.taken.tagged } in
+    (past, r.is.taken.stands)
+
 pub hand_run-requires-clause-feed : goal.hand_run-requires-clause-feed
 hand_run-requires-clause-feed c =
     subst (λ (b : List ℕ). IsWithFeed (take c.in-Ok-gather.run'.used b)) (sym c.deref.ensures.value)
