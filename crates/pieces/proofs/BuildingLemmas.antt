@@ -13,7 +13,7 @@ use Rattle.frac128.specs.declared.cut.Cut.{Cut}
 use Rattle.value_laws.specs.Members.{ShapeOf}
 use Rattle.pieces.specs.declared.piece.Piece.{Piece}
 use Rattle.pieces.specs.Chains.{Chain, end, stop_from, HasShapeIn, Each, Rise, IsWorthFrom, CanBeLeftOut, IsPiece, IsNormal}
-use Rattle.pieces.specs.Building.{GoesOn}
+use Rattle.pieces.specs.Building.{GoesOn, IsNew}
 use Rattle.pieces.proofs.Ends.{only_time}
 use Rattle.pieces.proofs.ChainLemmas.{stop_append, rise_front, rise_back, rise_append, shape_in, shape_front, shape_back, to_stop}
 use Rattle.pieces.proofs.ChainLemmas.{worth_in, worth_front, worth_back, worth_after, worth_upto, every_time, worth_same}
@@ -39,20 +39,13 @@ module _ {P : Type 0} (shape : ShapeOf P) where
   each_longer (x ∷ y ∷ []) p rest until (h, hs) = (record { differs = h.differs; needed = h.needed }, each_longer (y ∷ []) p rest until hs)
   each_longer (x ∷ y ∷ z ∷ xs) p rest until (h, hs) = (record { differs = h.differs; needed = h.needed }, each_longer (y ∷ z ∷ xs) p rest until hs)
 
-  -- the shape goes on neither the last piece nor, over a last piece of one time, the one before it
-  pub record IsNew (ps : List (Piece P)) (more : P) : Type 0 where
-    -- the last piece is of another function
-    pub differs : (front : List (Piece P)) (last : Piece P) → ps ≡ front ++ last ∷ [] → ¬ AreSame (shape.function last.shape) (shape.function more)
-    -- the last piece cannot be left out in front of the shape
-    pub needed : (front : List (Piece P)) (p q : Piece P) → ps ≡ front ++ p ∷ q ∷ [] → ¬ CanBeLeftOut shape p q more
-
-  new_behind : (x : Piece P) (xs : List (Piece P)) (more : P) → IsNew (x ∷ xs) more → IsNew xs more
+  new_behind : (x : Piece P) (xs : List (Piece P)) (more : P) → IsNew shape (x ∷ xs) more → IsNew shape xs more
   new_behind x xs more h = record {
     differs = λ front last e. h.differs (x ∷ front) last (ap (λ ps. x ∷ ps) e);
     needed = λ front p q e. h.needed (x ∷ front) p q (ap (λ ps. x ∷ ps) e);
   }
 
-  each_put : (xs : List (Piece P)) (q : Piece P) → IsNew xs q.shape → Each (IsPiece shape) xs → Each (IsPiece shape) (xs ++ q ∷ [])
+  each_put : (xs : List (Piece P)) (q : Piece P) → IsNew shape xs q.shape → Each (IsPiece shape) xs → Each (IsPiece shape) (xs ++ q ∷ [])
   each_put [] q new h = (record { differs = tt; needed = tt }, tt)
   each_put (x ∷ []) q new (h, hs) = (record { differs = new.differs [] x refl; needed = tt }, each_put [] q (new_behind x [] q.shape new) hs)
   each_put (x ∷ y ∷ []) q new (h, hs) =
@@ -61,7 +54,7 @@ module _ {P : Type 0} (shape : ShapeOf P) where
       (record { differs = h.differs; needed = h.needed }, each_put (y ∷ z ∷ xs) q (new_behind x (y ∷ z ∷ xs) q.shape new) hs)
 
   -- a new piece is put behind the others
-  pub goes_on_new : (c : Place) (ps : List (Piece P)) (until : Cut) (more : P) → IsNormal shape (chain_of c ps) → IsNew ps more
+  pub goes_on_new : (c : Place) (ps : List (Piece P)) (until : Cut) (more : P) → IsNormal shape (chain_of c ps) → IsNew shape ps more
       → Before (stop_from c ps) (place until) → GoesOn shape (chain_of c ps) until more (chain_of c (ps ++ record { until = until; shape = more } ∷ []))
   goes_on_new c ps until more normal new later = record {
     normal = record { rising = rise_append c ps (q ∷ []) normal.rising (later, tt); each = each_put ps q new normal.each };

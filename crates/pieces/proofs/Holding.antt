@@ -287,6 +287,22 @@ module _ {P : Type 0} {shape : ShapeOf P} {chain : Chain P} {way : Way} {c : Pla
     plays = met.plays;
   }
 
+  -- or held at its end, where the window reaches past that already
+  pub holds_reached : ShapeLaws shape → GetsNoWorse way.side (shape.function p.shape) → HasEntered shape chain way (end p) old
+      → Holds shape chain way c p (end p) old
+  holds_reached laws trend entered = record {
+    can = known.met.can;
+    to = known.met.to;
+    within = known.met.within;
+    some = known.some;
+    piece = known.piece;
+    breaks = known.breaks.last;
+    is_best = inr (refl, trend);
+    keeps = keeps_further shape laws chain way known.met.can.rising c c (end p) c old (at_most_of_before c (end p) known.piece.order) known.met.stands;
+    entered = entered;
+    plays = known.met.plays;
+  }
+
 -- a piece that gets no worse is held at its end, once the window reaches past that
 module _ {P : Type 0} {shape : ShapeOf P} {chain : Chain P} {way : Way} {c : Place} {p : Piece P} {old : Sliding P} (laws : ShapeLaws shape)
     (trend : GetsNoWorse way.side (shape.function p.shape)) (known : Rises shape chain way c p old) where

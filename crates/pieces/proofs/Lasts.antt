@@ -65,12 +65,19 @@ last_written xs front last x n e count = ap (λ ys. set ys n x) e ∙ set_at fro
     place = let h : length xs ≡ length (front ++ last ∷ []) = ap (λ ys. length ys) e in omega (arith, h, count, length-append front (last ∷ []))
 
 -- lists that end in one element are the same up to it
-snoc : {X : Type 0} (xs ys : List X) (x y : X) → xs ++ x ∷ [] ≡ ys ++ y ∷ [] → xs ≡ ys
+pub snoc : {X : Type 0} (xs ys : List X) (x y : X) → xs ++ x ∷ [] ≡ ys ++ y ∷ [] → xs ≡ ys
 snoc [] [] x y e = refl
 snoc [] (b ∷ ys) x y e = let f : [] ≡ ys ++ y ∷ [] = cc in absurd (none_last [] ys y refl f)
 snoc (a ∷ xs) [] x y e = let f : [] ≡ xs ++ x ∷ [] = cc in absurd (none_last [] xs x refl f)
 snoc (a ∷ xs) (b ∷ ys) x y e = let f : xs ++ x ∷ [] ≡ ys ++ y ∷ [] = cc in let h : a ≡ b = cc in
     ap (λ l. a ∷ l) (snoc xs ys x y f) ∙ ap (λ z. z ∷ ys) h
+
+-- and have one last element
+pub snoc_last : {X : Type 0} (xs ys : List X) (x y : X) → xs ++ x ∷ [] ≡ ys ++ y ∷ [] → x ≡ y
+snoc_last [] [] x y e = cc
+snoc_last [] (b ∷ ys) x y e = let f : [] ≡ ys ++ y ∷ [] = cc in absurd (none_last [] ys y refl f)
+snoc_last (a ∷ xs) [] x y e = let f : [] ≡ xs ++ x ∷ [] = cc in absurd (none_last [] xs x refl f)
+snoc_last (a ∷ xs) (b ∷ ys) x y e = let f : xs ++ x ∷ [] ≡ ys ++ y ∷ [] = cc in snoc_last xs ys x y f
 
 -- what is left without the last element
 pub last_taken : {X : Type 0} (old new front : List X) (p q : X) (r : Option X) → old ≡ new ++ option_to_list r → IsSome r → old ≡ front ++ p ∷ q ∷ []

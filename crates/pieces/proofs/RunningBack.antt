@@ -1,18 +1,19 @@
 -- Chains with time running back, and an until as a since that runs back.
-use Rattle.std.proofs.Common.{◌≡◌, ◌⊎◌, inl, inr, ℕ, ◌^◌, ◌≤◌, Some, Bool, true, false, not, IsTrue, ℤ, pos, ◌-ℤ◌, arith, ap, refl, sym, subst}
+use Rattle.std.proofs.Common.{◌≡◌, ◌⊎◌, inl, inr, ℕ, zero, suc, List, [], ◌∷◌, ◌++◌, ◌^◌, ◌≤◌, Some, Bool, true, false, not, IsTrue, ℤ, pos, ◌-ℤ◌, arith, ap, refl, sym, subst}
 use Rattle.std.specs.Prelude.{slice_get, MatchBool}
 use Rattle.std.proofs.lemmas.Int.{ints}
 use Rattle.std.specs.Int.RustNames.{unsigned_abs}
 use Rattle.rational.specs.Rational.{Rational, negate, subtract, whole, IsWithin, ◌≤ʳ◌, ◌<ʳ◌, ◌≈◌}
-use Rattle.rational.specs.Extended.{Extended, ◌≈ᵉ◌, value_at}
+use Rattle.rational.specs.Extended.{Affine, Extended, ◌≈ᵉ◌, value_at}
+use Rattle.rational.specs.Affine.{AreSame}
 use Rattle.rational.specs.Places.{Place, After, Upto, Before, Same}
 use Rattle.rational.specs.Windows.{Function}
-use Rattle.rational.proofs.Order.{same_refl, same_sym}
+use Rattle.rational.proofs.Order.{same_refl, same_sym, same_trans}
 use Rattle.rational.proofs.Field.{le_negate, lt_negate, same_negate}
 use Rattle.rational.proofs.Mixed.{within_between, within_negate, within_same}
-use Rattle.rational.proofs.AffineLemmas.{same_reflᵉ}
-use Rattle.rational.proofs.Sames.{symᵉ}
-use Rattle.rational.proofs.PlaceLemmas.{after_same, le_of_at_most, upto_same, same_places, same_trans_places}
+use Rattle.rational.proofs.AffineLemmas.{same_reflᵉ, value_same}
+use Rattle.rational.proofs.Sames.{symᵉ, transᵉ}
+use Rattle.rational.proofs.PlaceLemmas.{after_same, before_same, le_of_at_most, upto_same, same_before, same_places, same_trans_places}
 use Rattle.rational.proofs.TimeFunctions.{IsFunction, until_is_function}
 use Rattle.rational.proofs.UntilBounds.{since_bounded}
 use Rattle.rational.proofs.RunningBack.{RunsBack, about_zero, turned_of, until_runs_back}
@@ -21,15 +22,17 @@ use Rattle.frac128.specs.Cuts.{place}
 use Rattle.frac128.specs.declared.cut.Cut.{Cut}
 use Rattle.value_laws.specs.Members.{ShapeOf, ShapeLaws}
 use Rattle.pieces.specs.declared.piece.Piece.{Piece}
-use Rattle.pieces.specs.Chains.{Chain, HasShape, IsLimited, IsNormal, IsWorth, Tells, begin_at, end, stop}
-use Rattle.pieces.specs.Building.{GoesOn}
+use Rattle.pl_signal.proofs.Values.{some_is}
+use Rattle.pieces.specs.Chains.{CanBeLeftOut, Chain, Each, HasShape, IsLimited, IsNormal, IsPiece, IsWorth, Rise, Tells, begin_at, end, stop}
+use Rattle.pieces.specs.Building.{GoesOn, IsNew}
 use Rattle.pieces.specs.Negating.{BasesFrom}
 use Rattle.pieces.specs.Sinces.{BasesOfTwo, SinceOf, UntilOf}
 use Rattle.pieces.specs.Turning.{RunBack, turned}
 use Rattle.pieces.proofs.ChainLemmas.{worth_after, worth_upto, worth_same}
 use Rattle.pieces.proofs.Telling.{TellsSoFar, tells_on, told}
 use Rattle.pieces.proofs.Ends.{at_most_of_before, at_most_trans}
-use Rattle.pieces.proofs.Standing.{begin_most, end_most, rises_at, worth_place}
+use Rattle.pieces.proofs.Lasts.{last_of_two, none_last, snoc, snoc_last}
+use Rattle.pieces.proofs.Standing.{begin_most, end_most, next_begin, rises_at, worth_place}
 
 -- a time within the limits stays so
 pub about_within : (t : Rational) → IsWithin (2 ^ 34) t → IsWithin (2 ^ 34) (subtract (whole (pos 0)) t)
@@ -146,6 +149,114 @@ module _ {P : Type 0} (shape : ShapeOf P) where
       by_shape x m (inl h) = bases x h m
       by_shape x m (inr e) = let b = base (subst (λ x. IsTrue (shape.moves x)) e m) in
           (p, has, b.0, subst (λ y. shape.base y ≡ pos 0 -ℤ shape.base p) (sym e) b.1)
+
+-- what is f at minus each time is g there: so the other way round
+unturned : (f g : Affine) → ((t : Rational) → value_at g t ≈ᵉ value_at f (negate t)) → (t : Rational) → value_at f t ≈ᵉ value_at g (negate t)
+unturned f g h t = transᵉ (value_same f (negate_twice t)) (symᵉ (h (negate t)))
+
+-- two functions that are one with time running back are one
+same_unturned : (f g f' g' : Affine) → ((t : Rational) → value_at f' t ≈ᵉ value_at f (negate t)) → ((t : Rational) → value_at g' t ≈ᵉ value_at g (negate t))
+    → AreSame g' f' → AreSame f g
+same_unturned f g f' g' h k same t = transᵉ (unturned f f' h t) (transᵉ (symᵉ (same (negate t))) (symᵉ (unturned g g' k t)))
+
+-- times that are one with time running back are one
+time_unturned : {a b x y : Rational} → x ≈ negate a → y ≈ negate b → x ≈ y → b ≈ a
+time_unturned {a} {b} h k e = same_trans (negate_twice b) (same_trans (same_negate (same_trans (same_sym k) (same_trans (same_sym e) h)))
+    (same_sym (negate_twice a)))
+
+module _ {P : Type 0} (shape : ShapeOf P) where
+  -- the next piece is of another function
+  next_differs : (ps : List (Piece P)) (i : ℕ) (p q : Piece P) → Each (IsPiece shape) ps → slice_get ps i ≡ Some p → slice_get ps (suc i) ≡ Some q
+      → ¬ AreSame (shape.function p.shape) (shape.function q.shape)
+  next_differs [] i p q h e k = absurd (cc)
+  next_differs (x ∷ []) zero p q h e k = absurd (cc)
+  next_differs (x ∷ y ∷ ps) zero p q h e k = subst (λ z. ¬ AreSame (shape.function z.shape) (shape.function q.shape)) (some_is e)
+      (subst (λ z. ¬ AreSame (shape.function x.shape) (shape.function z.shape)) (some_is k) h.0.differs)
+  next_differs (x ∷ ps) (suc i) p q h e k = next_differs ps i p q h.1 e k
+
+  -- and cannot be left out
+  next_needed : (ps : List (Piece P)) (i : ℕ) (p q r : Piece P) → Each (IsPiece shape) ps → slice_get ps i ≡ Some p → slice_get ps (suc i) ≡ Some q
+      → slice_get ps (suc (suc i)) ≡ Some r → ¬ CanBeLeftOut shape p q r.shape
+  next_needed [] i p q r h e k l = absurd (cc)
+  next_needed (x ∷ []) zero p q r h e k l = absurd (cc)
+  next_needed (x ∷ y ∷ []) zero p q r h e k l = absurd (cc)
+  next_needed (x ∷ y ∷ z ∷ ps) zero p q r h e k l = subst (λ a. ¬ CanBeLeftOut shape a q r.shape) (some_is e)
+      (subst (λ b. ¬ CanBeLeftOut shape x b r.shape) (some_is k) (subst (λ c. ¬ CanBeLeftOut shape x y c.shape) (some_is l) h.0.needed))
+  next_needed (x ∷ ps) (suc i) p q r h e k l = next_needed ps i p q r h.1 e k l
+
+  -- the one piece, which ends where the other begins, at the place, is that one with time running back
+  pub record IsTurnedPiece (begin : Place) (p x : Piece P) : Type 0 where
+    -- where it ends
+    pub ends : Same (end x) (turned begin)
+    -- what it is
+    pub value : (t : Rational) → value_at (shape.function x.shape) t ≈ᵉ value_at (shape.function p.shape) (negate t)
+
+  -- the last two pieces that were built are those of the chain from the place i of the list on, with time running back
+  pub record EndsTurned (chain : Chain P) (i : ℕ) (built : List (Piece P)) : Type 0 where
+    -- the last piece
+    pub last : (front : List (Piece P)) (x : Piece P) → built ≡ front ++ x ∷ []
+        → (p : Piece P) × (slice_get chain.pieces i ≡ Some p) × IsTurnedPiece (begin_at chain.from chain.pieces i) p x
+    -- and the one before it
+    pub before : (front : List (Piece P)) (x y : Piece P) → built ≡ front ++ x ∷ y ∷ []
+        → (p : Piece P) × (slice_get chain.pieces (suc i) ≡ Some p) × IsTurnedPiece (begin_at chain.from chain.pieces (suc i)) p x
+
+  -- nothing was built yet
+  pub none_turned : (chain : Chain P) (i : ℕ) → EndsTurned chain i []
+  none_turned chain i = record {
+    last = λ front x e. absurd (none_last [] front x refl e);
+    before = λ front x y e. absurd (none_last [] (front ++ x ∷ []) y refl (last_of_two [] front x y e));
+  }
+
+  module _ (chain : Chain P) (i : ℕ) (p : Piece P) (built : List (Piece P)) (more : P) (at : slice_get chain.pieces i ≡ Some p)
+      (ends : EndsTurned chain (suc i) built) (value : (t : Rational) → value_at (shape.function more) t ≈ᵉ value_at (shape.function p.shape) (negate t)) where
+    -- the piece before comes next
+    pub ends_turned : (until : Cut) → Same (place until) (turned (begin_at chain.from chain.pieces i))
+        → EndsTurned chain i (built ++ record { until = until; shape = more } ∷ [])
+    ends_turned until to = record {
+      last = λ front x e. (p, at, subst (IsTurnedPiece (begin_at chain.from chain.pieces i) p) (snoc_last built front z x e) (record { ends = to; value = value }));
+      before = λ front x y e. ends.last front x (snoc built (front ++ x ∷ []) z y (last_of_two (built ++ z ∷ []) front x y e));
+    }
+      where
+        z : Piece P
+        z = record { until = until; shape = more }
+
+    -- it is new behind what was built
+    pub new_turned : Each (IsPiece shape) chain.pieces → IsNew shape built more
+    new_turned each = record {
+      differs = λ front x e same. let (q, k, is) = ends.last front x e in
+          next_differs chain.pieces i p q each at k
+          (same_unturned (shape.function p.shape) (shape.function q.shape) (shape.function more) (shape.function x.shape) value is.value same);
+      needed = λ front x y e out. let (q, k, is) = ends.last (front ++ x ∷ []) y (last_of_two built front x y e) in let (r, l, has) = ends.before front x y e in
+          next_needed chain.pieces i p q r each at k l (left_out x y q r k is has out);
+    }
+      where
+        left_out : (x y q r : Piece P) → slice_get chain.pieces (suc i) ≡ Some q → IsTurnedPiece (begin_at chain.from chain.pieces (suc i)) q y
+            → IsTurnedPiece (begin_at chain.from chain.pieces (suc (suc i))) r x → CanBeLeftOut shape x y more → CanBeLeftOut shape p q r.shape
+        left_out x y q r k is has out = record { instant = time_unturned x_at y_at out.instant; around = around; here = here }
+          where
+            x_at : (end x).at ≈ negate (end q).at
+            x_at = subst (λ b. (end x).at ≈ negate b.at) (next_begin chain.from chain.pieces (suc i) q k) has.ends.0
+
+            y_at : (end y).at ≈ negate (end p).at
+            y_at = subst (λ b. (end y).at ≈ negate b.at) (next_begin chain.from chain.pieces i p at) is.ends.0
+
+            around : AreSame (shape.function p.shape) (shape.function r.shape)
+            around = same_unturned (shape.function p.shape) (shape.function r.shape) (shape.function more) (shape.function x.shape) value has.value out.around
+
+            there : negate (end q).at ≈ (end y).at
+            there = same_trans (same_sym x_at) out.instant
+
+            here : value_at (shape.function p.shape) (end q).at ≈ᵉ value_at (shape.function q.shape) (end q).at
+            here = transᵉ (around (end q).at) (transᵉ (unturned (shape.function r.shape) (shape.function x.shape) has.value (end q).at)
+                (transᵉ (value_same (shape.function x.shape) there) (transᵉ out.here (transᵉ (value_same (shape.function y.shape) (same_sym there))
+                (symᵉ (unturned (shape.function q.shape) (shape.function y.shape) is.value (end q).at))))))
+
+-- where a piece begins comes later, with time running back, than where it ends
+pub later_turned : {P : Type 0} (chain : Chain P) (i : ℕ) (p : Piece P) (b until : Place) → Rise chain.from chain.pieces → slice_get chain.pieces i ≡ Some p
+    → Same b (turned (end p)) → Same until (turned (begin_at chain.from chain.pieces i)) → Before b until
+later_turned chain i p b until rising at ends to =
+    same_before b (turned (end p)) until ends (before_same (turned (end p)) (turned (begin_at chain.from chain.pieces i)) until
+    (turned_before (begin_at chain.from chain.pieces i) (end p) (rises_at chain.from chain.pieces i p rising at)) (same_places to))
 
 -- the one chain, which is limited, is the other with time running back
 pub record IsBackOf {P : Type 0} (shape : ShapeOf P) (chain new : Chain P) : Type 0 where

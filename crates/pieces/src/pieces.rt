@@ -6,8 +6,8 @@ ghost use Rattle.rational.specs.Places.{Before};
 ghost use Rattle.frac128.specs.Value.{value};
 ghost use Rattle.frac128.specs.Cuts.{place};
 ghost use Rattle.pieces.specs.declared.piece.Piece.{Piece};
-ghost use Rattle.pieces.specs.Chains.{Chain, CanBeLeftOut, IsNormal, stop};
-ghost use Rattle.pieces.specs.Building.{GoesOn};
+ghost use Rattle.pieces.specs.Chains.{Chain, CanBeLeftOut, IsNormal, begin_at, stop};
+ghost use Rattle.pieces.specs.Building.{GoesOn, IsNew};
 
 use crate::Piece;
 use frac128::{Cut, Memory};
@@ -119,6 +119,18 @@ impl<P: Shape> Pieces<P> {
         &self.items[i]
     }
 
+    /// Where a piece begins, by its place in the list.
+    #[inline(always)]
+    pub(crate) fn begin(&self, i: usize) -> &Cut
+        requires { i < length self.now.pieces }
+        ensures { place result.now ≡ begin_at self.now.from self.now.pieces i }
+    {
+        if i == 0 {
+            return &self.from;
+        }
+        &self.items[i - 1].until
+    }
+
     /// Where the last piece ends; where the first is to begin, as long as there is none.
     #[inline(always)]
     pub fn until(&self) -> Cut
@@ -140,6 +152,28 @@ impl<P: Shape> Pieces<P> {
             return &self.from;
         }
         &self.items[count - 1].until
+    }
+
+    /// Goes on with a shape that neither lets the last piece go on nor makes it needless. Without memory for it the chain stays as it was.
+    ///
+    /// # Errors
+    ///
+    /// `Memory` where memory is wanting.
+    #[inline(always)]
+    pub(crate) fn append(&mut self, until: &Cut, shape: &P) -> Result<(), Memory>
+        requires later { Before (stop self.old) (place until.now) }
+        requires new { IsNew P.Shape self.old.pieces shape.now }
+        ensures { OnOk result (self.new ≡ record {
+          from = self.old.from;
+          pieces = self.old.pieces ++ record { until = until.now; shape = shape.now } ∷ [];
+        }) }
+    {
+        self.items.reserve(1)?;
+        self.items.push_reserved(Piece {
+            until: *until,
+            shape: *shape,
+        });
+        Ok(())
     }
 
     /// Goes on with a shape up to a place. Without memory for it the chain stays as it was.

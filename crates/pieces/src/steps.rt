@@ -108,7 +108,7 @@ fn cap<P: Shape>(side: Side, from: &Cut, steps: &mut VecDeque<Step<P>>, constant
 {
     while let Some(last) = steps.back() {
         let begin = begin_of_last(from, steps);
-        match beside(side, &begin, last, constant) {
+        match beside(side, begin, last, constant) {
             Lasting::Hidden => {
                 let _ = steps.pop_back();
             }
@@ -136,14 +136,14 @@ fn cap_last<P: Shape>(steps: &mut VecDeque<Step<P>>, constant: &P)
 
 /// Where the last of the steps begins.
 #[inline(always)]
-fn begin_of_last<P: Shape>(from: &Cut, steps: &VecDeque<Step<P>>) -> Cut
-    ensures { (front : List (Step P)) (last : Step P) → steps.now.items ≡ front ++ last ∷ [] → place result ≡ steps_end (place from.now) front }
+fn begin_of_last<'a, P: Shape>(from: &'a Cut, steps: &'a VecDeque<Step<P>>) -> &'a Cut
+    ensures { (front : List (Step P)) (last : Step P) → steps.now.items ≡ front ++ last ∷ [] → place result.now ≡ steps_end (place from.now) front }
 {
     let count = steps.len();
     if count < 2 {
-        return *from;
+        return from;
     }
-    steps[count - 2].until
+    &steps[count - 2].until
 }
 
 /// Where the last of the steps ends; where the first is to begin, as long as there is none.

@@ -27,22 +27,11 @@ pub(crate) fn run_back<P: Shape>(chain: &Pieces<P>) -> Result<Pieces<P>, Memory>
     while i > 0 {
         i -= 1;
         let piece = chain.piece(i);
-        let until = turn(&begin(chain, i));
+        let until = turn(chain.begin(i));
         let shape = piece.shape.mirror(0);
-        built.put(&until, &shape)?;
+        built.append(&until, &shape)?;
     }
     Ok(built)
-}
-
-/// Where a piece begins.
-fn begin<P: Shape>(chain: &Pieces<P>, i: usize) -> Cut
-    requires { i < length chain.now.pieces }
-    ensures { place result ≡ begin_at chain.now.from chain.now.pieces i }
-{
-    if i == 0 {
-        return chain.from();
-    }
-    chain.piece(i - 1).until
 }
 
 /// The place at minus the time, on the other side of it.

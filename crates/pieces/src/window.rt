@@ -199,11 +199,8 @@ fn slide_over<P: Shape>(
     ensures bases { OnOk result (BasesOver P.Shape s.now window.old.way.over window.new.sliding.out) }
     ensures wide { OnErr result (IfSome fault.new (IsCauseOver P.Shape s.now window.old.way.over)) }
 {
-    let mut from = s.from();
     for i in 0..s.len() {
-        let piece = s.piece(i);
-        window.meet(&from, piece, fault)?;
-        from = piece.until;
+        window.meet(s.begin(i), s.piece(i), fault)?;
     }
     window.end(fault)
 }
@@ -261,39 +258,69 @@ fn meet_rising<P: Shape>(
     ensures wide { (s : Chain P) → Passes P.Shape s way.now (place from.now) piece.now window.old
         → OnErr result (IfSome fault.new (IsCauseBelow P.Shape s way.now.over (stop s).at)) }
 {
-    let Some(next) = under(way, piece, window) else {
-        enter(way, from, window, fault)?;
-        return rising(way, piece, until, window, fault);
-    };
-    // For the proof alone: a shape that is never better.
-    let _ = of_none::<P>(way.side);
-    window.tell_first(way.side, &next)?;
-    hold(way, piece, &piece.until, until, window, fault)
+    if tell_under(way, piece, window)? {
+        return hold(way, piece, &piece.until, until, window, fault);
+    }
+    enter(way, from, window, fault)?;
+    rising(way, piece, until, window, fault)
 }
 
-/// The place from which on the window reaches past a piece that gets better, in the domain, where the first of the steps goes on past that
-/// and is no worse than the piece under the window's high end.
+/// Tells up to where the window reaches past a piece that gets better, and answers true: where it does so already, or where the first of the
+/// steps goes on past that and is no worse than the piece under the window's high end. Else it tells nothing, and answers false.
+///
+/// # Errors
+///
+/// `Memory` where memory is wanting.
 #[inline(always)]
-fn under<P: Shape>(way: &Way, piece: &Piece<P>, window: &Sliding<P>) -> Option<Cut>
-    requires met { (s : Chain P) × (c : Place) × Passes P.Shape s way.now c piece.now window.now }
-    ensures reached { IfSome result (λ e. IsReached way.now (end piece.now) (place e)) }
-    ensures on { IfSome result (λ e. Before (stop window.now.out) (place e)) }
-    ensures under { IfSome result (λ e. IsUnder P.Shape way.now.side way.now.over window.now.steps.items (P.function piece.now.shape) (place e)) }
+fn tell_under<P: Shape>(
+    way: &Way,
+    piece: &Piece<P>,
+    window: &mut Sliding<P>,
+) -> Result<bool, Memory>
+    requires met { (s : Chain P) × (c : Place) × Passes P.Shape s way.now c piece.now window.old }
+    requires trend { GetsNoWorse way.now.side (P.function piece.now.shape) }
+    ensures holds { (s : Chain P) (c : Place) → Passes P.Shape s way.now c piece.now window.old
+        → IfOk result (λ told. IsTrue told → Holds P.Shape s way.now c piece.now (end piece.now) window.new) }
+    ensures still { IfOk result (λ told. told ≡ false → window.new ≡ window.old) }
+    ensures from { IfOk result (λ _. window.new.out.from ≡ window.old.out.from) }
 {
-    let Some(first) = window.steps.front() else {
-        return None;
-    };
     let at = window.out.until();
     let Some(next) = reached(way, &piece.until, &at) else {
-        return None;
+        return Ok(true);
     };
-    if !at.precedes(&next) {
-        return None;
+    if is_under(way, piece, window, &at, &next) {
+        // For the proof alone: a shape that is never better.
+        let _ = of_none::<P>(way.side);
+        window.tell_first(way.side, &next)?;
+        return Ok(true);
     }
-    if covers(way, first, &piece.shape, &next) {
-        return Some(next);
+    Ok(false)
+}
+
+/// Whether the first of the steps goes on past the place from which on the window reaches past a piece, and is no worse than that under the
+/// window's high end.
+#[inline(always)]
+fn is_under<P: Shape>(
+    way: &Way,
+    piece: &Piece<P>,
+    window: &Sliding<P>,
+    at: &Cut,
+    next: &Cut,
+) -> bool
+    requires met { (s : Chain P) × (c : Place) × Passes P.Shape s way.now c piece.now window.now }
+    requires at { place at.now ≡ stop window.now.out }
+    requires reached { IsReached way.now (end piece.now) (place next.now) }
+    ensures on { IsTrue result → Before (stop window.now.out) (place next.now) }
+    ensures under { IsTrue result
+        → IsUnder P.Shape way.now.side way.now.over window.now.steps.items (P.function piece.now.shape) (place next.now) }
+{
+    let Some(first) = window.steps.front() else {
+        return false;
+    };
+    if !at.precedes(next) {
+        return false;
     }
-    None
+    covers(way, first, &piece.shape, next)
 }
 
 /// Whether a step has one shape, goes on past the place, and is there no worse than another shape at the window's high end.

@@ -1,16 +1,16 @@
 use Rattle.std.proofs.Common.{◌≡◌, ◌-◌, ◌^◌, ◌∙◌, [], suc, sym, ap, subst, arith}
 use Rattle.rational.specs.Rational.{IsWithin}
-use Rattle.rational.specs.Places.{Before, Same}
-use Rattle.rational.proofs.Order.{same_sym}
-use Rattle.rational.proofs.Mixed.{within_negate, within_same}
-use Rattle.rational.proofs.PlaceLemmas.{before_same, same_before, same_places}
+use Rattle.rational.specs.Places.{Same}
 use Rattle.frac128.specs.Cuts.{place}
 use Rattle.pieces.specs.Chains.{HasShape, IsWorth, begin_at, end, stop}
 use Rattle.pieces.specs.Turning.{RunBack, turned}
-use Rattle.pieces.proofs.BuildingLemmas.{chain_of}
+use Rattle.rational.proofs.RunningBack.{turned_of}
+use Rattle.pieces.specs.Building.{GoesOn}
+use Rattle.pieces.proofs.BuildingLemmas.{chain_of, goes_on_new}
 use Rattle.pieces.proofs.Telling.{tells_none, told, worth_is_function}
-use Rattle.pieces.proofs.Standing.{end_within, last_begin, next_begin, rises_at, shape_at}
-use Rattle.pieces.proofs.RunningBack.{back_is_function, base_within, bases_back, begin_within, tells_back, turned_before}
+use Rattle.pieces.proofs.Standing.{last_begin, next_begin, shape_at}
+use Rattle.pieces.proofs.RunningBack.{EndsTurned, back_is_function, base_within, bases_back, begin_within, ends_turned, later_turned, new_turned, none_turned}
+use Rattle.pieces.proofs.RunningBack.{tells_back}
 use Rattle.pieces.proofs.turning.run_back.Given.{Over}
 use Rattle.pieces.proofs.turning.run_back.Goals.{After-piece-piece}
 use Rattle.pieces.proofs.turning.run_back.Goals as goal
@@ -31,6 +31,7 @@ loop-i-init g c =
           (subst (λ s. Same (place c.turn.result) (turned s))
           (sym (ap (λ n. begin_at chain.from chain.pieces n) c.len-i.ensures.value ∙ last_begin chain.from chain.pieces)) turns);
       bases = λ p h m. absurd (subst (λ x. HasShape x p) e h);
+      turned = subst (λ x. EndsTurned g.P.Shape chain c.len-i.result x.pieces) (sym e) (none_turned g.P.Shape chain c.len-i.result);
     }
 
 pub turn-until-requires : goal.turn-until-requires
@@ -49,32 +50,40 @@ here g c =
     (subst (λ n. begin_at chain.from chain.pieces n ≡ end c.piece-piece.result.now) next
     (next_begin chain.from chain.pieces (c.loop-i.i - 1) c.piece-piece.result.now c.piece-piece.ensures)) c.loop-i.invariant.ends
 
-pub put-requires-clause-limited : goal.put-requires-clause-limited
-put-requires-clause-limited g c =
-    let at = (goal.at.put-requires-clause-limited g c).After-piece-piece in
-    within_same (2 ^ 34) (same_sym (here g at).0)
-    (within_negate (2 ^ 34) (end_within g.P.Shape c.args.chain.now (c.loop-i.i - 1) c.piece-piece.result.now c.len-i.ensures.normal c.requires
-    c.piece-piece.ensures))
+-- the last two pieces built so far, by the place of the piece that is next
+ends : (g : Over) (c : After-piece-piece g) → EndsTurned g.P.Shape c.args.chain.now (suc (c.loop-i.i - 1)) c.loop-i.built.pieces
+ends g c =
+    let next : suc (c.loop-i.i - 1) ≡ c.loop-i.i = let some = c.loop-i-test.true in omega arith in
+    subst (λ n. EndsTurned g.P.Shape c.args.chain.now n c.loop-i.built.pieces) (sym next) c.loop-i.invariant.turned
 
-pub put-requires-clause-later : goal.put-requires-clause-later
-put-requires-clause-later g c =
-    let at = (goal.at.put-requires-clause-later g c).After-piece-piece in
+pub append-requires-clause-later : goal.append-requires-clause-later
+append-requires-clause-later g c =
+    let at = (goal.at.append-requires-clause-later g c).After-piece-piece in
     let chain = c.args.chain.now in
+    later_turned chain (c.loop-i.i - 1) c.piece-piece.result.now (stop c.loop-i.built) (place c.turn-until.result) c.len-i.ensures.normal.rising
+    c.piece-piece.ensures (here g at) (subst (λ s. Same (place c.turn-until.result) (turned s)) c.begin.ensures c.turn-until.ensures)
+
+pub append-requires-clause-new : goal.append-requires-clause-new
+append-requires-clause-new g c =
+    let at = (goal.at.append-requires-clause-new g c).After-piece-piece in
     let p = c.piece-piece.result.now in
-    same_before (stop c.loop-i.built) (turned (end p)) (place c.turn-until.result) (here g at)
-    (before_same (turned (end p)) (turned (place c.begin.result)) (place c.turn-until.result)
-    (subst (λ s. Before (turned (end p)) (turned s)) (sym c.begin.ensures)
-    (turned_before (begin_at chain.from chain.pieces (c.loop-i.i - 1)) (end p)
-    (rises_at chain.from chain.pieces (c.loop-i.i - 1) p c.len-i.ensures.normal.rising c.piece-piece.ensures)))
-    (same_places c.turn-until.ensures))
+    new_turned g.P.Shape c.args.chain.now (c.loop-i.i - 1) p c.loop-i.built.pieces c.mirror-shape.result c.piece-piece.ensures (ends g at)
+    (turned_of (g.P.Shape.function p.shape) (g.P.Shape.function c.mirror-shape.result) c.mirror-shape.ensures.value) c.len-i.ensures.normal.each
 
 pub loop-i-preserved : goal.loop-i-preserved
 loop-i-preserved g c =
     let at = (goal.at.loop-i-preserved g c).After-piece-piece in
     let chain = c.args.chain.now in
     let p = c.piece-piece.result.now in
-    let on = c.in_ok-put.ensures.ok in
+    let chain_so_far = c.loop-i.built in
     let turns = subst (λ s. Same (place c.turn-until.result) (turned s)) c.begin.ensures c.turn-until.ensures in
+    let value = turned_of (g.P.Shape.function p.shape) (g.P.Shape.function c.mirror-shape.result) c.mirror-shape.ensures.value in
+    let here_turned = ends g at in
+    let on = subst (λ x. GoesOn g.P.Shape chain_so_far c.turn-until.result c.mirror-shape.result x) (sym c.in_ok-append.ensures)
+    (goes_on_new g.P.Shape chain_so_far.from chain_so_far.pieces c.turn-until.result c.mirror-shape.result c.loop-i.invariant.tells.normal
+    (new_turned g.P.Shape chain (c.loop-i.i - 1) p chain_so_far.pieces c.mirror-shape.result c.piece-piece.ensures here_turned value
+    c.len-i.ensures.normal.each) (later_turned chain (c.loop-i.i - 1) p (stop chain_so_far) (place c.turn-until.result)
+    c.len-i.ensures.normal.rising c.piece-piece.ensures (here g at) turns)) in
     record {
       inside = let h = c.loop-i.invariant.inside in omega (arith, h);
       tells = tells_back g.P.Shape chain (c.loop-i.i - 1) p
@@ -84,6 +93,9 @@ loop-i-preserved g c =
       ends = subst (λ s. Same s (turned (begin_at chain.from chain.pieces (c.loop-i.i - 1)))) (sym on.ends) turns;
       bases = bases_back g.P.Shape chain p.shape (shape_at chain.pieces (c.loop-i.i - 1) p c.piece-piece.ensures) c.loop-i.invariant.bases
           c.mirror-shape.ensures.base on;
+      turned = subst (λ x. EndsTurned g.P.Shape chain (c.loop-i.i - 1) x.pieces) (sym c.in_ok-append.ensures)
+          (ends_turned g.P.Shape chain (c.loop-i.i - 1) p chain_so_far.pieces c.mirror-shape.result c.piece-piece.ensures here_turned value
+          c.turn-until.result turns);
     }
 
 pub returns-clause-worth : goal.returns-clause-worth
