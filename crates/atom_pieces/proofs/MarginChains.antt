@@ -1,13 +1,11 @@
 -- Pieces that tell an atom's margin, and go on along its ways.
 use Rattle.std.proofs.Common.{◌≡◌, ◌<◌, ◌<ℤ◌, ◌^◌, ◌⊎◌, inl, inr, ℕ, suc, false, pos, [], length, sym, subst, ap, arith}
 use Rattle.std.proofs.lemmas.Int.{ints}
-use Rattle.rational.specs.Rational.{IsWithin}
 use Rattle.rational.specs.Time.{Rational, ◌≤ʳ◌, ◌<ʳ◌, ◌≈◌, whole}
 use Rattle.rational.specs.Extended.{finite, value_at, ◌≈ᵉ◌}
 use Rattle.rational.specs.Affine.{IsBounded}
 use Rattle.rational.specs.Places.{After, Before, Same, Upto}
 use Rattle.rational.proofs.AffineLemmas.{bounded_same, value_same}
-use Rattle.rational.proofs.Mixed.{tick_within}
 use Rattle.rational.proofs.Order.{same_of_le, same_sym, same_trans}
 use Rattle.rational.proofs.PlaceLemmas.{after_same, before_same, same_before, same_places, upto_same}
 use Rattle.rational.proofs.Sames.{symᵉ, transᵉ}
@@ -55,10 +53,6 @@ module _ (b : Binding) (i : ℕ) (tr : Trace) where
     where
       stops : stop chain ≡ chain.from
       stops = ap (λ ps. stop (record { from = chain.from; pieces = ps })) none
-
-  -- where the pieces end is within its limits
-  pub margins_within : (k : ℕ) (chain : Chain Margin) → (row_of tr k).time < 2 ^ 32 → HasMargins k chain → IsWithin (2 ^ 34) (stop chain).at
-  margins_within k chain few h = tick_within (row_of tr k).time few h.ends.0
 
   -- and comes before the row at which a way ends
   pub way_later : (k : ℕ) (w : MarginWay) (chain : Chain Margin) (until : Cut) → IsMarginWay b i tr k w → HasMargins k chain

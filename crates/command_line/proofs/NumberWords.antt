@@ -1,9 +1,8 @@
 -- Words of digits, read digit by digit, and the words of a workload.
-use Rattle.std.proofs.Common.{◌≡◌, ℕ, zero, suc, ◌+◌, ◌-◌, ◌*◌, ◌<◌, ◌≤◌, true, false, List}
+use Rattle.std.proofs.Common.{◌≡◌, ℕ, ◌+◌, ◌-◌, ◌*◌, ◌<◌, ◌≤◌, true, List}
 use Rattle.std.proofs.Common.{[], ◌∷◌, ◌++◌, length, take, drop, get_or, refl, sym, ap, ◌∙◌, subst, arith}
 use Rattle.std.specs.Prelude.{codes}
-use Rattle.std.proofs.lemmas.Bool.{and_parts, false≢true}
-use Rattle.std.proofs.lemmas.List.{take-append-drop, take_more, take_all}
+use Rattle.std.proofs.lemmas.List.{take-append-drop, take_more}
 use Rattle.stl_syntax.specs.Characters.{is_digit, all, decimal_value}
 use Rattle.stl_syntax.proofs.CharacterLemmas.{all-push}
 use Rattle.stl_syntax.proofs.DecimalLemmas.{decimal_value-push, decimal_value-append}
@@ -22,10 +21,6 @@ pub record IsReadTo (word : List ℕ) (i v : ℕ) : Type 0 where
   -- and have that value
   pub value : decimal_value 0 (take i word) ≡ v
 
--- before the first byte the value is 0
-pub read_none : (word : List ℕ) → IsReadTo word 0 0
-read_none word = record { digits = refl; value = refl }
-
 -- one more
 pub read_more : (word : List ℕ) (i v c : ℕ) → i < length word → get_or word i 0 ≡ c → is_digit c ≡ true → IsReadTo word i v
     → IsReadTo word (i + 1) (v * 10 + (c - 48))
@@ -35,12 +30,6 @@ read_more word i v c h e d r =
       digits = subst (λ w. all is_digit w ≡ true) (sym t) (all-push is_digit (take i word) c r.digits d);
       value = ap (decimal_value 0) t ∙ decimal_value-push 0 (take i word) c ∙ (let k = r.value in omega (arith, k));
     }
-
--- all of them
-pub read_all : (word : List ℕ) (most v : ℕ) → 0 < length word → v ≤ most → IsReadTo word (length word) v → IsNumberWord most word v
-read_all word most v some small r =
-    let whole : take (length word) word ≡ word = take_all (length word) word (omega arith) in
-    record { some = some; digits = subst (λ w. all is_digit w ≡ true) whole r.digits; value = sym (ap (decimal_value 0) whole) ∙ r.value; small = small }
 
 -- a number that is too large stays so
 pub too_large : (word : List ℕ) (most i v n : ℕ) → most < v → IsReadTo word i v → ¬ IsNumberWord most word n
@@ -52,15 +41,6 @@ too_large word most i v n over r is =
     let value = is.value in
     let small = is.small in
     omega (arith, over, parts, more, value, small)
-
--- a byte that is no digit makes it no number
-pub no_digit : (word : List ℕ) (most i n : ℕ) → i < length word → is_digit (get_or word i 0) ≡ false → ¬ IsNumberWord most word n
-no_digit word most i n h bad is = by_place word i h is.digits bad
-  where
-    by_place : (w : List ℕ) (j : ℕ) → j < length w → all is_digit w ≡ true → is_digit (get_or w j 0) ≡ false → ⊥
-    by_place [] j l a b = omega (arith, l)
-    by_place (c ∷ w) zero l a b = false≢true (sym b ∙ (and_parts (is_digit c) (all is_digit w) a).0)
-    by_place (c ∷ w) (suc j) l a b = by_place w j (omega (arith, l)) (and_parts (is_digit c) (all is_digit w) a).1 b
 
 -- words of a workload, by its numbers
 pub workload_words : {words : List (List ℕ)} (first second : List ℕ) (number rows : ℕ) → words ≡ codes "gen" ∷ first ∷ second ∷ []

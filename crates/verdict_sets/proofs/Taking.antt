@@ -1,19 +1,19 @@
 -- What stands for a case by sets of times, as its rows come.
-use Rattle.std.proofs.Common.{◌≡◌, ℕ, zero, suc, ◌-◌, ◌<◌, Bool, true, false, List, [], ◌∷◌, ◌++◌, length, take, drop}
+use Rattle.std.proofs.Common.{◌≡◌, ℕ, zero, suc, ◌-◌, ◌<◌, Bool, List, [], ◌∷◌, ◌++◌, length, take, drop}
 use Rattle.std.proofs.Common.{refl, sym, ap, ◌∙◌, subst, arith, append_assoc, length-append, take-append-drop, get_or}
 use Rattle.std.specs.Prelude.{◌==◌, Some}
 use Rattle.stl_syntax.specs.Formula.{Formula}
 use Rattle.stl_syntax.specs.Trace.{Header, Row, Trace, IsTrace, AreRows, last_time}
-use Rattle.atom_lines.specs.Binding.{Binding, IsBound}
+use Rattle.atom_lines.specs.Binding.{Binding}
 use Rattle.atom_lines.specs.Rows.{row_of}
 use Rattle.trace_reader.specs.Reader.{Reader, StandsFor}
 use Rattle.trace_reader.specs.Taken.{HasTraceSoFar}
 use Rattle.trace_reader.proofs.TraceLemmas.{last_behind}
 use Rattle.truth_sets.specs.Growing.{IsTail}
-use Rattle.truth_sets.specs.Standing.{AreNone, StandFor}
+use Rattle.truth_sets.specs.Standing.{StandFor}
 use Rattle.truth_sets.specs.declared.growing.TruthSets.{TruthSets}
 use Rattle.truth_sets.proofs.LongerRows.{stand_longer}
-use Rattle.trace_stream.specs.Cases.{IsCase, Takes}
+use Rattle.trace_stream.specs.Cases.{Takes}
 use Rattle.trace_stream.specs.Kept.{with_rows}
 use Rattle.trace_stream.specs.declared.case.Case.{Case}
 use Rattle.verdict_sets.specs.Keeping.{HasTail, SetsUpto, SetsOver, HasSets, SetsBefore, CanTakeIn}
@@ -30,13 +30,6 @@ abbrev pub with_trace : VerdictSets → Trace → VerdictSets
 with_trace x t = record x { case = record x.case { trace = t } }
 
 module _ (x : VerdictSets) (c : Case) (tail : HasTail x c) where
-  -- the formula is bound to the columns
-  pub own_bound : IsBound x.case.bound x.case.formula x.case.trace.header
-  own_bound =
-      subst (λ (b : Binding). IsBound b x.case.formula x.case.trace.header) (sym tail.bound)
-      (subst (λ (f : Formula). IsBound c.bound f x.case.trace.header) (sym tail.formula)
-      (subst (λ (h : Header). IsBound c.bound c.formula h) (sym tail.header) tail.fits.1.bound))
-
   -- sets stand for rows by what is held where they do so by the case
   pub stands_own : (sets : TruthSets) (h : Header) (rows : List Row) (r : Row) → StandFor sets c.bound c.formula.nodes h rows r
       → StandFor sets x.case.bound x.case.formula.nodes h rows r
@@ -54,29 +47,6 @@ module _ (x : VerdictSets) (c : Case) (tail : HasTail x c) where
   -- the rows that are held are the last ones
   pub is_tail : IsTail x.case.trace c.trace.header c.trace.rows
   is_tail = record { same_header = tail.header; earlier = tail.earlier; parts = tail.parts }
-
-  -- where no row is held, the sets are those of no row
-  pub none_in : (first : Bool) → length x.case.trace.rows ≡ 0 → SetsBefore x first c → HasSets x c
-  none_in first none s = record { tail = tail; sets = by_rows x.case.trace.rows refl first none s }
-    where
-      by_rows : (rows : List Row) → x.case.trace.rows ≡ rows → (first : Bool) → length rows ≡ 0 → SetsBefore x first c → SetsOver x c rows
-      by_rows [] e true none s = (s.0, s.1 ∙ e)
-      by_rows [] e false none s = absurd (omega (arith, s.0, ap length e))
-      by_rows (r ∷ rows) e first none s = absurd (omega (arith, none))
-
-  -- where the sets have begun with the first row, the rows can be taken in
-  pub begun_in : (sets : TruthSets) → c.trace.rows ≡ x.case.trace.rows → 0 < length x.case.trace.rows
-      → StandFor sets x.case.bound x.case.formula.nodes x.case.trace.header x.case.trace.rows (row_of x.case.trace 0)
-      → CanTakeIn (with_sets x sets) false c
-  begun_in sets all some s = record {
-    tail = record { formula = tail.formula; bound = tail.bound; header = tail.header; fits = tail.fits; earlier = tail.earlier; parts = tail.parts };
-    sets = (
-      some,
-      subst (λ rows. StandFor sets c.bound c.formula.nodes c.trace.header rows (row_of x.case.trace 0)) (sym all)
-          (subst (λ h. StandFor sets c.bound c.formula.nodes h x.case.trace.rows (row_of x.case.trace 0)) tail.header
-          (stands_back sets x.case.trace.header x.case.trace.rows (row_of x.case.trace 0) s)),
-    );
-  }
 
   -- once the sets have grown over the rows, the last of them alone is to be held
   pub taken_in : (sets : TruthSets) (t : Trace) → 0 < length x.case.trace.rows
@@ -176,21 +146,3 @@ module _ (x : VerdictSets) (c : Case) (h : HasSets x c) where
         ap (last_time 0) (h.tail.parts ∙ ap (λ l. h.tail.earlier ++ l) same) ∙ last_behind h.tail.earlier (r ∷ []) 0 0 (omega arith),
       )
       by_rows (r ∷ s ∷ rows) same sets = absurd sets
-
--- before the first row
-pub at_first : (x : VerdictSets) (case : Case) (f : Formula) → IsCase f case → x.case ≡ case → case.trace.rows ≡ [] → AreNone x.sets case.formula.nodes
-    → HasSets x case
-at_first x case f fits e none sets = subst (λ (c : Case). HasSets x c) e (record {
-  tail = record {
-    formula = refl;
-    bound = refl;
-    header = refl;
-    fits = (f, subst (λ (c : Case). IsCase f c) (sym e) fits);
-    earlier = [];
-    parts = refl;
-  };
-  sets = subst (SetsOver x x.case) (sym empty) (subst (λ (c : Case). AreNone x.sets c.formula.nodes) (sym e) sets, empty);
-})
-  where
-    empty : x.case.trace.rows ≡ []
-    empty = ap (λ (c : Case). c.trace.rows) e ∙ none

@@ -1,28 +1,21 @@
 -- The answer of a case: the times of its trace, the chains of its atoms, and what the root's signal tells of the formula.
-use Rattle.std.proofs.Common.{◌≡◌, ℕ, pos, ◌-◌, ◌<◌, ap, Bool, true, false, List, [], ◌∷◌}
-use Rattle.std.proofs.Common.{length, Some, refl, sym, ◌∙◌, subst, arith, inl}
+use Rattle.std.proofs.Common.{◌≡◌, ℕ, pos, ◌-◌, ◌<◌, ap, true, false, List, [], ◌∷◌}
+use Rattle.std.proofs.Common.{length, Some, refl, sym, ◌∙◌, subst, arith}
 use Rattle.std.specs.Prelude.{slice_get}
 use Rattle.std.proofs.lemmas.Bool.{false≢true}
 use Rattle.std.proofs.lemmas.Option.{same_Some}
-use Rattle.rational.specs.Time.{Rational, whole, ◌≈◌}
-use Rattle.rational.specs.Extended.{value_at, ◌≈ᵉ◌}
-use Rattle.rational.specs.Affine.{level}
+use Rattle.rational.specs.Time.{whole}
 use Rattle.rational.specs.Places.{Place}
-use Rattle.rational.proofs.AffineLemmas.{same_symᵉ}
-use Rattle.rational.proofs.LevelLemmas.{level_is}
 use Rattle.value_laws.specs.Members.{ShapeOf}
-use Rattle.value_laws.specs.Kinds.{truth_shape}
 use Rattle.pl_signal.specs.declared.knot.Knot.{Knot}
 use Rattle.pl_signal.specs.Knots as knots
 use Rattle.pl_signal.specs.Moves.{Tells}
 use Rattle.pieces.specs.declared.piece.Piece.{Piece}
 use Rattle.pieces.specs.Chains as chains
 use Rattle.pieces.specs.Chains.{Chain}
-use Rattle.value_laws.specs.declared.truth.Truth.{Truth}
-use Rattle.value_laws.specs.Values.{truth_value}
 use Rattle.stl_syntax.specs.Trace.{Row, Trace, AreRows, IsTrace, first_time, last_time, start, stop}
 use Rattle.stl_syntax.specs.Formula.{atom, root, subformula}
-use Rattle.stl_syntax.specs.SupInf.{Reading, SupInf, HasValues, HasInfs, one, minus_one}
+use Rattle.stl_syntax.specs.SupInf.{Reading, SupInf, HasValues, HasInfs, one}
 use Rattle.stl_syntax.specs.declared.atom.Atom.{Atom}
 use Rattle.stl_syntax.specs.declared.node.Node.TheVariants.{Atom as Leaf}
 use Rattle.atom_lines.specs.Binding.{IsBound}
@@ -36,7 +29,6 @@ use Rattle.offline_eval.specs.Evaluation.{TellNodes}
 use Rattle.offline_eval.proofs.Along.{tells_along}
 use Rattle.offline_eval.proofs.Forms.{knots_laws, pieces_laws}
 use Rattle.offline_eval.proofs.Pointwise.{value_of}
-use Rattle.report.specs.SignalVerdicts.{sign_of}
 use Rattle.trace_stream.specs.declared.case.Case.{Case}
 use Rattle.whole_answers.specs.Answering.{setting_of, IsRootOf}
 
@@ -149,15 +141,3 @@ some_piece {P = P} chain first last = by_pieces chain.from chain.pieces first la
     by_pieces : (from : Place) (ps : List (Piece P)) → from.after ≡ false → (chains.stop_from from ps).after ≡ true → 0 < length ps
     by_pieces from [] first last = absurd (false≢true (sym first ∙ last))
     by_pieces from (p ∷ ps) first last = omega arith
-
-sign_passes : (holds : Bool) (t : Rational) → sign_of holds ≈ᵉ value_at (level (truth_value holds)) t
-sign_passes true t = same_symᵉ (value_at (level (truth_value true)) t) one (level_is (truth_value true) t)
-sign_passes false t = same_symᵉ (value_at (level (truth_value false)) t) minus_one (level_is (truth_value false) t)
-
--- what a signal of truth is worth at its start
-pub at_start : (ks : List (Knot Truth)) (k : Knot Truth) → slice_get ks 0 ≡ Some k → (t : Rational) → t ≈ knots.start ks
-    → knots.IsWorth truth_shape ks t (sign_of k.point.holds)
-at_start [] k h t e = absurd cc
-at_start (l ∷ ks) k h t e =
-    let same : l ≡ k = cc in
-    subst (λ m. knots.IsWorth truth_shape (l ∷ ks) t (sign_of m.point.holds)) same (inl (record { when = e; worth = sign_passes l.point.holds t }))

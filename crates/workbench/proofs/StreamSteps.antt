@@ -4,7 +4,7 @@ use Rattle.std.proofs.Common.{◌++◌, length, take, max, length-append}
 use Rattle.std.proofs.Common.{refl, sym, ap, ◌∙◌, subst, arith, append-nil, Result, Ok, Err}
 use Rattle.std.specs.Prelude.{Option}
 use Rattle.std.specs.Io.KnownBytes.{Appends, Consumes, Keeps, IsAtEnd}
-use Rattle.std.proofs.KnownBytes.{Appends-nil, Appends-trans, Consumes-nil, Consumes-trans, Consumes-kept}
+use Rattle.std.proofs.KnownBytes.{Appends-trans, Consumes-trans, Consumes-kept}
 use Rattle.std.proofs.lemmas.Bool.{false≢true}
 use Rattle.std.proofs.lemmas.List.{take-append-le, take_all}
 use Rattle.io_edge.specs.Calls.{Drained, Filled, HasFailed, HasRefused, IsAskedOnce, HasAskedAtMost}
@@ -42,11 +42,6 @@ pub record Pushing (Stands : List ℕ → List ℕ → Type 0) (q : Request) (be
   -- each read gave a byte at least
   pub enough : reads ≤ length bytes
 
--- before the first read nothing was taken or written
-pub at_first : (Stands : List ℕ → List ℕ → Type 0) (q : Request) (left held : Option (List ℕ)) → IsPushed Stands q [] []
-    → Pushing Stands q left left held held 0
-at_first Stands q left held p = record { bytes = []; text = []; moved = Consumes-nil left; grew = Appends-nil held; is = p; enough = omega arith }
-
 -- before the last read there were all bytes but those that it gave
 earlier_is : (i : Drained) (bytes piece : List ℕ) → i.gave ≡ length piece → earlier i (bytes ++ piece) ≡ bytes
 earlier_is i bytes piece gave =
@@ -78,10 +73,6 @@ pub record IsRead (before now held : Option (List ℕ)) (i : Drained) (o : Fille
 
 module _ {Stands : List ℕ → List ℕ → Type 0} {q : Request} {before now held held_now : Option (List ℕ)} {reads : ℕ}
     (p : Pushing Stands q before now held held_now reads) where
-  -- the machine stands for some bytes and some text
-  pub has_pushed : (bytes text : List ℕ) × IsPushed Stands q bytes text
-  has_pushed = (p.bytes, p.text, p.is)
-
   -- with one more piece and its text the stream goes on
   pub go_on : (After : List ℕ → List ℕ → Type 0) (after held_after : Option (List ℕ)) (piece : List ℕ) → Consumes now after piece → 0 < length piece
       → (grown : List ℕ) × Appends held_now held_after grown × IsPushed After q (p.bytes ++ piece) (p.text ++ grown)
