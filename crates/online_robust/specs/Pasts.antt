@@ -20,7 +20,6 @@ use Rattle.online_robust.specs.Standing.{Stands}
 use Rattle.online_robust.specs.Steps.{IsLeaf, IsInput, back_of, seen_by}
 use Rattle.online_robust.specs.declared.line.MarginLine.{MarginLine}
 use Rattle.online_robust.specs.declared.line.MarginLine.TheVariants.{Point, Gap}
-use Rattle.online_robust.specs.declared.station.Station.{Station}
 use Rattle.online_robust.specs.declared.station.Work.{Work}
 use Rattle.online_robust.specs.declared.station.Work.TheVariants as W
 
@@ -93,8 +92,3 @@ IsWork nodes header past i n seen W.Atom = (a : Atom) × (n ≡ Leaf a)
 IsWork nodes header past i n seen (W.Operator op) =
     (¬ IsLeaf n)
     × ((tr : Trace) → IsTrace tr → Continues tr header past.rows past.ended → Stands n nodes i tr (shown_of nodes past i) op seen)
-
--- the node at place i, over the past
-pub record IsStation (nodes : List Node) (header : Header) (past : Past) (i : ℕ) (n : Node) (e : Held) (st : Station) : Type 0 where
-  pub ahead : st.ahead ≡ horizon (subformula nodes i)
-  pub work : IsWork nodes header past i n (seen_by n e) st.work

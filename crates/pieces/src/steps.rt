@@ -97,6 +97,7 @@ pub(crate) fn slide<P: Shape>(
 }
 
 /// Takes away the steps at the end at which the constant is no worse, and lets it count with the last one that is left.
+#[inline(always)]
 fn cap<P: Shape>(side: Side, from: &Cut, steps: &mut VecDeque<Step<P>>, constant: &P)
     requires steps { AreSteps P.Shape side (place from.now) steps.old.items }
     requires from_within { IsWithin (2 ^ 34) (value_of from.now.time) }

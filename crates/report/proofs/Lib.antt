@@ -19,3 +19,4 @@ pub mod JsonParts
 pub mod JsonItems
 pub mod ReportTexts
 pub mod Blocks
+pub mod TextParts

@@ -11,3 +11,4 @@ pub mod JsonTexts
 pub mod ReportText
 pub mod Forms
 pub mod Blocks
+pub mod StepTexts

@@ -1,21 +1,14 @@
 //! Objects of JSON that are made once and take the texts of one entry after another, so that their keys and their memory are taken once.
-ghost use Rattle.std.specs.Prelude.{◌≡◌, ◌≤◌, ◌^◌, length, ℕ, List, Bool, IsSome, IfOk, OnOk};
-ghost use Rattle.rational.specs.Rational.{IsWithin};
-ghost use Rattle.rational.specs.Extended.{value_at};
-ghost use Rattle.frac128.specs.Value.{value};
-ghost use Rattle.value_laws.specs.Margins.{margin_function};
+ghost use Rattle.std.specs.Prelude.{◌≡◌, ◌≤◌, ℕ, List, Bool, IsSome, IfOk, OnOk, slice_range};
 ghost use Rattle.serde_json.specs.Data.{string, boolean, put};
 ghost use Rattle.serde_json.specs.Find.{as_bool, as_str};
 ghost use Rattle.serde_json.specs.View.{view, members_view};
-ghost use Rattle.stl_syntax.specs.Texts.{IsNumberText, IsValueText};
-ghost use Rattle.report.specs.Forms.{replaced, with_member, verdict_object, HasText, HasTextAt, IsVerdictForm, Sets, SetsSome};
+ghost use Rattle.report.specs.Forms.{replaced, with_member, verdict_object, HasText, HasTextAt, IsVerdictForm, SetsSome};
 ghost use Rattle.report.specs.Forms.{EndAt, BeginsAt, EndsAt, IsFirst, IsLast};
 
-use answer_lines::{TimeText, ValueText};
-use frac128::{Frac, Memory};
+use frac128::Memory;
 use serde_json::{Map, Value};
 use std::str;
-use value_laws::Margin;
 
 /// Room for the text of a span, and for copying its times.
 pub(crate) const SPAN_ROOM: usize = 256;
@@ -29,6 +22,18 @@ pub(crate) fn text_of(content: &[u8]) -> Result<&str, Memory>
         Ok(text) => Ok(text),
         Err(_) => Err(Memory),
     }
+}
+
+/// A part of a text.
+pub(crate) fn part(text: &str, from: usize, to: usize) -> Result<&str, Memory>
+    requires { from ≤ to }
+    ensures { IfOk result (λ s. s.now ≡ slice_range text.now from to) }
+{
+    // Numbers are ASCII, so a text of numbers may be cut before and behind each. No proof says so.
+    if !text.is_char_boundary(from) || !text.is_char_boundary(to) {
+        return Err(Memory);
+    }
+    Ok(&text[from..to])
 }
 
 /// Puts a text in the place of another, whose memory it takes over.
@@ -92,12 +97,11 @@ pub(crate) fn set_truth(verdict: &mut Value, holds: bool)
 }
 
 /// Puts a text in the place of the one that the object has at the key.
-pub(crate) fn set_text(object: &mut Value, key: &str, content: &[u8]) -> Result<(), Memory>
+pub(crate) fn set_text(object: &mut Value, key: &str, content: &str) -> Result<(), Memory>
     requires { HasText key.now (view object.old) }
     ensures ok { OnOk result (view object.new ≡ with_member key.now (string content.now) (view object.old)) }
     ensures form { SetsSome key.now (view object.old) (view object.new) }
 {
-    let content = text_of(content)?;
     match object.as_object_mut() {
         Some(members) => set_member(members, key, content),
         None => unreachable!(),
@@ -121,13 +125,12 @@ fn set_first_member(
 }
 
 /// Puts a text in the place of the one with which the object begins, which it has at the key. It costs less than `set_text`, since no key is looked up.
-pub(crate) fn set_first(object: &mut Value, key: &str, content: &[u8]) -> Result<(), Memory>
+pub(crate) fn set_first(object: &mut Value, key: &str, content: &str) -> Result<(), Memory>
     requires form { HasText key.now (view object.old) }
     requires place { IsFirst key.now (view object.old) }
     ensures ok { OnOk result (view object.new ≡ with_member key.now (string content.now) (view object.old)) }
     ensures form { SetsSome key.now (view object.old) (view object.new) }
 {
-    let content = text_of(content)?;
     match object.as_object_mut() {
         Some(members) => set_first_member(members, key, content),
         None => unreachable!(),
@@ -147,77 +150,14 @@ fn set_last_member(members: &mut Map<String, Value>, key: &str, content: &str) -
 }
 
 /// Puts a text in the place of the one with which the object ends, which it has at the key. It costs less than `set_text`, since no key is looked up.
-pub(crate) fn set_last(object: &mut Value, key: &str, content: &[u8]) -> Result<(), Memory>
+pub(crate) fn set_last(object: &mut Value, key: &str, content: &str) -> Result<(), Memory>
     requires form { HasText key.now (view object.old) }
     requires place { IsLast key.now (view object.old) }
     ensures ok { OnOk result (view object.new ≡ with_member key.now (string content.now) (view object.old)) }
     ensures form { SetsSome key.now (view object.old) (view object.new) }
 {
-    let content = text_of(content)?;
     match object.as_object_mut() {
         Some(members) => set_last_member(members, key, content),
         None => unreachable!(),
     }
-}
-
-/// Puts a time in the place of the text with which the object begins, at the key, in units. What `room` has does not matter: it lends its bytes, here
-/// and below.
-pub(crate) fn set_time(
-    object: &mut Value,
-    key: &str,
-    room: &mut [u8; SPAN_ROOM],
-    last: &mut TimeText,
-    t: &Frac,
-    digits: u8,
-) -> Result<(), Memory>
-    requires digits { digits ≤ 6 }
-    requires form { HasText key.now (view object.old) }
-    requires place { IsFirst key.now (view object.old) }
-    ensures ok { OnOk result (Sets (IsNumberText digits (value t.now)) key.now (view object.old) (view object.new)) }
-    ensures form { SetsSome key.now (view object.old) (view object.new) }
-{
-    let end = last.put(room, 0, t, digits);
-    set_first(object, key, &room[..end])
-}
-
-/// Puts the value of a margin at a time in the place of the text with which the object begins, at the key, in units.
-pub(crate) fn set_first_value(
-    object: &mut Value,
-    key: &str,
-    room: &mut [u8; SPAN_ROOM],
-    last: &mut ValueText,
-    m: &Margin,
-    at: &Frac,
-    digits: u8,
-) -> Result<(), Memory>
-    requires digits { digits ≤ 6 }
-    requires time { IsWithin (2 ^ 34) (value at.now) }
-    requires form { HasText key.now (view object.old) }
-    requires place { IsFirst key.now (view object.old) }
-    ensures ok { OnOk result (Sets (IsValueText digits (value_at (margin_function m.now) (value at.now))) key.now (view object.old) (view object.new)) }
-    ensures form { SetsSome key.now (view object.old) (view object.new) }
-{
-    let end = last.put(room, 0, m, at, digits);
-    set_first(object, key, &room[..end])
-}
-
-/// Puts the value of a margin at a time in the place of the text with which the object ends, at the key, in units.
-pub(crate) fn set_last_value(
-    object: &mut Value,
-    key: &str,
-    room: &mut [u8; SPAN_ROOM],
-    last: &mut ValueText,
-    m: &Margin,
-    at: &Frac,
-    digits: u8,
-) -> Result<(), Memory>
-    requires digits { digits ≤ 6 }
-    requires time { IsWithin (2 ^ 34) (value at.now) }
-    requires form { HasText key.now (view object.old) }
-    requires place { IsLast key.now (view object.old) }
-    ensures ok { OnOk result (Sets (IsValueText digits (value_at (margin_function m.now) (value at.now))) key.now (view object.old) (view object.new)) }
-    ensures form { SetsSome key.now (view object.old) (view object.new) }
-{
-    let end = last.put(room, 0, m, at, digits);
-    set_last(object, key, &room[..end])
 }

@@ -2,22 +2,25 @@
 ghost use Rattle.std.specs.Prelude.{◌≡◌, ◌≤◌, ◌<◌, ◌+◌, ◌^◌, ◌++◌, ℕ, List, [], codes, drop, length, take, IfOk, OnOk, OnErr};
 ghost use Rattle.rational.specs.Rational.{IsWithin};
 ghost use Rattle.frac128.specs.Value.{value};
+ghost use Rattle.rational.specs.Extended.{value_at};
 ghost use Rattle.value_laws.specs.Kinds.{margin_shape};
+ghost use Rattle.value_laws.specs.Margins.{margin_function};
 ghost use Rattle.pl_signal.specs.Plain.{plain_knot, plain_piece};
 ghost use Rattle.serde_json.specs.View.{view};
 ghost use Rattle.serde_json.specs.declared.value.Value.{Value};
+ghost use Rattle.stl_syntax.specs.Texts.{IsNumberText, IsValueText};
 ghost use Rattle.answer_lines.specs.Appended.{Grew, GrewInPart};
 ghost use Rattle.report.specs.Blocks.{after_commas, AreStepForms, IsStepForm, IsStepData};
-ghost use Rattle.report.specs.Forms.{knot_object, piece_object, HasText, IsKnotForm, IsPieceForm, Sets, SetsSome};
-ghost use Rattle.report.specs.Json.{IsKnotData, IsPieceData};
-ghost use Rattle.report.specs.JsonTexts.{IsGapText, IsKnotEntry, IsStepEntry};
+ghost use Rattle.report.specs.Forms.{knot_object, piece_object, IsKnotForm, IsPieceForm};
+ghost use Rattle.report.specs.JsonTexts.{IsKnotEntry, IsStepEntry};
+ghost use Rattle.report.specs.StepTexts.{AreStepTexts};
 ghost use Rattle.answer_lines.specs.Steps.{step};
 
 use crate::block::{MOST, put_after_commas};
 use crate::entry::put_data;
-use crate::form::{SPAN_ROOM, set_first_value, set_last_value, set_text, set_time};
-use answer_lines::{KnotTexts, TimeText, add_byte};
-use frac128::{Frac, Memory};
+use crate::form::{part, set_first, set_last, set_text, text_of};
+use answer_lines::{KnotTexts, add_byte};
+use frac128::Memory;
 use pl_signal::Knot;
 use serde_json::{Value, json};
 use std::alloc::{AllocError, Global};
@@ -25,92 +28,98 @@ use std::marker::Model;
 use stl_syntax::{Scale, Text};
 use value_laws::Margin;
 
-/// Puts the open span between two times in the place of the text at `on`, in units.
-fn set_gap(
-    piece: &mut Value,
-    room: &mut [u8; SPAN_ROOM],
-    last: &mut TimeText,
-    from: &Frac,
-    to: &Frac,
-    digits: u8,
-) -> Result<(), Memory>
-    requires digits { digits ≤ 6 }
-    requires form { HasText (codes "on") (view piece.old) }
-    ensures ok { OnOk result (Sets (IsGapText digits (value from.now) (value to.now)) (codes "on") (view piece.old) (view piece.new)) }
-    ensures form { SetsSome (codes "on") (view piece.old) (view piece.new) }
-{
-    let begin = add_byte(room, 0, b'(');
-    let comma = last.put(room, begin, from, digits);
-    let stop = add_byte(room, comma, b',');
-    let close = last.put_new(room, stop, to, digits);
-    let end = add_byte(room, close, b')');
-    set_text(piece, "on", &room[..end])
+/// Room for the texts of a step one behind another, and for copying a number.
+const STEP_ROOM: usize = 640;
+
+/// The texts of the piece between two knots, and of the second.
+#[derive(Clone, Copy)]
+struct StepTexts<'a> {
+    from: &'a str,
+    on: &'a str,
+    to: &'a str,
+    at: &'a str,
+    margin: &'a str,
 }
 
-/// Has the object be that of a knot.
-fn fill_knot(
-    knot: &mut Value,
-    room: &mut [u8; SPAN_ROOM],
+/// The time and the value of a knot. They are seen to be text together.
+fn knot_texts<'a>(
+    room: &'a mut [u8; STEP_ROOM],
     last: &mut KnotTexts,
     k: &Knot<Margin>,
     scale: Scale,
-) -> Result<(), Memory>
+) -> Result<(&'a str, &'a str), Memory>
     requires time { scale.time ≤ 6 }
     requires value { scale.value ≤ 6 }
     requires within { IsWithin (2 ^ 34) (value k.now.time) }
-    requires form { IsKnotForm (view knot.old) }
-    ensures ok { OnOk result (IsKnotData scale (plain_knot margin_shape k.now) (view knot.new)) }
-    ensures form { IsKnotForm (view knot.new) }
+    ensures at { IfOk result (λ t. IsNumberText scale.time (value k.now.time) t.0.now) }
+    ensures margin { IfOk result (λ t. IsValueText scale.value (value_at (margin_function k.now.point) (value k.now.time)) t.1.now) }
 {
-    set_time(knot, "at", room, &mut last.time, &k.time, scale.time)?;
-    set_last_value(
-        knot,
-        "margin",
-        room,
-        &mut last.value,
-        &k.point,
-        &k.time,
-        scale.value,
-    )
+    let middle = last.time.put(room, 0, &k.time, scale.time);
+    let end = last.value.put(room, middle, &k.point, &k.time, scale.value);
+    let all = text_of(&room[..end])?;
+    let at = part(all, 0, middle)?;
+    let margin = part(all, middle, end)?;
+    Ok((at, margin))
 }
 
-/// Has the object be that of the piece between two knots.
-fn fill_piece(
-    piece: &mut Value,
-    room: &mut [u8; SPAN_ROOM],
+/// The texts of the piece between two knots and of the second, whose time is that at which the piece ends. They are seen to be text
+/// together: to look at some dozens of bytes takes little more than to look at six.
+fn step_texts<'a>(
+    room: &'a mut [u8; STEP_ROOM],
     last: &mut KnotTexts,
     k: &Knot<Margin>,
     n: &Knot<Margin>,
     scale: Scale,
-) -> Result<(), Memory>
+) -> Result<StepTexts<'a>, Memory>
     requires time { scale.time ≤ 6 }
     requires value { scale.value ≤ 6 }
     requires from { IsWithin (2 ^ 34) (value k.now.time) }
     requires to { IsWithin (2 ^ 34) (value n.now.time) }
-    requires form { IsPieceForm (view piece.old) }
-    ensures ok { OnOk result (IsPieceData scale (plain_knot margin_shape k.now) (plain_piece margin_shape k.now n.now) (view piece.new)) }
+    ensures { IfOk result (λ t. AreStepTexts scale k.now n.now t.from.now t.on.now t.to.now t.at.now t.margin.now) }
+{
+    let (digits, decimals) = (scale.value, scale.time);
+    let gap = last.value.put(room, 0, &k.after, &k.time, digits);
+    let begin = add_byte(room, gap, b'(');
+    let comma = last.time.put(room, begin, &k.time, decimals);
+    let stop = add_byte(room, comma, b',');
+    let close = last.time.put_new(room, stop, &n.time, decimals);
+    let limit = add_byte(room, close, b')');
+    let point = last.value.put(room, limit, &k.after, &n.time, digits);
+    let end = last.value.put(room, point, &n.point, &n.time, digits);
+    let all = text_of(&room[..end])?;
+    let from = part(all, 0, gap)?;
+    let on = part(all, gap, limit)?;
+    let to = part(all, limit, point)?;
+    let at = part(all, stop, close)?;
+    let margin = part(all, point, end)?;
+    Ok(StepTexts {
+        from,
+        on,
+        to,
+        at,
+        margin,
+    })
+}
+
+/// Has the object be that of a knot.
+fn fill_knot(knot: &mut Value, at: &str, margin: &str) -> Result<(), Memory>
+    requires { IsKnotForm (view knot.old) }
+    ensures ok { OnOk result (view knot.new ≡ knot_object at.now margin.now) }
+    ensures form { IsKnotForm (view knot.new) }
+{
+    set_first(knot, "at", at)?;
+    set_last(knot, "margin", margin)
+}
+
+/// Has the object be that of a piece.
+fn fill_piece(piece: &mut Value, from: &str, on: &str, to: &str) -> Result<(), Memory>
+    requires { IsPieceForm (view piece.old) }
+    ensures ok { OnOk result (view piece.new ≡ piece_object from.now on.now to.now) }
     ensures form { IsPieceForm (view piece.new) }
 {
-    let digits = scale.value;
-    set_first_value(
-        piece,
-        "from",
-        room,
-        &mut last.value,
-        &k.after,
-        &k.time,
-        digits,
-    )?;
-    set_gap(piece, room, &mut last.time, &k.time, &n.time, scale.time)?;
-    set_last_value(
-        piece,
-        "to",
-        room,
-        &mut last.value,
-        &k.after,
-        &n.time,
-        digits,
-    )
+    set_first(piece, "from", from)?;
+    set_text(piece, "on", on)?;
+    set_last(piece, "to", to)
 }
 
 /// An object for knots.
@@ -131,7 +140,7 @@ fn piece_form(alloc: Global) -> Result<Value, AllocError>
 fn fill_step(
     objects: &mut [Value],
     at: usize,
-    room: &mut [u8; SPAN_ROOM],
+    room: &mut [u8; STEP_ROOM],
     last: &mut KnotTexts,
     k: &Knot<Margin>,
     n: &Knot<Margin>,
@@ -148,8 +157,9 @@ fn fill_step(
         × (objects.new ≡ take at objects.old ++ (two ++ drop 2 (drop at objects.old)))) }
     ensures form { (two : List Value) × IsStepForm two × (objects.new ≡ take at objects.old ++ (two ++ drop 2 (drop at objects.old))) }
 {
-    fill_piece(&mut objects[at], room, last, k, n, scale)?;
-    fill_knot(&mut objects[at + 1], room, last, n, scale)
+    let texts = step_texts(room, last, k, n, scale)?;
+    fill_piece(&mut objects[at], texts.from, texts.on, texts.to)?;
+    fill_knot(&mut objects[at + 1], texts.at, texts.margin)
 }
 
 /// Adds the objects for a step.
@@ -204,7 +214,7 @@ fn make_room(
 pub(crate) struct MarginEntries {
     alloc: Global,
     last: KnotTexts,
-    room: [u8; SPAN_ROOM],
+    room: [u8; STEP_ROOM],
     used: usize,
     objects: Vec<Value>,
 }
@@ -228,7 +238,7 @@ impl MarginEntries {
         MarginEntries {
             alloc,
             last: KnotTexts::new(),
-            room: [0; SPAN_ROOM],
+            room: [0; STEP_ROOM],
             used: 0,
             objects: Vec::new(alloc),
         }
@@ -249,7 +259,8 @@ impl MarginEntries {
         ensures err { OnErr result (GrewInPart (IsKnotEntry [] scale (plain_knot margin_shape k.now)) text.old text.new) }
     {
         let mut knot = knot_form(self.alloc)?;
-        fill_knot(&mut knot, &mut self.room, &mut self.last, k, scale)?;
+        let texts = knot_texts(&mut self.room, &mut self.last, k, scale)?;
+        fill_knot(&mut knot, texts.0, texts.1)?;
         put_data(self.alloc, text, b"", &knot)
     }
 

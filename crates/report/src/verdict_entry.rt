@@ -10,7 +10,7 @@ ghost use Rattle.report.specs.JsonTexts.{IsVerdictData};
 ghost use Rattle.report.specs.VerdictForms.{IsEntry};
 
 use crate::block::{MOST, put_before_commas, put_closed};
-use crate::form::{SPAN_ROOM, set_first, set_truth};
+use crate::form::{SPAN_ROOM, set_first, set_truth, text_of};
 use answer_lines::{TimeText, add_byte, bracket};
 use frac128::{Memory, Span};
 use serde_json::{Value, json};
@@ -45,7 +45,8 @@ fn set_span(
     let to = add_byte(room, comma, b',');
     let close = last.put_new(room, to, &on.to, digits);
     let end = add_byte(room, close, closing(on.to_in));
-    set_first(verdict, "on", &room[..end])
+    let span = text_of(&room[..end])?;
+    set_first(verdict, "on", span)
 }
 
 /// Has the object be that of a verdict.

@@ -1,5 +1,4 @@
-use Rattle.std.proofs.Common.{rules, arith, ◌≡◌, ◌<◌, ℕ, List, [], ◌∷◌, drop, length, sym, ap, subst}
-use Rattle.std.specs.Prelude.{slice_index_or}
+use Rattle.std.proofs.Common.{rules, drop, subst}
 use Rattle.std.specs.VecDeque.{deque_len}
 use Rattle.rational.specs.Places.{Before}
 use Rattle.frac128.specs.Cuts.{place}

@@ -1,21 +1,17 @@
-use Rattle.std.proofs.Common.{◌∙◌, ap, subst}
+use Rattle.std.proofs.Common.{◌∙◌, subst}
 use Rattle.std.specs.Prelude.{◌≡◌}
 use Rattle.std.proofs.lemmas.Result.{on_ok_weaker}
 use Rattle.serde_json.specs.Data.{object, string}
 use Rattle.serde_json.specs.View.{view, members_view}
 use Rattle.serde_json.proofs.Views.{view-Object}
-use Rattle.report.specs.Forms.{replaced, BeginsAt}
-use Rattle.report.proofs.Forms.{with_same, same_members, object_of, has_members, object_with}
+use Rattle.report.specs.Forms.{BeginsAt}
+use Rattle.report.proofs.Forms.{same_members, object_of, has_members, object_with}
 use Rattle.report.proofs.form.set_first.Goals as goal
 use Rattle.report.proofs.form.set_first.Goals.{In-Some}
 
 -- it is an object
 is_object : (c : In-Some) → view c.args.object.now ≡ object (members_view c.in-Some.members.now.entries)
 is_object c = object_of (view c.args.object.now) (members_view c.in-Some.members.now.entries) c.in-Some.ensures.value
-
-pub returns-in_err-content-clause-form : goal.returns-in_err-content-clause-form
-returns-in_err-content-clause-form c =
-    (c.requires.form.0, with_same c.args.key.now (string c.requires.form.0) (view c.args.object.now) c.requires.form.1)
 
 pub set_first_member-requires : goal.set_first_member-requires
 set_first_member-requires c =
@@ -34,7 +30,7 @@ returns-clause-ok c =
     on_ok_weaker c.set_first_member.result
     (λ e. view-Object c.set_first_member.new.members
     ∙ object_with (view c.args.object.now) ms (members_view c.set_first_member.new.members.entries) k (string c.args.content.now) is
-    (e ∙ ap (λ w. replaced k (string w) ms) c.in_ok-content.ensures)) c.set_first_member.ensures.ok
+    e) c.set_first_member.ensures.ok
 
 pub returns-clause-form : goal.returns-clause-form
 returns-clause-form c =

@@ -16,11 +16,16 @@ returns-in_err-knot-clause-err c =
     let k = plain_knot margin_shape c.args.k.now in
     on_err_anyway _ (part_none (IsKnotEntry [] c.args.scale k) c.args.text.now c.args.text.now (knot_entry_exists c.args.scale [] k) refl)
 
-pub fill_knot-requires-clause-form : goal.fill_knot-requires-clause-form
-fill_knot-requires-clause-form c = ([], [], c.in_ok-knot.ensures)
+pub returns-in_err-texts-clause-err : goal.returns-in_err-texts-clause-err
+returns-in_err-texts-clause-err c =
+    let k = plain_knot margin_shape c.args.k.now in
+    on_err_anyway _ (part_none (IsKnotEntry [] c.args.scale k) c.args.text.now c.args.text.now (knot_entry_exists c.args.scale [] k) refl)
+
+pub fill_knot-requires : goal.fill_knot-requires
+fill_knot-requires c = ([], [], c.in_ok-knot.ensures)
 
 pub put_data-requires : goal.put_data-requires
-put_data-requires c = ap has_float c.in_ok-fill_knot.ensures.ok.4
+put_data-requires c = ap has_float c.in_ok-fill_knot.ensures.ok
 
 pub returns-in_err-fill_knot-clause-err : goal.returns-in_err-fill_knot-clause-err
 returns-in_err-fill_knot-clause-err c =
@@ -30,7 +35,7 @@ returns-in_err-fill_knot-clause-err c =
 pub returns-clause-ok : goal.returns-clause-ok
 returns-clause-ok c =
     let d = view c.fill_knot.new.knot in
-    on_ok_weaker c.put_data.result (λ e. (compact_text d, (d, c.in_ok-fill_knot.ensures.ok, refl), e)) c.put_data.ensures.ok
+    on_ok_weaker c.put_data.result (λ e. (compact_text d, (d, (_, _, c.in_ok-texts.ensures.at, c.in_ok-texts.ensures.margin, c.in_ok-fill_knot.ensures.ok), refl), e)) c.put_data.ensures.ok
 
 pub returns-clause-err : goal.returns-clause-err
 returns-clause-err c =
@@ -38,4 +43,4 @@ returns-clause-err c =
     let d = view c.fill_knot.new.knot in
     on_err_weaker c.put_data.result
     (part_as (Is (compact_text d)) (IsKnotEntry [] c.args.scale k) c.args.text.now c.put_data.new.text
-    (λ w h. (d, c.in_ok-fill_knot.ensures.ok, h))) c.put_data.ensures.err
+    (λ w h. (d, (_, _, c.in_ok-texts.ensures.at, c.in_ok-texts.ensures.margin, c.in_ok-fill_knot.ensures.ok), h))) c.put_data.ensures.err
