@@ -14,7 +14,7 @@ use Rattle.online_nodes.specs.Laws.{AreTold, AreTiles}
 use Rattle.online_nodes.proofs.StayLaw.{described}
 use Rattle.online_nodes.proofs.EmittedLaw.{describes_tiles}
 use Rattle.online_nodes.proofs.HeldLaw.{is_in}
-use Rattle.online_nodes.proofs.Writing.{same_itself}
+use Rattle.online_nodes.proofs.ToldSoFar.{same_itself}
 use Rattle.agreeing.specs.Joined.{HaveTruth, BeginsOther, AreJoined, CoversJoin}
 
 -- ---- where tiles lead

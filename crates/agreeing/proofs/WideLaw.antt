@@ -23,7 +23,7 @@ use Rattle.stl_syntax.specs.declared.node.Node.TheVariants.{Const, Atom as Leaf,
 use Rattle.online_nodes.specs.StreamedWide.{IsUnstreamed, front_at, IsSettledConstant}
 use Rattle.trace_stream.specs.Streams.{margins, HasStream}
 use Rattle.trace_stream.specs.Wides.{IsNeededByThen, IsWideRows, at_row, at_end}
-use Rattle.trace_stream.proofs.Refused.{stream_scaled}
+use Rattle.trace_stream.proofs.WideRefused.{stream_scaled}
 use Rattle.agreeing.specs.Wides.{HasCause, StreamedWidesAreWhole}
 use Rattle.agreeing.proofs.PlayOn.{StaysSame, part_on, value_within, limit_within, end_part_on, ahead_has_time, behind_has_time, shifted_later}
 use Rattle.agreeing.proofs.MarginsSettled.{to, end, short, long, further, settled}

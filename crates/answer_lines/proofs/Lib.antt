@@ -1,6 +1,6 @@
 pub mod Parts
-pub mod Putting
-pub mod Adding
+pub mod TextsBefore
+pub mod TextsBehind
 pub mod Spans
 pub mod Tops
 pub mod Fractions

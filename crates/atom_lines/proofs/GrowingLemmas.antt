@@ -45,7 +45,7 @@ use Rattle.atom_lines.specs.Growing.{IsRowBase, CatchesUp, GoesAlong, HasGrown}
 use Rattle.atom_lines.specs.AtomSignals.{IsAtomSignal}
 use Rattle.atom_lines.proofs.SumLemmas.{atom_binding, expression_at_row, expression_along}
 use Rattle.rational.specs.Affine.{IsBounded}
-use Rattle.atom_lines.proofs.Limited.{worth_bounded, along_within}
+use Rattle.atom_lines.proofs.ValueLimits.{worth_bounded, along_within}
 use Rattle.pl_signal.proofs.Limits.{limited}
 use Rattle.atom_lines.proofs.Readings.{worth_same, gives, given_is_function}
 

@@ -4,9 +4,9 @@ pub mod SumLemmas
 pub mod Signs
 pub mod Crossings
 pub mod Margins
-pub mod Adding
+pub mod GrowingSums
 pub mod Readings
-pub mod Limited
+pub mod ValueLimits
 pub mod GrowingLemmas
 pub mod WayLemmas
 mod MarginWayLemmas

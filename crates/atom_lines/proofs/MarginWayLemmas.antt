@@ -30,7 +30,7 @@ use Rattle.atom_lines.specs.Rows.{row_of, values_at}
 use Rattle.atom_lines.specs.Steps.{IsLevelStep, IsStep}
 use Rattle.atom_lines.specs.Sums.{reach}
 use Rattle.atom_lines.proofs.Crossings.{at_first}
-use Rattle.atom_lines.proofs.Limited.{along_still, along_within, worth_bounded}
+use Rattle.atom_lines.proofs.ValueLimits.{along_still, along_within, worth_bounded}
 use Rattle.atom_lines.proofs.SumLemmas.{expression_along, expression_at_row}
 use Rattle.atom_lines.proofs.WayLemmas.{neighbours_in, rel_is, row_in}
 

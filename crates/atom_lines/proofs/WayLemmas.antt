@@ -27,7 +27,7 @@ use Rattle.atom_lines.specs.Passages.{HasBlock, IsTurning, IsWay, TellsPassage, 
 use Rattle.atom_lines.specs.Rows.{row_of, values_at}
 use Rattle.atom_lines.specs.Steps.{IsStep}
 use Rattle.atom_lines.specs.Sums.{reach}
-use Rattle.atom_lines.proofs.Adding.{one_of_ramps, one_of_steps, reach_small, read_back}
+use Rattle.atom_lines.proofs.GrowingSums.{one_of_ramps, one_of_steps, reach_small, read_back}
 use Rattle.atom_lines.proofs.Crossings.{IsTurn, even_truth}
 use Rattle.atom_lines.proofs.Signs.{compare_same}
 use Rattle.atom_lines.proofs.SumLemmas.{atom_binding, expression_along, expression_at_row}

@@ -32,7 +32,7 @@ use Rattle.atom_lines.specs.How.{by_truth}
 use Rattle.atom_lines.specs.Passages.{HasBlock, IsWay, TellsPassage, TurnsInside, crossing_time}
 use Rattle.atom_lines.specs.Rows.{row_of}
 use Rattle.atom_lines.proofs.GrowingLemmas.{between_within, zero_base}
-use Rattle.atom_lines.proofs.Limited.{truth_within}
+use Rattle.atom_lines.proofs.ValueLimits.{truth_within}
 use Rattle.atom_lines.proofs.Readings.{gives}
 use Rattle.pieces.specs.declared.piece.Piece.{Piece}
 use Rattle.pieces.specs.Building.{GoesOn}

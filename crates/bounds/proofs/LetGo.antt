@@ -30,7 +30,7 @@ use Rattle.online_nodes.proofs.RisingLaw.{IsSound, event_later, run_before, soun
 use Rattle.online_nodes.proofs.RunLaw.{none_is_none}
 use Rattle.online_nodes.proofs.StayLaw.{first_same, shown_is}
 use Rattle.online_nodes.proofs.EmittedLaw.{emitted_alike, emitted_last, emitted_tiles}
-use Rattle.online_nodes.proofs.Writing.{in_upto}
+use Rattle.online_nodes.proofs.ToldSoFar.{in_upto}
 use Rattle.bounds.specs.Books.{EdgesLetGo}
 
 in_alike : (a b : Interval) (t : Rational) → BeginAlike a b → EndAlike a b → IsIn a t → IsIn b t

@@ -20,7 +20,7 @@ use Rattle.stl_syntax.specs.Verdicts.{Describes}
 use Rattle.stl_syntax.specs.declared.items.Verdict.{Verdict}
 use Rattle.online_nodes.specs.Truths.{Is, AllAre}
 use Rattle.online_nodes.proofs.Stretches.{some_verdict}
-use Rattle.online_nodes.proofs.Writing.{told_same, lead_describes}
+use Rattle.online_nodes.proofs.ToldSoFar.{told_same, lead_describes}
 use Rattle.bounds.specs.Turns.{looks_back, far}
 use Rattle.bounds.specs.Steady.{StaysOn, AtomsStay, SteadyAtomsKeepTruths, SteadyAtomsAnswerOnce}
 use Rattle.bounds.proofs.NearTimes.{by, behind}

@@ -23,7 +23,7 @@ use Rattle.early_verdict.specs.declared.sets.Parts.{Parts}
 use Rattle.growing_sets.proofs.Gaps.{covers, decided_on}
 use Rattle.growing_sets.proofs.Failures.{at_time, past_time}
 use Rattle.early_verdict.proofs.SinceSets.{along, none_later}
-use Rattle.early_verdict.proofs.Settling.{SaysSince, reaches_along, says_since, until_fits}
+use Rattle.early_verdict.proofs.SettledBySets.{SaysSince, reaches_along, says_since, until_fits}
 
 -- up to the last row the lists tell the truth at each time that is asked
 pub record Final (tr : Trace) (In : Rational → Type 0) (l : Lists) (p : Subformula) : Type 0 where

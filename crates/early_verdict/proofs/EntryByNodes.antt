@@ -22,7 +22,7 @@ use Rattle.early_verdict.proofs.FitLemmas.{fits_alike}
 use Rattle.early_verdict.proofs.AllSets.{lists_are}
 use Rattle.early_verdict.proofs.LivingLemmas.{parts_as}
 use Rattle.early_verdict.proofs.SetsTell.{parts_kept}
-use Rattle.early_verdict.proofs.Splitting.{changed_as, changed_each}
+use Rattle.early_verdict.proofs.SplitLists.{changed_as, changed_each}
 use Rattle.early_verdict.proofs.Places.{taken_at, taken_within, lists_by}
 
 -- a place no later is before or there

@@ -26,7 +26,7 @@ use Rattle.early_verdict.specs.declared.sets.Sets.{Sets}
 use Rattle.early_verdict.proofs.AllSets.{AreSound, all_final, all_known, lists_are}
 use Rattle.early_verdict.proofs.EndedSets.{Final}
 use Rattle.early_verdict.proofs.LooksStay.{at_place, live_on, shown_still, sound_of}
-use Rattle.early_verdict.proofs.LiveMaking.{made_live, root_shows, shown_empty}
+use Rattle.early_verdict.proofs.EmptySets.{made_live, root_shows, shown_empty}
 use Rattle.early_verdict.proofs.NodeSets.{own_all, own_live}
 use Rattle.early_verdict.proofs.RowLemmas.{is_first_row, is_next, rows_pushed}
 use Rattle.early_verdict.proofs.SetsTell.{none_of}

@@ -30,9 +30,9 @@ use Rattle.early_verdict.proofs.AllSets.{is_shown, lists_are, shown_is, shown_wi
 use Rattle.rational.proofs.PlaceLemmas.{at_most_of_not_before, between, not_both, sides, after_at_most, le_through, upto_earlier}
 use Rattle.rational.proofs.Lists.{slice_get_there}
 use Rattle.early_verdict.proofs.Places.{lists_by}
-use Rattle.early_verdict.proofs.Windowing.{le_back}
+use Rattle.early_verdict.proofs.MovedBack.{le_back}
 use Rattle.stl_syntax.specs.Views.{view_of}
-use Rattle.early_verdict.proofs.Splitting.{IsSplit, changed_each, changes_at}
+use Rattle.early_verdict.proofs.SplitLists.{IsSplit, changed_each, changes_at}
 use Rattle.growing_sets.proofs.StretchLemmas.{rises}
 use Rattle.growing_sets.proofs.RunLemmas.{earlier_after, on_one}
 use Rattle.early_verdict.proofs.SetsTell.{parts_tidy}

@@ -2,7 +2,7 @@ pub mod SetsTell
 pub mod UntilSets
 pub mod SinceSets
 pub mod DecisiveSets
-pub mod Settling
+pub mod SettledBySets
 pub mod NeverBoth
 pub mod NodeReads
 pub mod SettledSets
@@ -11,7 +11,7 @@ pub mod AllSets
 pub mod AtomSets
 mod TurningLemmas
 mod BlockLemmas
-mod Answering
+mod RowAnswers
 pub mod LookLemmas
 pub mod FitLemmas
 pub mod Places
@@ -19,7 +19,7 @@ pub mod EntryByNodes
 pub mod RowLemmas
 pub mod RunSets
 pub mod ChildLists
-pub mod Windowing
+pub mod MovedBack
 pub mod LooksStay
 pub mod DecideLemmas
 pub mod EntryLemmas
@@ -27,15 +27,15 @@ pub mod GoingOn
 pub mod StandingOn
 pub mod PartSets
 pub mod TopsLemmas
-pub mod Splitting
+pub mod SplitLists
 pub mod MadeLemmas
 pub mod Undecided
-pub mod Feeding
+pub mod NextRow
 mod LivingLemmas
-mod LiveMaking
+mod EmptySets
 mod Childhood
 mod LettingLemmas
-mod Narrowing
+mod FewerTimes
 mod UntilCuts
 mod UntilStands
 mod CarriedRuns
@@ -44,5 +44,5 @@ mod SinceStands
 mod SinceLooks
 mod AnewLemmas
 mod NodeSets
-mod Having
+mod KnownNode
 mod FirstSets

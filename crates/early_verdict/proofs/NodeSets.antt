@@ -16,7 +16,7 @@ use Rattle.early_verdict.specs.Living.{AreLive, IsLive, NetIs}
 use Rattle.early_verdict.specs.Letting.{AreLess, HasShedAt, IsInside}
 use Rattle.early_verdict.specs.declared.sets.Sets.{Sets}
 use Rattle.early_verdict.proofs.LivingLemmas.{live_leaf}
-use Rattle.early_verdict.proofs.Narrowing.{Beside, StayBeside, live_inside, shed_stands}
+use Rattle.early_verdict.proofs.FewerTimes.{Beside, StayBeside, live_inside, shed_stands}
 
 -- an operator goes on from its own
 own_operator : (n : Node) (s x : Sets) → IsOperator n → own_sets n s x ≡ s

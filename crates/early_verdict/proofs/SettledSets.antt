@@ -20,7 +20,7 @@ use Rattle.early_verdict.specs.declared.sets.Parts.{Parts}
 use Rattle.early_verdict.proofs.NeverBoth.{never_both}
 use Rattle.early_verdict.proofs.NodeReads.{FalseBy, ListedNo, ListedYes, TrueBy, read_listed, read_on}
 use Rattle.early_verdict.proofs.SetsTell.{both_alike, tells_alike}
-use Rattle.early_verdict.proofs.Settling.{SaysSince, reaches_along, says_since, until_fits}
+use Rattle.early_verdict.proofs.SettledBySets.{SaysSince, reaches_along, says_since, until_fits}
 
 module _ (tr : Trace) (own : Stretch) (s : Sets) (is_yes : s.yes.bounds ≡ own) (is_no : s.no.bounds ≡ own)
     (from : (t : Rational) → Lies own t → start tr ≤ʳ t) (tidy : AreSetsTidy s) (shown : List Sets)

@@ -26,7 +26,7 @@ use Rattle.early_verdict.proofs.AllSets.{is_shown, lists_are, shown_is}
 use Rattle.early_verdict.proofs.LettingLemmas.{both_shown, still_on, two_less}
 use Rattle.early_verdict.proofs.SinceSets.{none_later}
 use Rattle.early_verdict.proofs.SinceStands.{AreBackCut, HoldAndFail, since_stands}
-use Rattle.early_verdict.proofs.Narrowing.{Beside, shown_begun}
+use Rattle.early_verdict.proofs.FewerTimes.{Beside, shown_begun}
 
 -- sets that are cut are tidy
 tidy_parts : (d from : Rational) (wide : Stretch) (o o' : Option Parts) → ArePartsCut d from wide o o' → MatchOption o (Unit {0}) ArePartsTidy

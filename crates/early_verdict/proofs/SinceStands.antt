@@ -28,11 +28,11 @@ use Rattle.early_verdict.specs.declared.sets.Sets.{Sets}
 use Rattle.early_verdict.specs.declared.sets.Parts.{Parts}
 use Rattle.early_verdict.proofs.AllSets.{is_shown, lists_are, lists_tidy, shown_is, shown_within, yes_there, no_there}
 use Rattle.early_verdict.proofs.LettingLemmas.{less_shown, two_less, two_others, two_shows}
-use Rattle.early_verdict.proofs.Narrowing.{Beside, agree, lists_apart, live_by, one_stands, shown_begun, shown_inside}
+use Rattle.early_verdict.proofs.FewerTimes.{Beside, agree, lists_apart, live_by, one_stands, shown_begun, shown_inside}
 use Rattle.early_verdict.proofs.NodeReads.{ListedNo, ListedYes, read_on, since_fails, since_holds}
 use Rattle.rational.proofs.PlaceLemmas.{between}
 use Rattle.rational.proofs.Lists.{slice_get_there}
-use Rattle.early_verdict.proofs.Settling.{SaysSince, reaches_along, says_since}
+use Rattle.early_verdict.proofs.SettledBySets.{SaysSince, reaches_along, says_since}
 use Rattle.early_verdict.proofs.SinceCuts.{IsBackCut, SeesAnew, SeesNone, failing_back, holding_back}
 use Rattle.early_verdict.proofs.SetsTell.{both_alike, unit_of}
 use Rattle.early_verdict.proofs.SinceSets.{none_later}

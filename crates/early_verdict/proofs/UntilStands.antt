@@ -25,7 +25,7 @@ use Rattle.growing_sets.specs.declared.grown.Grown.{Grown}
 use Rattle.early_verdict.specs.declared.sets.Sets.{Sets}
 use Rattle.early_verdict.specs.declared.sets.Parts.{Parts}
 use Rattle.early_verdict.proofs.AllSets.{lists_are}
-use Rattle.early_verdict.proofs.Narrowing.{Beside, live_by, one_stands, shown_begun, shown_inside}
+use Rattle.early_verdict.proofs.FewerTimes.{Beside, live_by, one_stands, shown_begun, shown_inside}
 use Rattle.rational.proofs.PlaceLemmas.{between}
 use Rattle.rational.proofs.Lists.{slice_get_there}
 use Rattle.early_verdict.proofs.SetsTell.{unit_of}

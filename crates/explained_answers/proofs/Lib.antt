@@ -1,3 +1,3 @@
-mod Refuting
-mod Reasoned
-mod Reported
+mod KeptRefutes
+mod ExplainTexts
+mod CaseReports

@@ -22,7 +22,7 @@ use Rattle.offline_eval.specs.Inputs.{IsOver}
 use Rattle.offline_eval.specs.Keeping.{kept, IsSpare, AreGivenUp, IsRootIn, IsStack, TellsStack}
 use Rattle.offline_eval.specs.Making.{IsSound, AreSound, TellAt, TellsValue}
 use Rattle.offline_eval.specs.Places.{AgreeAt, reach_before}
-use Rattle.offline_eval.proofs.Evaluating.{pushed_count, told_pushed, all_told, all_pushed}
+use Rattle.offline_eval.proofs.NextNode.{pushed_count, told_pushed, all_told, all_pushed}
 use Rattle.offline_eval.proofs.Sound.{sound_more}
 
 -- a place in a list in which one item was replaced

@@ -6,11 +6,11 @@ pub mod Pointwise
 pub mod Steady
 pub mod NodeLemmas
 pub mod Places
-pub mod Evaluating
+pub mod NextNode
 pub mod Never
 pub mod ToldHaveValues
 pub mod WindowLemmas
-pub mod Windowed
+pub mod OneWindow
 pub mod UntilLemmas
 mod ChildrenKept
 pub mod PlainAtoms

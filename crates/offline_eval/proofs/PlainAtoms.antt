@@ -22,7 +22,7 @@ use Rattle.stl_syntax.specs.declared.node.Node.TheVariants.{Atom as Leaf}
 use Rattle.offline_eval.specs.Forms.{of_knots}
 use Rattle.offline_eval.specs.Inputs.{atoms_before, is_atom, IsInput, TellAtoms}
 use Rattle.offline_eval.specs.PlainAtoms.{knots_setting}
-use Rattle.offline_eval.proofs.Evaluating.{some_left}
+use Rattle.offline_eval.proofs.NextNode.{some_left}
 
 -- a list of an atom stands at the atom's place
 placed_at : (nodes : List Node) (ks : List Knots) (i : ℕ) (a : Atom) (k : Knots) → slice_get nodes i ≡ Some (Leaf a)

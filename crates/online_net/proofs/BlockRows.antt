@@ -33,7 +33,7 @@ use Rattle.online_nodes.specs.declared.operator.Operator.{Operator}
 use Rattle.online_nodes.proofs.EmittedLaw.{describes_tiles}
 use Rattle.online_nodes.proofs.MeetingLaw.{tiled_upto}
 use Rattle.online_nodes.proofs.Stretches.{stand_given}
-use Rattle.online_nodes.proofs.Writing.{in_after, in_upto}
+use Rattle.online_nodes.proofs.ToldSoFar.{in_after, in_upto}
 use Rattle.online_net.specs.Atoms.{HasPutAtoms, begun}
 use Rattle.online_net.specs.Nets.{Parts, Stands}
 use Rattle.online_net.specs.Stretches.{AreOfRows, IsPutRows, HaveRows, rows_between}

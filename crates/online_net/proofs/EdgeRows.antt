@@ -19,7 +19,7 @@ use Rattle.online_nodes.specs.Held.{Edge, Held, JoinsAlike, Stand, edge_at, no_e
 use Rattle.online_nodes.specs.Written.{Lead}
 use Rattle.online_nodes.specs.declared.operator.Operator.{Operator}
 use Rattle.online_nodes.proofs.Stretches.{stand_again, stand_given, stand_more, stretches_again, stretches_behind}
-use Rattle.online_nodes.proofs.Writing.{lead_describes}
+use Rattle.online_nodes.proofs.ToldSoFar.{lead_describes}
 use Rattle.online_net.specs.Stretches.{after_time, AreOfRows, HasPutStretch, IsPutRows, HasPutRows, HaveRows, StaysOver}
 use Rattle.atom_lines.proofs.Columns.{next_row}
 use Rattle.online_net.proofs.RowParts.{of_rows, row_more}

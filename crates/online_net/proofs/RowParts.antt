@@ -18,7 +18,7 @@ use Rattle.stl_syntax.specs.declared.items.Verdict.{Verdict}
 use Rattle.online_nodes.specs.Held.{AreStretches, as_given, joined}
 use Rattle.online_nodes.specs.Written.{Lead}
 use Rattle.online_nodes.proofs.Stretches.{stretches_behind, stretches_again}
-use Rattle.online_nodes.proofs.Writing.{same_itself, lead_describes}
+use Rattle.online_nodes.proofs.ToldSoFar.{same_itself, lead_describes}
 use Rattle.online_net.specs.Stretches.{after_time, AreOfRows}
 use Rattle.online_net.proofs.Running.{later_order}
 

@@ -38,7 +38,7 @@ use Rattle.frac128.specs.declared.cut.Cut.{Cut}
 use Rattle.online_nodes.specs.declared.writer.Out.{Out}
 use Rattle.rational.proofs.PlaceLemmas.{sides, same_places, same_trans_places, same_of_at_most}
 use Rattle.rational.proofs.PlaceLemmas.{before_trans, before_same, same_before, room_of_before, upto_of_before, upto_same}
-use Rattle.online_nodes.proofs.Writing.{told_same, same_itself, lead_describes}
+use Rattle.online_nodes.proofs.ToldSoFar.{told_same, same_itself, lead_describes}
 
 -- a writer that may go up to a place within its stretch stands there
 pub stands_at : (before after : Out) (cut : Cut) → Reaches before cut after → AtMost (place before.at) (place cut) → AtMost (place cut) (place before.to)

@@ -15,7 +15,7 @@ use Rattle.online_nodes.proofs.TellingLemmas.{tells_first}
 use Rattle.online_nodes.proofs.StepFacts.{just_after}
 use Rattle.rational.proofs.PlaceLemmas.{same_places, upto_of_before, upto_same}
 use Rattle.rational.proofs.Lists.{slice_get-append_right}
-use Rattle.online_nodes.proofs.Writing.{same_itself}
+use Rattle.online_nodes.proofs.ToldSoFar.{same_itself}
 use Rattle.std.specs.Prelude.{MatchBool}
 use Rattle.std.proofs.lemmas.Option.{same_Some, none-some}
 

@@ -36,7 +36,7 @@ use Rattle.rational.proofs.Tests.{int_order}
 use Rattle.online_nodes.proofs.ReadLemmas.{allowed_by_now, input_apart, never_less, read_first, telling}
 use Rattle.online_nodes.proofs.ReaderLemmas.{input_side, side_reads}
 use Rattle.online_nodes.proofs.StayLaw.{shown_is}
-use Rattle.online_nodes.proofs.Writing.{same_itself}
+use Rattle.online_nodes.proofs.ToldSoFar.{same_itself}
 use Rattle.online_nodes.proofs.RisingLaw.{same_is, same_of}
 
 -- a place is one of these

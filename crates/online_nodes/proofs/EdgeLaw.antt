@@ -24,7 +24,7 @@ use Rattle.online_nodes.proofs.StayLaw.{shown_is, first_same}
 use Rattle.online_nodes.proofs.RisingLaw.{IsSound, sound_after, sound_of, run_before, run_on, reader_behind}
 use Rattle.online_nodes.proofs.EmittedLaw.{emitted_tiles, taken_within, Led, here_led, shown_later, none_before, front_shown}
 use Rattle.online_nodes.proofs.MeetingLaw.{AllowsMore, needed_grows, needed_first, tiles_none}
-use Rattle.online_nodes.proofs.Writing.{same_itself}
+use Rattle.online_nodes.proofs.ToldSoFar.{same_itself}
 use Rattle.stl_syntax.proofs.PostOrderLemmas.{slice_get_at}
 
 -- a node that reads another is no atom

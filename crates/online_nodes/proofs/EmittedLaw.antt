@@ -23,7 +23,7 @@ use Rattle.online_nodes.specs.Laws.{AreTiles, answered_to, IsWhole}
 use Rattle.rational.specs.Places.{Place, begins, ends, Same}
 use Rattle.rational.proofs.PlaceLemmas.{same_trans_places, before_of_not_empty}
 use Rattle.rational.proofs.Tests.{int_order}
-use Rattle.online_nodes.proofs.Writing.{same_itself}
+use Rattle.online_nodes.proofs.ToldSoFar.{same_itself}
 use Rattle.online_nodes.proofs.RunLaw.{none_is_none}
 use Rattle.online_nodes.proofs.RisingLaw.{same_is, IsSound, sound_after, event_later, sound_of}
 use Rattle.online_nodes.proofs.StayLaw.{shown_is, first_same}

@@ -13,7 +13,7 @@ use Rattle.online_nodes.specs.Laws.{AreTiles, beyond}
 use Rattle.rational.specs.Places.{Place, begins, ends, After, Upto, Before, Same}
 use Rattle.rational.proofs.PlaceLemmas.{place_order, between, after_of_before, after_same, same_places, upto_of_before}
 use Rattle.rational.proofs.PlaceLemmas.{upto_same}
-use Rattle.online_nodes.proofs.Writing.{in_upto}
+use Rattle.online_nodes.proofs.ToldSoFar.{in_upto}
 
 -- a time behind the begin of a stretch, and not behind its end, is in it
 pub is_in : (on : Interval) (t : Rational) → After (begins on) t → Upto (ends on) t → IsIn on t

@@ -1,4 +1,4 @@
-pub mod Writing
+pub mod ToldSoFar
 pub mod GotLemmas
 pub mod RunLaw
 pub mod StayLaw
@@ -18,7 +18,7 @@ mod SinceLaw
 mod SettledLaw
 pub mod WorkLemmas
 mod SaidLemmas
-mod Sweeping
+mod OneVerdictMore
 mod SweepLemmas
 mod JoinLemmas
 mod NegationLemmas

@@ -16,7 +16,7 @@ use Rattle.online_nodes.specs.Laws.{AreTiles, answered_to, beyond}
 use Rattle.rational.specs.Places.{Place, begins, ends, After, Upto, Same}
 use Rattle.rational.proofs.PlaceLemmas.{between, after_of_before, after_same, upto_of_before, upto_same, same_places, not_both}
 use Rattle.rational.proofs.Tests.{int_order}
-use Rattle.online_nodes.proofs.Writing.{in_upto}
+use Rattle.online_nodes.proofs.ToldSoFar.{in_upto}
 use Rattle.online_nodes.proofs.HeldLaw.{is_in, meeting_is_suffix, tiled_inside}
 
 -- each of the verdicts is so

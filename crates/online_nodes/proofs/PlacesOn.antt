@@ -11,7 +11,7 @@ use Rattle.rational.specs.Places.{Place, begins, ends, Upto, AtMost, Before, Sam
 use Rattle.online_nodes.specs.Laws.{AreTiles, answered_to}
 use Rattle.online_nodes.specs.Operators.{place_of, first_place}
 use Rattle.rational.proofs.PlaceLemmas.{same_places, upto_same, after_same, same_before}
-use Rattle.online_nodes.proofs.Writing.{same_itself}
+use Rattle.online_nodes.proofs.ToldSoFar.{same_itself}
 use Rattle.online_nodes.proofs.KnowingOn.{ReadsOn}
 
 -- just after a number

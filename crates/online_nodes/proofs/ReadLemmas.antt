@@ -36,7 +36,7 @@ use Rattle.online_nodes.proofs.RisingLaw.{IsSound, children_before, sound_of}
 use Rattle.online_nodes.proofs.RunLaw.{none_is_none}
 use Rattle.online_nodes.proofs.StepFacts.{needs_later, needs_same}
 use Rattle.online_nodes.proofs.TellingLemmas.{IsTelling}
-use Rattle.online_nodes.proofs.Writing.{same_itself}
+use Rattle.online_nodes.proofs.ToldSoFar.{same_itself}
 
 -- the last row's time, by the rows
 pub last_is : (s : State) (l : ℕ) → last_row s ≡ Some (pos l) → last_time 0 s.rows ≡ l

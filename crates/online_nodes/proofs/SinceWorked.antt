@@ -57,7 +57,7 @@ use Rattle.online_nodes.proofs.RunLaw.{lesser, moved}
 use Rattle.online_nodes.proofs.SweptLemmas.{window_ends}
 use Rattle.online_nodes.proofs.WindowedLemmas.{fits_moved, some_in_window}
 use Rattle.online_nodes.proofs.WorkedLemmas.{read_place}
-use Rattle.online_nodes.proofs.Writing.{same_itself}
+use Rattle.online_nodes.proofs.ToldSoFar.{same_itself}
 
 -- since's bounds, in order and near and not ahead, and what its node is: or a node like it up to a place
 pub record HasSince (n p q : Subformula) (tr : Trace) (s : SinceWindow) (to : Place) : Type 0 where

@@ -25,7 +25,7 @@ pub use Rattle.node_edges.proofs.Stretches.{all_stretches, none_long, stretches_
 pub use Rattle.node_edges.proofs.Verdicts.{some_verdict}
 use Rattle.online_nodes.proofs.HeldLaw.{is_in}
 use Rattle.online_nodes.proofs.MeetingLaw.{Each, one_meeting}
-use Rattle.online_nodes.proofs.Writing.{in_after, in_upto, some_in}
+use Rattle.online_nodes.proofs.ToldSoFar.{in_after, in_upto, some_in}
 
 module _ {v w u : Verdict} (j : IsJoined v w u) where
   -- the joined verdict ends no earlier than the first of the two

@@ -38,7 +38,7 @@ use Rattle.online_nodes.proofs.DueLemmas.{among_first, among_telling, begun_at, 
 use Rattle.online_nodes.proofs.DueLemmas.{front_by_now, kind_is, knows_at}
 use Rattle.online_nodes.proofs.TellingLemmas.{fresh_counted, fresh_within}
 use Rattle.online_nodes.proofs.AnsweringLemmas.{fresh_few, worked_one}
-use Rattle.online_nodes.proofs.Writing.{same_itself}
+use Rattle.online_nodes.proofs.ToldSoFar.{same_itself}
 use Rattle.rational.proofs.PlaceLemmas.{after_same, sides, not_both, same_before, same_places, same_trans_places, upto_same}
 use Rattle.rational.proofs.PlaceLemmas.{after_at_most, same_of_at_most}
 use Rattle.online_nodes.proofs.ReadLemmas.{stop_is}

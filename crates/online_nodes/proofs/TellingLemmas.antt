@@ -20,7 +20,7 @@ use Rattle.online_nodes.specs.Sweeps.{Counted}
 use Rattle.online_nodes.proofs.InputLemmas.{counted_tells}
 use Rattle.rational.proofs.PlaceLemmas.{after_same, same_before, same_places, same_trans_places, upto_of_before, upto_same}
 use Rattle.rational.proofs.PlaceLemmas.{after_at_most, le_of_before, le_of_at_most}
-use Rattle.online_nodes.proofs.Writing.{same_itself}
+use Rattle.online_nodes.proofs.ToldSoFar.{same_itself}
 
 module _ (P : Truths) where
   -- the begin by another name

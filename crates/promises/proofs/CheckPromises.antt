@@ -33,7 +33,7 @@ use Rattle.trace_stream.proofs.FaultsStay.{unsound}
 use Rattle.promises.proofs.NoForm.{two_is_none}
 use Rattle.command_line.proofs.AskedWords.{word_form}
 use Rattle.promises.proofs.OneRequest.{one_verb}
-use Rattle.promises.proofs.Completing.{rest_of, truth_status}
+use Rattle.promises.proofs.CompleteRuns.{rest_of, truth_status}
 
 -- words ask for one text
 one_text : {words : List (List ℕ)} {text other : List ℕ} → AskCheck words text → AskCheck words other → text ≡ other

@@ -11,7 +11,7 @@ use Rattle.workbench.specs.Owed.{OwesAtEnd, not_yet, faulty as faulty_at_end, to
 use Rattle.workbench.specs.Ended.{IsVerdict, IsLastVerdict, IsAnswered, HasFault, none, bad, faulty, answered, wide, overfull}
 use Rattle.workbench.specs.Running.{IsBegun, IsEnd, by_itself, unread, unwritten, no_memory}
 use Rattle.workbench.specs.InputFaults.{whole_limits, IsInputFault}
-use Rattle.promises.proofs.Completing.{truth_status}
+use Rattle.promises.proofs.CompleteRuns.{truth_status}
 use Rattle.trace_stream.specs.CaseReader.{IsSound}
 
 -- bytes without a fault, all of them

@@ -1,5 +1,5 @@
 pub mod OneRequest
-pub mod Completing
+pub mod CompleteRuns
 pub mod Due
 pub mod NoForm
 pub mod CheckPromises

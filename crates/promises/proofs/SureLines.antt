@@ -18,7 +18,7 @@ use Rattle.stl_syntax.specs.declared.items.Verdict.{Verdict}
 use Rattle.stl_syntax.proofs.LawProofs.{answers_stay}
 use Rattle.online_nodes.specs.Laws.{AreTold, AreTiles, answered_to}
 use Rattle.online_nodes.proofs.StayLaw.{Agree, AgreeOn, described, told_append}
-use Rattle.online_nodes.proofs.Writing.{same_itself}
+use Rattle.online_nodes.proofs.ToldSoFar.{same_itself}
 use Rattle.online_nodes.proofs.EmittedLaw.{describes_tiles, tiles_append}
 use Rattle.stl_syntax.specs.Scaling.{nodes_for}
 use Rattle.answer_lines.proofs.Lines.{lines_join}

@@ -4,7 +4,7 @@ use Rattle.std.specs.Prelude.{slice_range}
 use Rattle.std.proofs.lemmas.List.{append-nil}
 use Rattle.std.proofs.Math.Seq.{take-append_seam, drop-append_seam}
 use Rattle.answer_lines.specs.After.{IsAdded}
-use Rattle.answer_lines.proofs.Adding.{add_then}
+use Rattle.answer_lines.proofs.TextsBehind.{add_then}
 
 -- nothing was put
 pub none_added : (r : List ℕ) (at : ℕ) → IsAdded [] r at r at

@@ -1,7 +1,7 @@
-pub mod Merging
-pub mod Parting
-pub mod Giving
+pub mod MergedVerdicts
+pub mod PartedVerdicts
+pub mod GivenCut
 pub mod Once
-pub mod Stepping
-pub mod Building
-pub mod Standing
+pub mod MergedOutputs
+pub mod BuiltRuns
+pub mod StandsByRow

@@ -9,7 +9,7 @@ use Rattle.workbench.specs.Requests.{Request, no_form, refused, whole, stream, s
 use Rattle.workbench.specs.Requests.{Stream, verdicts, early, margins}
 use Rattle.workbench.specs.Owed.{Owes, HasTooMany}
 use Rattle.workbench.specs.Ended.{IsVerdict, IsLastVerdict, IsAnswered, IsWide, IsWideWhole, HasFault, IsOverfull, EndsWith}
-use Rattle.promises.proofs.Completing.{truth_status}
+use Rattle.promises.proofs.CompleteRuns.{truth_status}
 use Rattle.promises.proofs.OneRequest.{one_request}
 use Rattle.run_laws.specs.OneAnswer.{IsFront, AreOnOneLine, IsBesideWide, wide_too, answered, faulty, BesideAWide}
 use Rattle.run_laws.proofs.FaultsOfAll.{all_read}

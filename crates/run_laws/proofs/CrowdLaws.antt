@@ -23,7 +23,7 @@ use Rattle.workbench.specs.Requests.{Request, has_input, Asks, stream, sessions,
 use Rattle.workbench.specs.Ended.{IsAnswered, faulty, answered, wide, overfull}
 use Rattle.workbench.specs.Running.{IsBegun, IsEnd, by_itself, unread, unwritten, no_memory, IsReadOut, IsRun}
 use Rattle.promises.proofs.BenchesHear.{hears_own_stream, hears_the_same, read_names}
-use Rattle.promises.proofs.Completing.{rest_of}
+use Rattle.promises.proofs.CompleteRuns.{rest_of}
 use Rattle.promises.proofs.OneRequest.{one_request}
 use Rattle.run_laws.specs.OneAnswer.{IsOwn, IsFront}
 use Rattle.run_laws.specs.Crowd.{heard_whole, HearsItsOwnRun, OthersChangeNothing, HearsAFront}

@@ -8,7 +8,7 @@ use Rattle.workbench.specs.Requests.{Request, Asks, has_input}
 use Rattle.workbench.specs.Owed.{Owes}
 use Rattle.workbench.specs.Ended.{EndsWith}
 use Rattle.workbench.specs.Running.{IsEnd, IsReadOut, IsRun}
-use Rattle.promises.proofs.Completing.{rest_of}
+use Rattle.promises.proofs.CompleteRuns.{rest_of}
 use Rattle.promises.proofs.OneRequest.{one_request}
 use Rattle.run_laws.specs.OneAnswer.{HoldTheSame, TellTheSame, OneAnswer, OneAnswerToWords, IsOwn, IsFront}
 use Rattle.run_laws.specs.OneAnswer.{FrontOfTheAnswer, FrontOfMore}

@@ -7,7 +7,7 @@ use Rattle.io_edge.specs.Calls.{Drained, Filled}
 use Rattle.workbench.specs.Requests.{Request, Asks, has_input}
 use Rattle.workbench.specs.Ended.{EndsWith}
 use Rattle.workbench.specs.Running.{IsEnd, by_itself, unread, unwritten, no_memory, IsReadOut, HasEnded, asked, unknown}
-use Rattle.promises.proofs.Completing.{rest_of}
+use Rattle.promises.proofs.CompleteRuns.{rest_of}
 use Rattle.run_laws.specs.OneAnswer.{IsOwn}
 use Rattle.run_laws.proofs.Endings.{IsEnding, ending_of_all}
 

@@ -9,7 +9,7 @@ use Rattle.std.proofs.lemmas.List.{length-take-le, length_push, take_all, take-a
 use Rattle.std.proofs.lemmas.List.Elements.{All-head, All-tail, All-nil, All-cons, All-append, All-get_or, All-take}
 use Rattle.std.proofs.Math.Seq.{take-append_seam}
 use Rattle.rational.proofs.Lists.{take_rest}
-use Rattle.answer_lines.proofs.Adding.{take_past}
+use Rattle.answer_lines.proofs.TextsBehind.{take_past}
 use Rattle.memchr.specs.Find.{is_byte, NoneBefore, Passes}
 use Rattle.std.proofs.lemmas.Slice.Eq.{bytes_eq-Decides}
 use Rattle.stl_syntax.specs.Characters.{is_space, all, is_among}

@@ -25,7 +25,7 @@ use Rattle.trace_stream.specs.declared.fault.StreamStop.TheVariants.{Fault as Fa
 use Rattle.trace_stream.proofs.HeaderLines.{header_once, header_read, header_within, no_rows_in, heading_is, ticks_small}
 use Rattle.trace_stream.proofs.FaultPlaces.{IsAtEndOf, after_header, fault_within, clean_from}
 use Rattle.trace_stream.proofs.OneLine.{one_left}
-use Rattle.trace_stream.proofs.Feeding.{no_lack, same_header, lacking_same, header_beyond, lines_few, blank_front}
+use Rattle.trace_stream.proofs.KeptOfBytes.{no_lack, same_header, lacking_same, header_beyond, lines_few, blank_front}
 
 rest_size : (e d : Bool) (xs : List ℕ) → length (rest e xs) ≡ length (rest d xs)
 rest_size e d [] = refl

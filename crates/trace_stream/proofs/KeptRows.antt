@@ -13,7 +13,7 @@ use Rattle.trace_reader.proofs.LineLemmas.{lines-nil}
 use Rattle.trace_stream.specs.CaseReader.{IsSound, IsKept, HasCase}
 use Rattle.trace_stream.specs.declared.case.Case.{Case}
 use Rattle.trace_stream.proofs.HeaderLines.{no_header}
-use Rattle.trace_stream.proofs.Feeding.{no_lack}
+use Rattle.trace_stream.proofs.KeptOfBytes.{no_lack}
 
 -- bytes that were kept have no fault so far
 pub sound_so_far : (f : Formula) (reader : Reader) (case : Option Case) (bytes : List ℕ) (k : IsKept f reader case bytes) → IsSound reader.limits f bytes false

@@ -1,13 +1,13 @@
 pub mod Columns
-pub mod Lacking
+pub mod HeaderLacks
 pub mod FaultLines
 pub mod HeaderLines
 pub mod FaultPlaces
 pub mod Sizes
 pub mod OneLine
-pub mod Feeding
+pub mod KeptOfBytes
 mod RowsKept
-pub mod Fed
+pub mod PieceParts
 pub mod Ends
 pub mod LastFaults
 pub mod FaultsStay
@@ -17,7 +17,7 @@ pub mod KeptRows
 pub mod MarginTexts
 pub mod OwedRows
 pub mod WideTexts
-pub mod Refused
-pub mod Living
+pub mod WideRefused
+pub mod ReaderSteps
 pub mod OpenRows
 pub mod Told

@@ -9,7 +9,7 @@ use Rattle.trace_stream.specs.Streams.{Stream, HasStream}
 use Rattle.trace_stream.specs.Following.{IsOpen, IsOpenBy, IsOpened, IsOpenedBy, IsLiveOpen}
 use Rattle.trace_stream.specs.declared.case.Case.{Case}
 use Rattle.trace_stream.specs.declared.live.Live.{Live}
-use Rattle.trace_stream.proofs.Living.{more_text}
+use Rattle.trace_stream.proofs.ReaderSteps.{more_text}
 use Rattle.trace_stream.proofs.RowsKept.{kept_rows}
 
 module _ (Stands Owes : Case → List ℕ → Type 0) (kind : Stream) where

@@ -15,7 +15,7 @@ use Rattle.trace_stream.specs.Kept.{with_rows, StandsForCase, IsEndedAs}
 use Rattle.trace_stream.specs.declared.case.Case.{Case}
 use Rattle.trace_stream.specs.declared.fault.StreamStop.{StreamStop}
 use Rattle.trace_stream.specs.declared.fault.StreamStop.TheVariants.{NoMemory}
-use Rattle.trace_stream.proofs.Feeding.{IsNext, header_goes_on, same_header}
+use Rattle.trace_stream.proofs.KeptOfBytes.{IsNext, header_goes_on, same_header}
 
 -- the trace of the case is that of the rows so far
 pub so_far : (f : Formula) (r : Reader) (case : Option Case) (c : Case) (bytes : List ℕ) → case ≡ Some c → IsKept f r case bytes → HasTraceSoFar r c.trace

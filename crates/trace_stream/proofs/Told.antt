@@ -10,7 +10,7 @@ use Rattle.trace_stream.specs.Following.{IsTextOf, IsFollowed, IsLive, IsOver}
 use Rattle.trace_stream.specs.declared.case.Case.{Case}
 use Rattle.trace_stream.specs.declared.live.Live.{Live}
 use Rattle.trace_stream.proofs.KeptRows.{sound_so_far, before_of_kept}
-use Rattle.trace_stream.proofs.Living.{told_of_kept}
+use Rattle.trace_stream.proofs.ReaderSteps.{told_of_kept}
 
 module _ {F : Type 0} (Stands : F → Case → List ℕ → Type 0) (kind : Stream) where
   -- what was written and is to be written is the text of the rows so far

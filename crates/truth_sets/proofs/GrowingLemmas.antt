@@ -14,7 +14,7 @@ use Rattle.stl_syntax.proofs.RowsLemmas.{first_time_at}
 use Rattle.stl_syntax.specs.Truth.{holds_at}
 use Rattle.stl_syntax.specs.declared.atom.Atom.{Atom}
 use Rattle.atom_lines.specs.Binding.{Binding, IsAtomNode, IsFor}
-use Rattle.atom_lines.proofs.Adding.{reach_small, read_back}
+use Rattle.atom_lines.proofs.GrowingSums.{reach_small, read_back}
 use Rattle.atom_lines.specs.Growing.{IsReachAt}
 use Rattle.atom_lines.specs.Legs.{BendsSo, IsLeg, bent, jumped}
 use Rattle.atom_lines.specs.Passages.{HasBlock}

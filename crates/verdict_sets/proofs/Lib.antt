@@ -1,3 +1,3 @@
-mod Taking
-mod Judging
+mod CaseSets
+mod RootSets
 mod LinesFrom

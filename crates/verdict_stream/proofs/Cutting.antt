@@ -21,7 +21,7 @@ use Rattle.online_nodes.specs.Laws.{AreTiles, AreTold}
 use Rattle.rational.proofs.PlaceLemmas.{not_both, place_order, upto_of_before, after_of_before}
 use Rattle.rational.proofs.PlaceLemmas.{same_places, upto_same, after_same, between, same_before}
 use Rattle.rational.proofs.PlaceLemmas.{before_same, before_trans, same_trans_places, room_of_before}
-use Rattle.online_nodes.proofs.Writing.{in_after, in_upto, some_in}
+use Rattle.online_nodes.proofs.ToldSoFar.{in_after, in_upto, some_in}
 use Rattle.online_nodes.proofs.HeldLaw.{is_in}
 use Rattle.online_nodes.proofs.MeetingLaw.{tiled_upto}
 use Rattle.online_nodes.proofs.EmittedLaw.{describes_tiles}

@@ -30,7 +30,7 @@ use Rattle.online_nodes.proofs.EmittedLaw.{emitted_last}
 use Rattle.online_nodes.proofs.RisingLaw.{same_is}
 use Rattle.online_nodes.proofs.RunLaw.{none_is_none}
 use Rattle.online_nodes.proofs.RowsLaw.{rows_of as rows_came, AreRowsSoFar}
-use Rattle.online_nodes.proofs.Writing.{same_itself}
+use Rattle.online_nodes.proofs.ToldSoFar.{same_itself}
 use Rattle.online_net.specs.Nets.{Parts, Stands}
 use Rattle.trace_stream.specs.Streams.{verdicts, StreamText}
 use Rattle.trace_stream.specs.Kept.{with_rows}

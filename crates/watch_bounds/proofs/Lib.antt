@@ -2,6 +2,6 @@ pub mod Totals
 pub mod Reaches
 pub mod LastRows
 pub mod Edges
-pub mod Holding
-pub mod Working
+pub mod HeldOnEdges
+pub mod WorkOfRun
 pub mod Cheap

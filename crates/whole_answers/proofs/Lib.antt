@@ -1,3 +1,3 @@
 pub mod Progress
 pub mod CaseSignals
-mod Measured
+mod RobustAnswers

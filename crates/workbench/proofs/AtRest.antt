@@ -28,7 +28,7 @@ use Rattle.workbench.specs.Stopping.{stop_of, outcome_of}
 use Rattle.trace_stream.proofs.KeptRows.{sound_so_far}
 use Rattle.trace_stream.proofs.Sizes.{few_bytes}
 use Rattle.trace_stream.proofs.KeptRows.{before_of_kept}
-use Rattle.trace_stream.proofs.Living.{told_of_kept}
+use Rattle.trace_stream.proofs.ReaderSteps.{told_of_kept}
 use Rattle.trace_stream.proofs.Told.{told_now, live_after, told_over, over_after}
 
 -- the limit on lines bounds the bytes

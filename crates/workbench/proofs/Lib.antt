@@ -1,6 +1,6 @@
 pub mod Endings
 pub mod RunEnds
-pub mod Leaving
+pub mod LeftByRun
 pub mod StreamSteps
 mod Beginnings
 pub mod AtRest

@@ -1,7 +1,7 @@
-mod Generating
+mod RowBytes
 pub mod Numbers
 pub mod RowLines
 pub mod TraceBytes
 pub mod JudgedFormula
-pub mod Listed
+pub mod EachOfList
 mod NoRefusal

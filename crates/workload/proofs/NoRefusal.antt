@@ -31,7 +31,7 @@ use Rattle.stl_grammar.proofs.PrintedLaw.{printed_texts_are_formulas}
 use Rattle.workload.specs.Generated.{ticks}
 use Rattle.workload.specs.Judged.{judged, compared, ahead_nodes, behind_nodes, judged_formula}
 use Rattle.workload.proofs.JudgedFormula.{judged_text}
-use Rattle.workload.proofs.Listed.{all_of}
+use Rattle.workload.proofs.EachOfList.{all_of}
 
 -- ---- what is pending weighs no more than the bytes before it
 

@@ -1,4 +1,4 @@
-mod Fitting
+mod FaultFree
 mod LineCounts
 mod WholeBytes
 mod Summaries

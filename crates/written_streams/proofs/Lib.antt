@@ -1,2 +1,2 @@
-mod Making
+mod WrittenTexts
 mod WatchCalls

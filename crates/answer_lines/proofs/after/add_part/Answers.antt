@@ -1,6 +1,6 @@
 use Rattle.std.proofs.Common.{◌+◌, ◌-◌, ◌++◌, length, take, drop, arith, sym, subst}
 use Rattle.answer_lines.specs.After.{IsAdded}
-use Rattle.answer_lines.proofs.Adding.{part_added}
+use Rattle.answer_lines.proofs.TextsBehind.{part_added}
 use Rattle.answer_lines.proofs.after.add_part.Goals as goal
 
 pub returns : goal.returns

@@ -1,6 +1,6 @@
 use Rattle.std.proofs.Common.{◌+◌, ◌-◌, drop, arith}
 use Rattle.std.proofs.lemmas.List.{take-take}
-use Rattle.answer_lines.proofs.Adding.{add_as}
+use Rattle.answer_lines.proofs.TextsBehind.{add_as}
 use Rattle.answer_lines.proofs.after.add_text.Goals as goal
 
 pub returns : goal.returns

@@ -1,6 +1,6 @@
 use Rattle.std.proofs.Common.{arith}
 use Rattle.std.proofs.lemmas.Fmt.{length-decimal-le}
-use Rattle.answer_lines.proofs.Putting.{put_digits_is}
+use Rattle.answer_lines.proofs.TextsBefore.{put_digits_is}
 use Rattle.answer_lines.proofs.before.put_small.Goals as goal
 
 pub write_digits-requires : goal.write_digits-requires

@@ -3,7 +3,7 @@ use Rattle.std.specs.Prelude.{IfSome}
 use Rattle.frac128.specs.Value.{value}
 use Rattle.answer_lines.specs.Rooms.{IsTextAt}
 use Rattle.answer_lines.specs.LineEnds.{line_begin, line_end}
-use Rattle.answer_lines.proofs.Adding.{add_then, add_as}
+use Rattle.answer_lines.proofs.TextsBehind.{add_then, add_as}
 use Rattle.answer_lines.proofs.RoomTexts.{longer_if, put_text_stands}
 use Rattle.answer_lines.proofs.Spans.{end_short, line_is}
 use Rattle.answer_lines.proofs.line_after.add_line.Goals as goal

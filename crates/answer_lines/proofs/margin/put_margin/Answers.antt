@@ -12,7 +12,7 @@ use Rattle.rational.proofs.Lines.{at_constant}
 use Rattle.rational.specs.Time.{Rational}
 use Rattle.stl_syntax.specs.Texts.{IsValueText}
 use Rattle.answer_lines.specs.Before.{Puts}
-use Rattle.answer_lines.proofs.Putting.{put_as}
+use Rattle.answer_lines.proofs.TextsBefore.{put_as}
 use Rattle.answer_lines.proofs.Spans.{number_text}
 use Rattle.answer_lines.proofs.Tops.{units_same}
 use Rattle.answer_lines.proofs.margin.put_margin.Goals as goal

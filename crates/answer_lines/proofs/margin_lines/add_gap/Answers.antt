@@ -1,5 +1,5 @@
 use Rattle.std.proofs.Common.{arith, refl}
-use Rattle.answer_lines.proofs.Adding.{add_then}
+use Rattle.answer_lines.proofs.TextsBehind.{add_then}
 use Rattle.answer_lines.proofs.margin_lines.add_gap.Goals as goal
 
 pub returns : goal.returns

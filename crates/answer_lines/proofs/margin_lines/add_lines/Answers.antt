@@ -1,7 +1,7 @@
 use Rattle.value_laws.specs.Kinds.{margin_shape}
 use Rattle.pl_signal.specs.Plain.{plain_knot, plain_piece}
 use Rattle.stl_syntax.specs.Texts.{IsKnotLine, IsPieceLine}
-use Rattle.answer_lines.proofs.Adding.{adds_then}
+use Rattle.answer_lines.proofs.TextsBehind.{adds_then}
 use Rattle.answer_lines.proofs.margin_lines.add_lines.Goals as goal
 
 pub returns : goal.returns

@@ -1,6 +1,6 @@
 use Rattle.std.proofs.Common.{refl, arith}
 use Rattle.frac128.specs.Value.{value}
-use Rattle.answer_lines.proofs.Putting.{put_as}
+use Rattle.answer_lines.proofs.TextsBefore.{put_as}
 use Rattle.answer_lines.proofs.Spans.{number_text}
 use Rattle.answer_lines.proofs.time_text.put_time_before.Goals as goal
 

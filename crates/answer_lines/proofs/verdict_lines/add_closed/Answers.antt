@@ -1,6 +1,6 @@
 use Rattle.std.proofs.Common.{◌++◌, codes, ap, sym}
 use Rattle.stl_syntax.specs.Texts.{bool_text, newline}
-use Rattle.answer_lines.proofs.Adding.{add_as}
+use Rattle.answer_lines.proofs.TextsBehind.{add_as}
 use Rattle.answer_lines.proofs.verdict_lines.add_closed.Goals as goal
 
 pub returns-then-holds : goal.returns-then-holds

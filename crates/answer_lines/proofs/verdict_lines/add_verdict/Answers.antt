@@ -1,6 +1,6 @@
 use Rattle.std.proofs.Common.{arith}
 use Rattle.answer_lines.specs.LineEnds.{line_begin}
-use Rattle.answer_lines.proofs.Adding.{add_then, add_as}
+use Rattle.answer_lines.proofs.TextsBehind.{add_then, add_as}
 use Rattle.answer_lines.proofs.Spans.{end_short, line_is}
 use Rattle.answer_lines.proofs.verdict_lines.add_verdict.Goals as goal
 

@@ -10,8 +10,8 @@ use Rattle.stl_syntax.specs.SupInf.{margin}
 use Rattle.atom_lines.specs.How.{by_margin}
 use Rattle.atom_lines.specs.Rows.{values_at}
 use Rattle.atom_lines.specs.Sums.{reach}
-use Rattle.atom_lines.proofs.Adding.{reach_small, read_back}
-use Rattle.atom_lines.proofs.Limited.{worth_bounded}
+use Rattle.atom_lines.proofs.GrowingSums.{reach_small, read_back}
+use Rattle.atom_lines.proofs.ValueLimits.{worth_bounded}
 use Rattle.atom_lines.proofs.MarginWayLemmas.{margin_is, sum_at}
 use Rattle.atom_lines.proofs.margin_way.margin_standing.Goals.{After-margin_at}
 use Rattle.atom_lines.proofs.margin_way.margin_standing.Goals as goal

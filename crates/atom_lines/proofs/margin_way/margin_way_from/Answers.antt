@@ -3,7 +3,7 @@ use Rattle.std.specs.Int.{w64}
 use Rattle.std.proofs.lemmas.Int.{to_z-of_z}
 use Rattle.std.proofs.lemmas.Bool.{false≢true}
 use Rattle.atom_lines.specs.Rows.{row_of, values_at}
-use Rattle.atom_lines.proofs.Adding.{reach_small, read_back}
+use Rattle.atom_lines.proofs.GrowingSums.{reach_small, read_back}
 use Rattle.atom_lines.proofs.MarginWayLemmas.{along_way, level_on, level_over, level_way}
 use Rattle.atom_lines.proofs.WayLemmas.{reach_next}
 use Rattle.atom_lines.proofs.margin_way.margin_way_from.Goals.{After-step_from-step}

@@ -12,7 +12,7 @@ use Rattle.atom_lines.specs.Gaps.{along}
 use Rattle.atom_lines.specs.How.{by_truth}
 use Rattle.atom_lines.proofs.Crossings.{turn_at}
 use Rattle.atom_lines.proofs.GrowingLemmas.{between_within, goes_turn, goes_two, truth_worth, zero_base}
-use Rattle.atom_lines.proofs.Limited.{truths_alike}
+use Rattle.atom_lines.proofs.ValueLimits.{truths_alike}
 use Rattle.atom_lines.proofs.piecewise.turn_over.Goals as goal
 
 pub go_along-requires-clause-later : goal.go_along-requires-clause-later

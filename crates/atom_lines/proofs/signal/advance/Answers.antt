@@ -5,7 +5,7 @@ use Rattle.stl_syntax.specs.Trace.{Row, Trace}
 use Rattle.atom_lines.specs.Rows.{values_at}
 use Rattle.atom_lines.specs.Sums.{reach}
 use Rattle.atom_lines.specs.Growing.{GoesAlong}
-use Rattle.atom_lines.proofs.Adding.{reach_small}
+use Rattle.atom_lines.proofs.GrowingSums.{reach_small}
 use Rattle.atom_lines.proofs.Columns.{next_row}
 use Rattle.atom_lines.proofs.GrowingLemmas.{grown_on}
 use Rattle.atom_lines.proofs.signal.advance.Goals as goal

@@ -7,7 +7,7 @@ use Rattle.rational.specs.Extended.{value_at, ◌≈ᵉ◌}
 use Rattle.frac128.specs.Value.{value}
 use Rattle.stl_syntax.specs.Trace.{Row, row_time}
 use Rattle.atom_lines.specs.Rows.{row_of, values_at}
-use Rattle.atom_lines.proofs.Adding.{reach_small}
+use Rattle.atom_lines.proofs.GrowingSums.{reach_small}
 use Rattle.atom_lines.specs.How.{worth}
 use Rattle.atom_lines.specs.Growing.{HasGrown}
 use Rattle.atom_lines.proofs.GrowingLemmas.{begun}

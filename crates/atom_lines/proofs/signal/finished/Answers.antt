@@ -7,7 +7,7 @@ use Rattle.pl_signal.specs.Knots.{stop}
 use Rattle.rational.specs.Extended.{value_at, ◌≈ᵉ◌}
 use Rattle.stl_syntax.specs.Trace.{Row}
 use Rattle.atom_lines.specs.Rows.{row_of, values_at}
-use Rattle.atom_lines.proofs.Adding.{reach_small}
+use Rattle.atom_lines.proofs.GrowingSums.{reach_small}
 use Rattle.atom_lines.specs.How.{worth, reading_of}
 use Rattle.atom_lines.specs.AtomSignals.{IsAtomSignal}
 use Rattle.atom_lines.proofs.GrowingLemmas.{whole_signal}

@@ -1,6 +1,6 @@
 use Rattle.std.proofs.Common.{◌≡◌, ◌≤◌, ◌*ℤ◌, ◌-ℤ◌, ◌∙◌, nat_abs, to_z, of_z, ap, subst, sym, arith}
 use Rattle.std.specs.Int.{w32}
-use Rattle.atom_lines.proofs.Adding.{above_fits, above_is, small_product, word32_is, word_read}
+use Rattle.atom_lines.proofs.GrowingSums.{above_fits, above_is, small_product, word32_is, word_read}
 use Rattle.atom_lines.proofs.sum.above_limit.Goals as goal
 
 pub product-requires : goal.product-requires

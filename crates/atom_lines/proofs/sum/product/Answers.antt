@@ -1,5 +1,5 @@
 use Rattle.std.proofs.Common.{◌≤◌, ◌^◌, nat_abs, subst, sym, arith}
-use Rattle.atom_lines.proofs.Adding.{product_fits, product_is, small_product, word32_is}
+use Rattle.atom_lines.proofs.GrowingSums.{product_fits, product_is, small_product, word32_is}
 use Rattle.atom_lines.proofs.sum.product.Goals as goal
 
 pub overflow_mul-result : goal.overflow_mul-result

@@ -1,5 +1,5 @@
 use Rattle.std.proofs.Common.{◌≤◌, ◌∙◌, ◌-ℤ◌, nat_abs, sym, ap, subst, arith}
-use Rattle.atom_lines.proofs.Adding.{one_sound, one_reach, one_of_ramps, word_read}
+use Rattle.atom_lines.proofs.GrowingSums.{one_sound, one_reach, one_of_ramps, word_read}
 use Rattle.atom_lines.proofs.sum.reaches_from.Goals as goal
 
 pub above_limit-next-requires-clause-coef : goal.above_limit-next-requires-clause-coef

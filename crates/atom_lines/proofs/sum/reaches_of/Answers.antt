@@ -3,7 +3,7 @@ use Rattle.std.specs.Int.{w64}
 use Rattle.std.proofs.lemmas.Int.{to_z-of_z}
 use Rattle.atom_lines.specs.declared.bound_atom.BoundTerm.{BoundTerm}
 use Rattle.atom_lines.specs.Sums.{sum_over, cell}
-use Rattle.atom_lines.proofs.Adding.{add_term, size_more, sum_fits, less_fits, whole_sum, whole_small, reach_read, limit_read}
+use Rattle.atom_lines.proofs.GrowingSums.{add_term, size_more, sum_fits, less_fits, whole_sum, whole_small, reach_read, limit_read}
 use Rattle.atom_lines.proofs.sum.reaches_of.Goals as goal
 
 pub loop-term-preserved : goal.loop-term-preserved

@@ -1,5 +1,5 @@
 use Rattle.std.proofs.Common.{◌≤◌, nat_abs, subst, sym, arith}
-use Rattle.atom_lines.proofs.Adding.{word_read}
+use Rattle.atom_lines.proofs.GrowingSums.{word_read}
 use Rattle.atom_lines.proofs.sum.term_values.Goals as goal
 
 pub product-next-requires : goal.product-next-requires

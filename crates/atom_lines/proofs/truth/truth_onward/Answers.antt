@@ -4,7 +4,7 @@ use Rattle.std.proofs.lemmas.Int.{to_z-of_z}
 use Rattle.rational.specs.Rational.{whole}
 use Rattle.stl_syntax.specs.Truth.{compares}
 use Rattle.atom_lines.specs.Gaps.{AreOfSign}
-use Rattle.atom_lines.proofs.Limited.{one_sign}
+use Rattle.atom_lines.proofs.ValueLimits.{one_sign}
 use Rattle.atom_lines.proofs.truth.truth_onward.Goals as goal
 
 pub returns-then-keeps_sign-clause-tells : goal.returns-then-keeps_sign-clause-tells

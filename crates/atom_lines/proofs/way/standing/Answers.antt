@@ -5,7 +5,7 @@ use Rattle.stl_syntax.specs.Trace.{Trace}
 use Rattle.stl_syntax.specs.Truth.{compares}
 use Rattle.atom_lines.specs.Rows.{values_at}
 use Rattle.atom_lines.specs.Sums.{reach}
-use Rattle.atom_lines.proofs.Adding.{reach_small, read_back}
+use Rattle.atom_lines.proofs.GrowingSums.{reach_small, read_back}
 use Rattle.atom_lines.proofs.WayLemmas.{at_row}
 use Rattle.atom_lines.proofs.way.standing.Goals as goal
 

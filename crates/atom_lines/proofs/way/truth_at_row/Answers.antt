@@ -5,7 +5,7 @@ use Rattle.stl_syntax.specs.Trace.{Trace}
 use Rattle.stl_syntax.specs.Truth.{compares}
 use Rattle.atom_lines.specs.Rows.{row_of, values_at}
 use Rattle.atom_lines.specs.Sums.{reach}
-use Rattle.atom_lines.proofs.Adding.{reach_small, read_back}
+use Rattle.atom_lines.proofs.GrowingSums.{reach_small, read_back}
 use Rattle.atom_lines.proofs.Signs.{compare_same}
 use Rattle.atom_lines.proofs.SumLemmas.{atom_binding, expression_at_row}
 use Rattle.atom_lines.proofs.way.truth_at_row.Goals as goal

@@ -9,7 +9,7 @@ use Rattle.early_verdict.specs.Making.{AreMade, AreShownOf}
 use Rattle.early_verdict.specs.declared.sets.Sets.{Sets}
 use Rattle.early_verdict.proofs.BlockLemmas.{none_before, own_wide}
 use Rattle.early_verdict.proofs.GoingOn.{first_stand, leaves_bound}
-use Rattle.early_verdict.proofs.LiveMaking.{shown_empty, shown_tidy}
+use Rattle.early_verdict.proofs.EmptySets.{shown_empty, shown_tidy}
 use Rattle.early_verdict.proofs.NodeSets.{own_all}
 use Rattle.early_verdict.proofs.entries.take_first.Goals as goal
 

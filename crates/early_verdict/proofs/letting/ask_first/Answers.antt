@@ -5,7 +5,7 @@ use Rattle.rational.proofs.Order.{le_of_same}
 use Rattle.frac128.specs.Value.{value}
 use Rattle.early_verdict.proofs.LettingLemmas.{first_no_at, first_yes_at}
 use Rattle.growing_sets.proofs.WindowLemmas.{near_fits}
-use Rattle.early_verdict.proofs.Windowing.{le_back}
+use Rattle.early_verdict.proofs.MovedBack.{le_back}
 use Rattle.early_verdict.proofs.letting.ask_first.Goals as goal
 
 pub returns-then-holds : goal.returns-then-holds

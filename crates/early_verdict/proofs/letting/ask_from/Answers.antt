@@ -2,7 +2,7 @@ use Rattle.std.proofs.Common.{sym, subst}
 use Rattle.std.specs.Prelude.{slice_index_or}
 use Rattle.growing_sets.specs.Spans.{Lies}
 use Rattle.early_verdict.proofs.LettingLemmas.{ends_most}
-use Rattle.early_verdict.proofs.Splitting.{at_split, changes_at}
+use Rattle.early_verdict.proofs.SplitLists.{at_split, changes_at}
 use Rattle.early_verdict.proofs.letting.ask_from.Goals as goal
 
 pub narrow_both-requires-clause-tidy : goal.narrow_both-requires-clause-tidy

@@ -3,7 +3,7 @@ use Rattle.rational.specs.Rational.{add, whole, ◌≈◌}
 use Rattle.rational.proofs.Order.{le_of_same}
 use Rattle.frac128.specs.Value.{value}
 use Rattle.growing_sets.proofs.WindowLemmas.{near_fits}
-use Rattle.early_verdict.proofs.Windowing.{le_back}
+use Rattle.early_verdict.proofs.MovedBack.{le_back}
 use Rattle.early_verdict.proofs.letting.cut_before.Goals as goal
 
 pub returns : goal.returns

@@ -1,4 +1,4 @@
-use Rattle.early_verdict.proofs.Splitting.{at_split, changes_at}
+use Rattle.early_verdict.proofs.SplitLists.{at_split, changes_at}
 use Rattle.early_verdict.proofs.letting.cut_run_at.Goals as goal
 
 pub cut_run-requires-clause-tidy : goal.cut_run-requires-clause-tidy

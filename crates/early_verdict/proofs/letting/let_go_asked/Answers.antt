@@ -1,8 +1,8 @@
 use Rattle.std.proofs.Common.{inl, refl, subst, arith}
 use Rattle.frac128.specs.Value.{value}
 use Rattle.early_verdict.specs.Letting.{AreAskedBy, NetHas}
-use Rattle.early_verdict.proofs.Having.{begins_from, child_there, children_there, own_beside, own_listed, own_there, own_tidy}
-use Rattle.early_verdict.proofs.Narrowing.{are_apart, asked_stands, shown_inside}
+use Rattle.early_verdict.proofs.KnownNode.{begins_from, child_there, children_there, own_beside, own_listed, own_there, own_tidy}
+use Rattle.early_verdict.proofs.FewerTimes.{are_apart, asked_stands, shown_inside}
 use Rattle.early_verdict.proofs.UntilStands.{parts_inside, until_stands}
 use Rattle.early_verdict.proofs.letting.let_go_asked.Goals as goal
 

@@ -2,9 +2,9 @@ use Rattle.std.proofs.Common.{inl, inr, refl, arith}
 use Rattle.std.proofs.lemmas.Option.{slice_get_within}
 use Rattle.stl_syntax.specs.declared.node.Node.TheVariants.{Since}
 use Rattle.std.specs.Prelude.{Some}
-use Rattle.early_verdict.proofs.Having.{begins_from, child_there, own_beside, own_listed, own_there, own_tidy}
+use Rattle.early_verdict.proofs.KnownNode.{begins_from, child_there, own_beside, own_listed, own_there, own_tidy}
 use Rattle.early_verdict.proofs.LettingLemmas.{two_less}
-use Rattle.early_verdict.proofs.Narrowing.{shown_inside}
+use Rattle.early_verdict.proofs.FewerTimes.{shown_inside}
 use Rattle.early_verdict.proofs.SinceLooks.{bounded_stands}
 use Rattle.early_verdict.proofs.SinceStands.{back_inside, ordered}
 use Rattle.early_verdict.proofs.letting.let_go_bounded.Goals as goal

@@ -6,9 +6,9 @@ use Rattle.early_verdict.specs.Fitting.{Lists}
 use Rattle.early_verdict.specs.Letting.{IsDecisive, IsEndlessCutAt}
 use Rattle.early_verdict.specs.declared.sets.Sets.{Sets}
 use Rattle.early_verdict.proofs.AllSets.{lists_are}
-use Rattle.early_verdict.proofs.Having.{begins_from, child_there, own_beside, own_listed, own_there, own_tidy}
+use Rattle.early_verdict.proofs.KnownNode.{begins_from, child_there, own_beside, own_listed, own_there, own_tidy}
 use Rattle.early_verdict.proofs.LettingLemmas.{two_less}
-use Rattle.early_verdict.proofs.Narrowing.{shown_inside}
+use Rattle.early_verdict.proofs.FewerTimes.{shown_inside}
 use Rattle.early_verdict.proofs.Places.{item_at}
 use Rattle.early_verdict.proofs.SinceLooks.{endless_stands, half_inside, half_tidy}
 use Rattle.early_verdict.proofs.SinceStands.{back_inside}

@@ -1,5 +1,5 @@
 use Rattle.early_verdict.proofs.Places.{item_at}
-use Rattle.early_verdict.proofs.Splitting.{at_split, changes_at}
+use Rattle.early_verdict.proofs.SplitLists.{at_split, changes_at}
 use Rattle.early_verdict.proofs.letting.shed_at.Goals as goal
 
 pub shed-requires-clause-tidy : goal.shed-requires-clause-tidy

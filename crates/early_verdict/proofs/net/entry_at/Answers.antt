@@ -5,7 +5,7 @@ use Rattle.early_verdict.specs.Standing.{IsOperatorAt, LeafIsBound, own_list}
 use Rattle.early_verdict.specs.Living.{LeafSteps, ShowsBy}
 use Rattle.early_verdict.specs.declared.sets.Sets.{Sets}
 use Rattle.early_verdict.proofs.NodeSets.{own_changed, own_leaf, own_stepped, own_stored}
-use Rattle.early_verdict.proofs.Splitting.{changed_as}
+use Rattle.early_verdict.proofs.SplitLists.{changed_as}
 use Rattle.early_verdict.proofs.net.entry_at.Goals as goal
 
 pub leaf_at-requires-clause-within : goal.leaf_at-requires-clause-within

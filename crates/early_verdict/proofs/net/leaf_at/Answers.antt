@@ -1,4 +1,4 @@
-use Rattle.early_verdict.proofs.Splitting.{at_split, changes_at}
+use Rattle.early_verdict.proofs.SplitLists.{at_split, changes_at}
 use Rattle.early_verdict.proofs.net.leaf_at.Goals as goal
 
 pub step_leaf-requires-clause-own : goal.step_leaf-requires-clause-own

@@ -1,5 +1,5 @@
 use Rattle.early_verdict.proofs.Places.{item_at}
-use Rattle.early_verdict.proofs.Splitting.{at_split, changes_at}
+use Rattle.early_verdict.proofs.SplitLists.{at_split, changes_at}
 use Rattle.early_verdict.proofs.net.show_at.Goals as goal
 
 pub show-requires : goal.show-requires

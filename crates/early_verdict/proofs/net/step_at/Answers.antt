@@ -1,6 +1,6 @@
 use Rattle.std.proofs.Common.{refl, sym, subst, take}
 use Rattle.stl_syntax.specs.Formula.{HasChildrenBelow}
-use Rattle.early_verdict.proofs.Splitting.{at_split, changes_at, front_tidy, length_front}
+use Rattle.early_verdict.proofs.SplitLists.{at_split, changes_at, front_tidy, length_front}
 use Rattle.early_verdict.proofs.net.step_at.Goals as goal
 
 pub step_operator-requires : goal.step_operator-requires

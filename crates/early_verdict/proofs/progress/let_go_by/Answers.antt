@@ -1,6 +1,6 @@
 use Rattle.std.proofs.Common.{◌≡◌, ◌∙◌, sym, Some, None}
 use Rattle.rational.proofs.Lists.{some_of}
-use Rattle.early_verdict.proofs.Feeding.{none_if}
+use Rattle.early_verdict.proofs.NextRow.{none_if}
 use Rattle.early_verdict.proofs.progress.let_go_by.Goals as goal
 
 pub returns-then-is_some : goal.returns-then-is_some

@@ -1,6 +1,6 @@
 use Rattle.std.proofs.Common.{subst}
 use Rattle.explained_answers.specs.Reasons.{IsReasonText}
-use Rattle.explained_answers.proofs.Reasoned.{atoms_of_reasons, reasoned}
+use Rattle.explained_answers.proofs.ExplainTexts.{atoms_of_reasons, reasoned}
 use Rattle.explained_answers.proofs.explain.give_reasons.Goals as goal
 
 pub text_of-requires-clause-atoms : goal.text_of-requires-clause-atoms

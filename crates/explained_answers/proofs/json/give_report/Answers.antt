@@ -6,8 +6,8 @@ use Rattle.report.specs.Report.{json, explain as explaining}
 use Rattle.report.specs.ReportText.{IsReportText}
 use Rattle.explained_answers.specs.Reasons.{truth_of, items_of}
 use Rattle.whole_answers.specs.Judging.{IsAnswerOf, IsUnanswered}
-use Rattle.explained_answers.proofs.Reasoned.{nodes_of, atoms_of_reasons, unreasoned}
-use Rattle.explained_answers.proofs.Reported.{few, reported, unreported, unmarked}
+use Rattle.explained_answers.proofs.ExplainTexts.{nodes_of, atoms_of_reasons, unreasoned}
+use Rattle.explained_answers.proofs.CaseReports.{few, reported, unreported, unmarked}
 use Rattle.explained_answers.proofs.json.give_report.Goals as goal
 
 pub margins_of-requires-clause-case : goal.margins_of-requires-clause-case

@@ -5,7 +5,7 @@ use Rattle.stl_syntax.specs.Formula.{subformula}
 use Rattle.offline_eval.specs.Making.{AreSound, TellAt}
 use Rattle.offline_eval.specs.Evaluation.{IsFault}
 use Rattle.offline_eval.specs.Places.{reach_before}
-use Rattle.offline_eval.proofs.Evaluating.{pushed_count, some_left, left_sound, all_more, reach_within, all_pushed, told_pushed, all_told, fault_is}
+use Rattle.offline_eval.proofs.NextNode.{pushed_count, some_left, left_sound, all_more, reach_within, all_pushed, told_pushed, all_told, fault_is}
 use Rattle.offline_eval.specs.Forms.{of_knots, of_pieces}
 use Rattle.offline_eval.proofs.chains.eval_chains.Goals as goal
 

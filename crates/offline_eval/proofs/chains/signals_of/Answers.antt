@@ -1,7 +1,7 @@
 use Rattle.std.proofs.Common.{rules, ◌≡◌, ◌<◌, ◌++◌, ◌∷◌, [], ℕ, Some, ap, length, refl, subst, arith}
 use Rattle.std.specs.Prelude.{slice_get}
 use Rattle.std.proofs.lemmas.Option.{slice_get_read}
-use Rattle.offline_eval.proofs.Evaluating.{pushed_count}
+use Rattle.offline_eval.proofs.NextNode.{pushed_count}
 use Rattle.offline_eval.proofs.SignalsAndChains.{pushed_signal, some_piece}
 use Rattle.offline_eval.proofs.chains.signals_of.Given.{Over}
 use Rattle.offline_eval.proofs.chains.signals_of.Goals.{After-index-chains-k}

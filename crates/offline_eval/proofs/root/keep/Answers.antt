@@ -3,7 +3,7 @@ use Rattle.std.specs.Prelude.{option_to_list}
 use Rattle.std.proofs.lemmas.Result.{on_ok_weaker}
 use Rattle.offline_eval.specs.Keeping.{AreGivenUp}
 use Rattle.offline_eval.proofs.ChildrenKept.{left_inside, more_given_up, right_inside}
-use Rattle.offline_eval.proofs.Evaluating.{pushed_count}
+use Rattle.offline_eval.proofs.NextNode.{pushed_count}
 use Rattle.stl_syntax.specs.PostOrder.{children}
 use Rattle.offline_eval.specs.Forms.{of_pieces}
 use Rattle.offline_eval.proofs.root.keep.Goals as goal

@@ -2,7 +2,7 @@ use Rattle.std.proofs.lemmas.Result.{IfOk-weaker, IfErr-weaker}
 use Rattle.offline_eval.proofs.Forms.{closed_told, pieces_laws}
 use Rattle.offline_eval.proofs.Pointwise.{ok_both}
 use Rattle.offline_eval.proofs.WindowLemmas.{before_end}
-use Rattle.offline_eval.proofs.Windowed.{inf_ahead_sound, told_always, fault_always}
+use Rattle.offline_eval.proofs.OneWindow.{inf_ahead_sound, told_always, fault_always}
 use Rattle.offline_eval.proofs.windows.inf_ahead.Goals as goal
 
 pub inf_ahead-requires-clause-limited : goal.inf_ahead-requires-clause-limited

@@ -2,7 +2,7 @@ use Rattle.std.proofs.lemmas.Result.{IfOk-weaker, IfErr-weaker}
 use Rattle.offline_eval.proofs.Forms.{closed_told, pieces_laws}
 use Rattle.offline_eval.proofs.Pointwise.{ok_both}
 use Rattle.offline_eval.proofs.WindowLemmas.{before_end, in_order}
-use Rattle.offline_eval.proofs.Windowed.{inf_behind_sound, told_historically, fault_historically}
+use Rattle.offline_eval.proofs.OneWindow.{inf_behind_sound, told_historically, fault_historically}
 use Rattle.offline_eval.proofs.windows.inf_behind.Goals as goal
 
 pub inf_behind-requires-clause-limited : goal.inf_behind-requires-clause-limited

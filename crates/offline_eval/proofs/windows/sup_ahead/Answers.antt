@@ -2,7 +2,7 @@ use Rattle.std.proofs.lemmas.Result.{IfOk-weaker, IfErr-weaker}
 use Rattle.offline_eval.proofs.Forms.{closed_told, pieces_laws}
 use Rattle.offline_eval.proofs.Pointwise.{ok_both}
 use Rattle.offline_eval.proofs.WindowLemmas.{before_end}
-use Rattle.offline_eval.proofs.Windowed.{sup_ahead_sound, told_eventually, fault_eventually}
+use Rattle.offline_eval.proofs.OneWindow.{sup_ahead_sound, told_eventually, fault_eventually}
 use Rattle.offline_eval.proofs.windows.sup_ahead.Goals as goal
 
 pub sup_ahead-requires-clause-limited : goal.sup_ahead-requires-clause-limited

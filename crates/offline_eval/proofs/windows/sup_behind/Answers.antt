@@ -2,7 +2,7 @@ use Rattle.std.proofs.lemmas.Result.{IfOk-weaker, IfErr-weaker}
 use Rattle.offline_eval.proofs.Forms.{closed_told, pieces_laws}
 use Rattle.offline_eval.proofs.Pointwise.{ok_both}
 use Rattle.offline_eval.proofs.WindowLemmas.{before_end, in_order}
-use Rattle.offline_eval.proofs.Windowed.{sup_behind_sound, told_once, fault_once}
+use Rattle.offline_eval.proofs.OneWindow.{sup_behind_sound, told_once, fault_once}
 use Rattle.offline_eval.proofs.windows.sup_behind.Goals as goal
 
 pub sup_behind-requires-clause-limited : goal.sup_behind-requires-clause-limited

@@ -4,7 +4,7 @@ use Rattle.rational.specs.Places.{Place}
 use Rattle.rational.proofs.PlaceLemmas.{before_same, same_places}
 use Rattle.rational.proofs.Tests.{same_of_beq}
 use Rattle.frac128.specs.Cuts.{place}
-use Rattle.online_nodes.proofs.Writing.{other_bool}
+use Rattle.online_nodes.proofs.ToldSoFar.{other_bool}
 use Rattle.online_net.specs.Stretches.{HasTurned}
 use Rattle.online_net.proofs.Running.{turn_none, turned_is}
 use Rattle.online_net.proofs.stretch.turn_at_row.Goals as goal

@@ -15,7 +15,7 @@ use Rattle.rational.proofs.PlaceLemmas.{at_most_of_not_before}
 use Rattle.rational.proofs.Lists.{on_err_anyway}
 use Rattle.std.proofs.lemmas.Option.{slice_get_within}
 use Rattle.online_nodes.proofs.GotLemmas.{got-length, got-other}
-use Rattle.online_nodes.proofs.Sweeping.{begin_alike, end_alike, fits_alike}
+use Rattle.online_nodes.proofs.OneVerdictMore.{begin_alike, end_alike, fits_alike}
 use Rattle.online_nodes.proofs.SinceCounts.{IsFound}
 use Rattle.online_nodes.proofs.SinceReads.{AreBoth, found_turn, go_on_turn, not_in_run, not_in_stretch, stale_over}
 use Rattle.online_nodes.proofs.SinceTurns.{IsLaterOf, IsWorking}

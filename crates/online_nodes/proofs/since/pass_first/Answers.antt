@@ -12,7 +12,7 @@ use Rattle.stl_syntax.specs.declared.items.Verdict.{Verdict}
 use Rattle.frac128.specs.declared.cut.Cut.{Cut}
 use Rattle.online_nodes.proofs.JoinLemmas.{same_first}
 use Rattle.rational.proofs.PlaceLemmas.{at_most_of_not_before, before_same, same_places, upto_same}
-use Rattle.online_nodes.proofs.Sweeping.{begin_alike, fits_alike}
+use Rattle.online_nodes.proofs.OneVerdictMore.{begin_alike, fits_alike}
 use Rattle.online_nodes.proofs.since.pass_first.Goals as goal
 use Rattle.online_nodes.proofs.since.pass_first.Goals.{After-shift_begin-last}
 

@@ -11,7 +11,7 @@ use Rattle.rational.proofs.Lists.{on_err_anyway}
 use Rattle.online_nodes.specs.Held.{Edge}
 use Rattle.online_nodes.proofs.GotLemmas.{got-length, got-other}
 use Rattle.online_nodes.proofs.SaidLemmas.{answered_twice}
-use Rattle.online_nodes.proofs.Sweeping.{begin_alike, end_alike, fits_alike}
+use Rattle.online_nodes.proofs.OneVerdictMore.{begin_alike, end_alike, fits_alike}
 use Rattle.online_nodes.proofs.UntilTurns.{IsSaidTwice}
 use Rattle.online_nodes.proofs.UntilPasses.{earlier_of}
 use Rattle.online_nodes.proofs.UntilCounts.{AreNext, shares_none, counts_beyond, counts_now}

@@ -6,7 +6,7 @@ use Rattle.online_nodes.proofs.GotLemmas.{got-length}
 use Rattle.rational.proofs.PlaceLemmas.{sides, not_both}
 use Rattle.rational.proofs.Lists.{on_err_anyway}
 use Rattle.online_nodes.proofs.SaidLemmas.{answered_twice}
-use Rattle.online_nodes.proofs.Sweeping.{found_part}
+use Rattle.online_nodes.proofs.OneVerdictMore.{found_part}
 use Rattle.online_nodes.proofs.WindowLaw.{knows_later}
 use Rattle.online_nodes.proofs.window.end_sweep.Goals as goal
 

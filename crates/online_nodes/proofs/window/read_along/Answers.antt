@@ -9,7 +9,7 @@ use Rattle.rational.specs.Places.{Place, ends}
 use Rattle.online_nodes.specs.Working.{HasPassed}
 use Rattle.online_nodes.specs.Held.{fresh_at}
 use Rattle.online_nodes.specs.Sweeps.{IsSwept}
-use Rattle.online_nodes.proofs.Sweeping.{first_is, counts_on, end_alike, fits_alike}
+use Rattle.online_nodes.proofs.OneVerdictMore.{first_is, counts_on, end_alike, fits_alike}
 use Rattle.online_nodes.proofs.WorkLemmas.{worked_pass}
 use Rattle.online_nodes.proofs.SaidLemmas.{passed-fresh, passed-one}
 use Rattle.online_nodes.proofs.window.read_along.Goals as goal

@@ -12,8 +12,8 @@ use Rattle.rational.specs.Places.{Place, ends, Same, Upto, Before, begins, moved
 use Rattle.frac128.specs.Cuts.{place}
 use Rattle.online_nodes.specs.Held.{fresh_at}
 use Rattle.online_nodes.specs.Sweeps.{IsSwept}
-use Rattle.online_nodes.proofs.Sweeping.{first_is, none_left, not_sought, too_late, found_part, spared_part, counts_now}
-use Rattle.online_nodes.proofs.Sweeping.{sought_not, sought_is, begin_alike, begins_beyond, end_alike, fits_alike}
+use Rattle.online_nodes.proofs.OneVerdictMore.{first_is, none_left, not_sought, too_late, found_part, spared_part, counts_now}
+use Rattle.online_nodes.proofs.OneVerdictMore.{sought_not, sought_is, begin_alike, begins_beyond, end_alike, fits_alike}
 use Rattle.rational.proofs.PlaceLemmas.{sides, not_both, at_most_of_not_before, after_same}
 use Rattle.rational.proofs.Lists.{on_err_anyway, empty_of_none}
 use Rattle.online_nodes.proofs.GotLemmas.{got-length, got-other}

@@ -1,4 +1,4 @@
-use Rattle.promises.proofs.Completing.{completed}
+use Rattle.promises.proofs.CompleteRuns.{completed}
 use Rattle.promises.proofs.laws.a_run_is_complete.Goals as goal
 
 pub returns : goal.returns

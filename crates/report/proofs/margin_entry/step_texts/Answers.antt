@@ -3,7 +3,7 @@ use Rattle.rational.specs.Extended.{value_at}
 use Rattle.frac128.specs.Value.{value}
 use Rattle.value_laws.specs.Margins.{margin_function}
 use Rattle.stl_syntax.specs.Texts.{IsNumberText, IsValueText}
-use Rattle.answer_lines.proofs.Adding.{add_then}
+use Rattle.answer_lines.proofs.TextsBehind.{add_then}
 use Rattle.report.specs.JsonTexts.{IsGapText}
 use Rattle.report.proofs.TextParts.{none_added, part_is}
 use Rattle.report.proofs.margin_entry.step_texts.Goals as goal

@@ -3,7 +3,7 @@ use Rattle.std.proofs.lemmas.Result.{on_ok_weaker}
 use Rattle.serde_json.specs.Data.{string}
 use Rattle.serde_json.specs.View.{view}
 use Rattle.report.specs.Forms.{with_member}
-use Rattle.answer_lines.proofs.Adding.{add_then, add_as}
+use Rattle.answer_lines.proofs.TextsBehind.{add_then, add_as}
 use Rattle.answer_lines.proofs.Spans.{before, after, span_text}
 use Rattle.report.proofs.Forms.{with_same}
 use Rattle.report.proofs.verdict_entry.set_span.Goals as goal

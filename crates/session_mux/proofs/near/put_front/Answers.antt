@@ -1,6 +1,6 @@
 use Rattle.std.proofs.Common.{length, sym, ◌∙◌, arith}
 use Rattle.std.proofs.lemmas.List.{take-take, take_all}
-use Rattle.answer_lines.proofs.Adding.{add_as}
+use Rattle.answer_lines.proofs.TextsBehind.{add_as}
 use Rattle.session_mux.proofs.near.put_front.Goals as goal
 
 pub returns-then-text-ge-NEAR : goal.returns-then-text-ge-NEAR

@@ -1,4 +1,4 @@
-use Rattle.answer_lines.proofs.Adding.{add_then}
+use Rattle.answer_lines.proofs.TextsBehind.{add_then}
 use Rattle.session_mux.proofs.run.put_line.Goals as goal
 
 pub returns : goal.returns

@@ -1,7 +1,7 @@
 use Rattle.std.proofs.Common.{◌++◌, ap, ◌∙◌, length, arith}
 use Rattle.std.proofs.lemmas.List.{take_all}
 use Rattle.std.proofs.lemmas.Result.{on_ok_weaker}
-use Rattle.answer_lines.proofs.Adding.{add_as, add_then}
+use Rattle.answer_lines.proofs.TextsBehind.{add_as, add_then}
 use Rattle.session_mux.proofs.saying.put_short.Goals as goal
 
 pub returns-clause-ok : goal.returns-clause-ok

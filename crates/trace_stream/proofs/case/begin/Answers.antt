@@ -6,7 +6,7 @@ use Rattle.stl_syntax.specs.declared.scale.Scale.{Scale}
 use Rattle.stl_syntax.specs.declared.scale.UnitFault.{UnitFault}
 use Rattle.stl_syntax.specs.declared.scale.UnitFault.TheVariants.{Memory}
 use Rattle.trace_stream.specs.Cases.{IsNoBegin}
-use Rattle.trace_stream.proofs.Lacking.{finer, lacks_scaled, begun, unit_fits}
+use Rattle.trace_stream.proofs.HeaderLacks.{finer, lacks_scaled, begun, unit_fits}
 use Rattle.trace_stream.proofs.case.begin.Goals as goal
 
 pub scaled-requires-clause-value : goal.scaled-requires-clause-value

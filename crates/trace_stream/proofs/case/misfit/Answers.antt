@@ -1,6 +1,6 @@
 use Rattle.std.proofs.Common.{sym, ◌∙◌, subst}
 use Rattle.trace_stream.specs.Cases.{IsNoBegin}
-use Rattle.trace_stream.proofs.Lacking.{lacks_unit, lacks_column}
+use Rattle.trace_stream.proofs.HeaderLacks.{lacks_unit, lacks_column}
 use Rattle.trace_stream.proofs.case.misfit.Goals as goal
 use Rattle.trace_stream.proofs.case.misfit.Goals.{in-Ok, in-Err}
 

@@ -1,4 +1,4 @@
-use Rattle.trace_stream.proofs.Refused.{stream_of_case}
+use Rattle.trace_stream.proofs.WideRefused.{stream_of_case}
 use Rattle.trace_stream.proofs.live.follow_on.Goals as goal
 
 pub begin-requires-2-clause-streamed : goal.begin-requires-2-clause-streamed

@@ -1,4 +1,4 @@
-use Rattle.watch_bounds.proofs.Holding.{watch_holds_few as law}
+use Rattle.watch_bounds.proofs.HeldOnEdges.{watch_holds_few as law}
 use Rattle.watch_bounds.proofs.laws.watch_holds_few.Goals as goal
 
 pub returns : goal.returns

@@ -3,7 +3,7 @@ use Rattle.pl_signal.specs.Knots as knots
 use Rattle.stl_syntax.specs.Trace.{first_time, last_time}
 use Rattle.report.specs.Report.{robust}
 use Rattle.whole_answers.specs.Judging.{IsUnanswered}
-use Rattle.whole_answers.proofs.Measured.{tick_within, unmeasured}
+use Rattle.whole_answers.proofs.RobustAnswers.{tick_within, unmeasured}
 use Rattle.whole_answers.proofs.robust.margins_of.Goals as goal
 
 pub returns-in-Ok-clause-begins : goal.returns-in-Ok-clause-begins

@@ -4,7 +4,7 @@ use Rattle.pl_signal.specs.Plain.{knots_of}
 use Rattle.stl_syntax.specs.Texts.{AreMarginLines}
 use Rattle.report.specs.Report.{robust}
 use Rattle.whole_answers.specs.Judging.{IsAnswerOf}
-use Rattle.whole_answers.proofs.Measured.{measured}
+use Rattle.whole_answers.proofs.RobustAnswers.{measured}
 use Rattle.whole_answers.proofs.robust.measure.Goals as goal
 
 pub returns-in-Ok-put_margins : goal.returns-in-Ok-put_margins

@@ -4,7 +4,7 @@ use Rattle.pl_signal.specs.Plain.{knots_of}
 use Rattle.report.specs.Report.{table}
 use Rattle.report.specs.Table.{IsTableText}
 use Rattle.whole_answers.specs.Judging.{IsAnswerOf}
-use Rattle.whole_answers.proofs.Measured.{tabulated, untabulated}
+use Rattle.whole_answers.proofs.RobustAnswers.{tabulated, untabulated}
 use Rattle.whole_answers.proofs.table.tabulate.Goals as goal
 
 pub returns-in-Err : goal.returns-in-Err

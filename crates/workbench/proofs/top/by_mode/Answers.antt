@@ -8,7 +8,7 @@ use Rattle.workbench.specs.Requests.{stream, sessions, verdicts, early}
 use Rattle.verdict_stream.specs.Watching.{WatchesRows}
 use Rattle.workbench.proofs.AtRest.{live_begun, live_asked}
 use Rattle.workbench.proofs.Calmness.{calm_ending, of_held, of_stream}
-use Rattle.workbench.proofs.Leaving.{whole_left}
+use Rattle.workbench.proofs.LeftByRun.{whole_left}
 use Rattle.workbench.proofs.ManyLines.{many_begun, many_asked}
 use Rattle.workbench.proofs.RunEnds.{known_run, ends_soundly, serves}
 use Rattle.workbench.proofs.top.by_mode.Goals as goal

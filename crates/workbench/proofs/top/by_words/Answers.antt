@@ -2,7 +2,7 @@ use Rattle.std.proofs.Common.{map, refl, inl, inr, arith}
 use Rattle.std.specs.Prelude.{string_bytes}
 use Rattle.answer_lines.specs.Lines.{line_text}
 use Rattle.command_line.specs.Words.{verb_of}
-use Rattle.workbench.proofs.Leaving.{none_left, made_left, refused_left}
+use Rattle.workbench.proofs.LeftByRun.{none_left, made_left, refused_left}
 use Rattle.workbench.proofs.RunEnds.{none_of_both, none_run, made_run, refused_run}
 use Rattle.workbench.proofs.top.by_words.Goals as goal
 

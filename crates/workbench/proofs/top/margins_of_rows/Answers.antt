@@ -5,7 +5,7 @@ use Rattle.margin_stream.specs.Margining.{IsMargined}
 use Rattle.workbench.specs.Requests.{stream}
 use Rattle.workbench.proofs.AtRest.{live_begun, live_asked}
 use Rattle.workbench.proofs.Calmness.{of_stream}
-use Rattle.workbench.proofs.Leaving.{unserved_left}
+use Rattle.workbench.proofs.LeftByRun.{unserved_left}
 use Rattle.workbench.proofs.top.margins_of_rows.Goals as goal
 
 pub returns-in-Some-clause-ran : goal.returns-in-Some-clause-ran

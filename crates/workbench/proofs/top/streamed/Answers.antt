@@ -4,7 +4,7 @@ use Rattle.workbench.specs.Requests.{Request, Asks}
 use Rattle.workbench.specs.Keeping.{Holds}
 use Rattle.workbench.specs.Pushing.{IsPushed, IsStreamedFor}
 use Rattle.workbench.proofs.Calmness.{calm_ending}
-use Rattle.workbench.proofs.Leaving.{asks_some, starved_left, stopped_left, kept_left, of_answer, of_value}
+use Rattle.workbench.proofs.LeftByRun.{asks_some, starved_left, stopped_left, kept_left, of_answer, of_value}
 use Rattle.workbench.proofs.StreamSteps.{soundly, streamed_run}
 use Rattle.workbench.proofs.top.streamed.Goals as goal
 

@@ -2,7 +2,7 @@ use Rattle.std.proofs.Common.{◌≡◌, ◌++◌, ◌+◌, ◌*◌, ◌-◌, su
 use Rattle.std.proofs.lemmas.Int.{to_z-of_z, ints}
 use Rattle.std.specs.Prelude.{flat_map}
 use Rattle.workload.specs.Generated.{rows_after, row_line, generated_bytes}
-use Rattle.workload.proofs.Generating.{row_written}
+use Rattle.workload.proofs.RowBytes.{row_written}
 use Rattle.workload.proofs.generator.gen_trace.Goals as goal
 
 pub loop-row-preserved : goal.loop-row-preserved

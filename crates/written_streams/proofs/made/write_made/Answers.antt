@@ -2,7 +2,7 @@ use Rattle.std.proofs.Common.{subst, sym, ◌∙◌}
 use Rattle.std.specs.Io.KnownBytes.{Appends}
 use Rattle.written_streams.specs.MadeWritten.{IsMadeWritten, made_whole, made_in_part}
 use Rattle.command_line.specs.Writing.{IsPartWritten}
-use Rattle.written_streams.proofs.Making.{starved_made, not_unwritten}
+use Rattle.written_streams.proofs.WrittenTexts.{starved_made, not_unwritten}
 use Rattle.written_streams.proofs.made.write_made.Goals as goal
 
 pub returns-then-is_starved-clause-written : goal.returns-then-is_starved-clause-written

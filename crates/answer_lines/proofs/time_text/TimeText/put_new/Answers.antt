@@ -2,7 +2,7 @@ use Rattle.std.proofs.Common.{arith, sym, subst}
 use Rattle.frac128.specs.Value.{value}
 use Rattle.stl_syntax.specs.Texts.{IsNumberText}
 use Rattle.answer_lines.proofs.KeptTexts.{stands}
-use Rattle.answer_lines.proofs.Adding.{made_added}
+use Rattle.answer_lines.proofs.TextsBehind.{made_added}
 use Rattle.answer_lines.proofs.time_text.TimeText.put_new.Goals as goal
 
 pub invariant_of-self : goal.invariant_of-self

@@ -4,7 +4,7 @@ use Rattle.frac128.specs.Value.{value}
 use Rattle.value_laws.specs.Margins.{margin_function}
 use Rattle.stl_syntax.specs.Texts.{IsValueText}
 use Rattle.answer_lines.specs.Shown.{shown_value}
-use Rattle.answer_lines.proofs.Adding.{made_added}
+use Rattle.answer_lines.proofs.TextsBehind.{made_added}
 use Rattle.answer_lines.proofs.KeptTexts.{value_of_same, stands}
 use Rattle.answer_lines.proofs.value_text.ValueText.put_at.Goals as goal
 

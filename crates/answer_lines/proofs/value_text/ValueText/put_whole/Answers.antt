@@ -5,7 +5,7 @@ use Rattle.frac128.specs.Value.{value}
 use Rattle.stl_syntax.specs.Texts.{IsNumberText, IsValueText}
 use Rattle.answer_lines.specs.Before.{Puts}
 use Rattle.answer_lines.specs.Shown.{shown_value}
-use Rattle.answer_lines.proofs.Adding.{made_added}
+use Rattle.answer_lines.proofs.TextsBehind.{made_added}
 use Rattle.answer_lines.proofs.KeptTexts.{number_of_same, stands}
 use Rattle.answer_lines.proofs.Spans.{number_text}
 use Rattle.answer_lines.proofs.value_text.ValueText.put_whole.Goals as goal

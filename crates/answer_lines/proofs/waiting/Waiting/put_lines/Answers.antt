@@ -2,7 +2,7 @@ use Rattle.std.proofs.Common.{take, subst}
 use Rattle.value_laws.specs.Kinds.{margin_shape}
 use Rattle.answer_lines.specs.Appended.{Grew}
 use Rattle.answer_lines.specs.MarginLines.{AreNextLines}
-use Rattle.answer_lines.proofs.Adding.{added_grew}
+use Rattle.answer_lines.proofs.TextsBehind.{added_grew}
 use Rattle.answer_lines.proofs.waiting.Waiting.put_lines.Goals as goal
 
 pub returns : goal.returns

@@ -1,7 +1,7 @@
 use Rattle.std.proofs.Common.{take, subst}
 use Rattle.stl_syntax.specs.Texts.{IsVerdictLine}
 use Rattle.answer_lines.specs.Appended.{Grew}
-use Rattle.answer_lines.proofs.Adding.{added_grew}
+use Rattle.answer_lines.proofs.TextsBehind.{added_grew}
 use Rattle.answer_lines.proofs.waiting.Waiting.put_verdict.Goals as goal
 
 pub returns-clause-grew : goal.returns-clause-grew

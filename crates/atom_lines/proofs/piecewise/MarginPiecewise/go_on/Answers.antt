@@ -14,7 +14,7 @@ use Rattle.value_laws.specs.Kinds.{margin_shape}
 use Rattle.atom_lines.specs.Gaps.{along}
 use Rattle.atom_lines.specs.How.{by_margin, worth}
 use Rattle.atom_lines.proofs.GrowingLemmas.{before_end, goes_one, goes_still, margin_row_base}
-use Rattle.atom_lines.proofs.Limited.{along_still}
+use Rattle.atom_lines.proofs.ValueLimits.{along_still}
 use Rattle.atom_lines.proofs.Readings.{worth_same}
 use Rattle.atom_lines.proofs.piecewise.MarginPiecewise.go_on.Goals as goal
 

@@ -10,7 +10,7 @@ use Rattle.atom_lines.specs.Gaps.{along, AreOfSign}
 use Rattle.atom_lines.specs.Growing.{GoesAlong}
 use Rattle.atom_lines.specs.How.{by_truth}
 use Rattle.atom_lines.proofs.GrowingLemmas.{goes_still}
-use Rattle.atom_lines.proofs.Limited.{one_sign, truths_alike}
+use Rattle.atom_lines.proofs.ValueLimits.{one_sign, truths_alike}
 use Rattle.atom_lines.proofs.piecewise.TruthPiecewise.go_on.Goals as goal
 
 pub returns-then-keeps_sign : goal.returns-then-keeps_sign

@@ -4,7 +4,7 @@ use Rattle.stl_syntax.specs.Trace.{Row}
 use Rattle.stl_syntax.specs.Formula.{root}
 use Rattle.early_verdict.specs.Deciding.{Kept, IsOpen, IsTruthAtStart, Stands, trace_of}
 use Rattle.early_verdict.proofs.StandingOn.{decided_end, open_of}
-use Rattle.early_verdict.proofs.Feeding.{fed_rows, unended}
+use Rattle.early_verdict.proofs.NextRow.{fed_rows, unended}
 use Rattle.early_verdict.specs.contracts.early.Early.{the_view}
 use Rattle.early_verdict.proofs.early.Early.end.Goals as goal
 

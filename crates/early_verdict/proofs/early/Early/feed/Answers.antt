@@ -4,9 +4,9 @@ use Rattle.stl_syntax.specs.Trace.{Row, Trace}
 use Rattle.stl_syntax.specs.Formula.{root}
 use Rattle.early_verdict.specs.Standing.{own_of}
 use Rattle.early_verdict.specs.Deciding.{Kept, IsAnswer, Stands, decided_by, last_of}
-use Rattle.early_verdict.proofs.Answering.{as_open, decided_newly, from_open, row_answer, stands_before, stands_behind}
+use Rattle.early_verdict.proofs.RowAnswers.{as_open, decided_newly, from_open, row_answer, stands_before, stands_behind}
 use Rattle.early_verdict.proofs.BlockLemmas.{last_kept, later_than, one_kept}
-use Rattle.early_verdict.proofs.Feeding.{as_ended, unended}
+use Rattle.early_verdict.proofs.NextRow.{as_ended, unended}
 use Rattle.early_verdict.proofs.StandingOn.{last_on}
 use Rattle.early_verdict.specs.contracts.early.Early.{the_view}
 use Rattle.early_verdict.proofs.early.Early.feed.Goals as goal

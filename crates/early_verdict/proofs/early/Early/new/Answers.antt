@@ -2,7 +2,7 @@ use Rattle.std.proofs.Common.{[], None, false, length, sym, ap, subst, arith}
 use Rattle.stl_syntax.specs.Trace.{Trace}
 use Rattle.early_verdict.specs.Standing.{own_list}
 use Rattle.early_verdict.specs.Deciding.{Stands, last_of}
-use Rattle.early_verdict.proofs.Feeding.{fresh}
+use Rattle.early_verdict.proofs.NextRow.{fresh}
 use Rattle.early_verdict.proofs.early.Early.new.Goals as goal
 use Rattle.early_verdict.proofs.early.Early.new.Goals.{After-new-3}
 

@@ -4,9 +4,9 @@ use Rattle.stl_syntax.specs.Formula.{root}
 use Rattle.trace_reader.specs.Taken.{HasTraceSoFar}
 use Rattle.early_verdict.specs.Standing.{own_of}
 use Rattle.early_verdict.specs.Deciding.{Kept, IsBlockAnswer, Stands, last_of, trace_of}
-use Rattle.early_verdict.proofs.Answering.{as_open, block_answer, from_open, stands_before, stands_behind}
+use Rattle.early_verdict.proofs.RowAnswers.{as_open, block_answer, from_open, stands_before, stands_behind}
 use Rattle.early_verdict.proofs.BlockLemmas.{one_kept, so_far_of}
-use Rattle.early_verdict.proofs.Feeding.{as_ended, unended}
+use Rattle.early_verdict.proofs.NextRow.{as_ended, unended}
 use Rattle.early_verdict.specs.contracts.early.Early.{the_view}
 use Rattle.early_verdict.proofs.early.Early.take_rows.Goals as goal
 use Rattle.early_verdict.proofs.early.Early.take_rows.Goals.{After-keep_last}

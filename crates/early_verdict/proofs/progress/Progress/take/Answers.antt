@@ -4,10 +4,10 @@ use Rattle.early_verdict.specs.BlockRows.{own_row, previous_row}
 use Rattle.early_verdict.specs.Standing.{AllTidy, own_of}
 use Rattle.early_verdict.specs.Deciding.{Kept, IsVerdict, Stands, kept_of}
 use Rattle.early_verdict.specs.declared.sets.Sets.{Sets}
-use Rattle.early_verdict.proofs.Answering.{stays_none, stays_same}
+use Rattle.early_verdict.proofs.RowAnswers.{stays_none, stays_same}
 use Rattle.early_verdict.proofs.BlockLemmas.{own_later, own_wide}
 use Rattle.early_verdict.proofs.StandingOn.{decided_now, open_of}
-use Rattle.early_verdict.proofs.Feeding.{fed_by, net_of, none_if, passed_by, sets_as, shown_tidy, some_shown}
+use Rattle.early_verdict.proofs.NextRow.{fed_by, net_of, none_if, passed_by, sets_as, shown_tidy, some_shown}
 use Rattle.early_verdict.proofs.progress.Progress.take.Goals as goal
 use Rattle.early_verdict.proofs.progress.Progress.take.Goals.{After-let_go_by}
 

@@ -6,7 +6,7 @@ use Rattle.atom_lines.specs.Rows.{row_of}
 use Rattle.early_verdict.specs.BlockRows.{own_row, previous_row, row_before}
 use Rattle.early_verdict.specs.Deciding.{Stands, kept_of}
 use Rattle.early_verdict.specs.declared.block_row.BlockRow.{BlockRow}
-use Rattle.early_verdict.proofs.Answering.{stays_same, stays_then}
+use Rattle.early_verdict.proofs.RowAnswers.{stays_same, stays_then}
 use Rattle.early_verdict.proofs.BlockLemmas.{rows_next}
 use Rattle.early_verdict.proofs.progress.Progress.take_rows.Goals as goal
 

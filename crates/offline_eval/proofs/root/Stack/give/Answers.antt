@@ -3,7 +3,7 @@ use Rattle.std.proofs.lemmas.Option.{slice_get_within}
 use Rattle.stl_syntax.specs.declared.node.Node.TheVariants.{Atom as Leaf}
 use Rattle.offline_eval.specs.Keeping.{AreGivenUp, IsStack, TellsStack}
 use Rattle.offline_eval.specs.Places.{reach_before}
-use Rattle.offline_eval.proofs.Evaluating.{input_sound}
+use Rattle.offline_eval.proofs.NextNode.{input_sound}
 use Rattle.offline_eval.proofs.ChildrenKept.{none_given_up, stack_next, stack_on}
 use Rattle.offline_eval.proofs.Sound.{sound_more}
 use Rattle.offline_eval.specs.Forms.{of_pieces}

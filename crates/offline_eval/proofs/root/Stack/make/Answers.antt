@@ -9,7 +9,7 @@ use Rattle.offline_eval.specs.Evaluation.{IsFault}
 use Rattle.offline_eval.specs.Keeping.{kept, AreGivenUp, IsStack, TellsStack}
 use Rattle.offline_eval.specs.Making.{AreSound, IsFaultOf, IsSound, TellAt, TellsValue}
 use Rattle.offline_eval.specs.Places.{reach_before}
-use Rattle.offline_eval.proofs.Evaluating.{all_more, fault_is, reach_within}
+use Rattle.offline_eval.proofs.NextNode.{all_more, fault_is, reach_within}
 use Rattle.offline_eval.proofs.ChildrenKept.{kept_agrees, stack_next, stack_on}
 use Rattle.offline_eval.proofs.Places.{sum_on}
 use Rattle.offline_eval.specs.Forms.{of_pieces}

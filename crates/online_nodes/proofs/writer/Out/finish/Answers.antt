@@ -5,7 +5,7 @@ use Rattle.rational.specs.Places.{begins, ends}
 use Rattle.frac128.specs.Cuts.{place}
 use Rattle.online_nodes.specs.Written.{Lead, waiting}
 use Rattle.online_nodes.proofs.GotLemmas.{got_none}
-use Rattle.online_nodes.proofs.Writing.{lead_describes, lead_to, put_last, put_none, sound_later}
+use Rattle.online_nodes.proofs.ToldSoFar.{lead_describes, lead_to, put_last, put_none, sound_later}
 use Rattle.online_nodes.proofs.writer.Out.finish.Goals as goal
 
 pub returns-in_default-clause-finished : goal.returns-in_default-clause-finished

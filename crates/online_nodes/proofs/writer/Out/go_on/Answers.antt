@@ -6,7 +6,7 @@ use Rattle.online_nodes.specs.Written.{HasTold, waiting}
 use Rattle.online_nodes.proofs.GotLemmas.{got_none}
 use Rattle.rational.proofs.PlaceLemmas.{same_before, before_trans}
 use Rattle.rational.proofs.Tests.{same_of_beq}
-use Rattle.online_nodes.proofs.Writing.{first_told, same_told, turned, other_bool, sound_first, sound_later}
+use Rattle.online_nodes.proofs.ToldSoFar.{first_told, same_told, turned, other_bool, sound_first, sound_later}
 use Rattle.online_nodes.proofs.writer.Out.go_on.Goals as goal
 
 pub returns-in_default-clause-written : goal.returns-in_default-clause-written

@@ -6,7 +6,7 @@ use Rattle.frac128.specs.Cuts.{place}
 use Rattle.online_nodes.specs.Written.{HasTold}
 use Rattle.online_nodes.proofs.GotLemmas.{got_none}
 use Rattle.rational.proofs.PlaceLemmas.{upto_of_before, at_most_of_not_before, not_both}
-use Rattle.online_nodes.proofs.Writing.{earlier_upto}
+use Rattle.online_nodes.proofs.ToldSoFar.{earlier_upto}
 use Rattle.online_nodes.proofs.writer.Out.upto.Goals as goal
 
 pub returns-then-not-precedes-clause-said : goal.returns-then-not-precedes-clause-said

@@ -2,7 +2,7 @@ use Rattle.std.proofs.Common.{◌≤◌, ◌++◌, length, take, drop, false, sy
 use Rattle.std.proofs.Common.{append-nil, append_assoc, take-append-drop, length-drop, take_all}
 use Rattle.std.proofs.lemmas.Result.{err_from_is_err_and}
 use Rattle.rational.proofs.Lists.{take_rest}
-use Rattle.trace_stream.proofs.Fed.{fed}
+use Rattle.trace_stream.proofs.PieceParts.{fed}
 use Rattle.session_mux.specs.Taking.{IsTaking, IsInputStop}
 use Rattle.session_mux.proofs.input.Input.feed.Goals as goal
 

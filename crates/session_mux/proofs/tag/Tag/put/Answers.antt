@@ -1,5 +1,5 @@
 use Rattle.std.proofs.Common.{◌++◌, ◌+◌, length-take, codes, ap, ◌∙◌, arith}
-use Rattle.answer_lines.proofs.Adding.{add_as}
+use Rattle.answer_lines.proofs.TextsBehind.{add_as}
 use Rattle.session_mux.proofs.tag.Tag.put.Goals as goal
 
 pub returns-clause-added : goal.returns-clause-added

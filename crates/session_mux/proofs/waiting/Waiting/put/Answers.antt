@@ -1,6 +1,6 @@
 use Rattle.std.proofs.Common.{◌++◌, codes, ap, ◌∙◌}
 use Rattle.stl_syntax.specs.Texts.{newline}
-use Rattle.answer_lines.proofs.Adding.{add_then}
+use Rattle.answer_lines.proofs.TextsBehind.{add_then}
 use Rattle.session_mux.proofs.waiting.Waiting.put.Goals as goal
 
 pub returns : goal.returns

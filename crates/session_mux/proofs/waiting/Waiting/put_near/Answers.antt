@@ -1,6 +1,6 @@
 use Rattle.std.proofs.Common.{◌++◌, codes, take, length, length-take, ap, ◌∙◌, arith}
 use Rattle.std.proofs.lemmas.List.{take-take}
-use Rattle.answer_lines.proofs.Adding.{add_as, add_then}
+use Rattle.answer_lines.proofs.TextsBehind.{add_as, add_then}
 use Rattle.session_mux.proofs.waiting.Waiting.put_near.Goals as goal
 
 pub add_part-self-inside-requires-clause-room : goal.add_part-self-inside-requires-clause-room

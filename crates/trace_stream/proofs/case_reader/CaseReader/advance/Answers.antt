@@ -4,7 +4,7 @@ use Rattle.std.proofs.lemmas.Result.{err_from_is_err_and}
 use Rattle.rational.proofs.Lists.{take_rest}
 use Rattle.trace_stream.specs.CaseReader.{IsRefused}
 use Rattle.trace_stream.specs.Kept.{IsKeptAs}
-use Rattle.trace_stream.proofs.Fed.{fed, fed_err, some_taken}
+use Rattle.trace_stream.proofs.PieceParts.{fed, fed_err, some_taken}
 use Rattle.trace_stream.proofs.case_reader.CaseReader.advance.Goals as goal
 
 pub take_rows-requires : goal.take_rows-requires

@@ -2,7 +2,7 @@ use Rattle.std.proofs.Common.{◌≤◌, ◌++◌, length, take, drop, refl, sym
 use Rattle.std.proofs.lemmas.Result.{err_from_is_err_and}
 use Rattle.rational.proofs.Lists.{take_rest}
 use Rattle.trace_stream.specs.Kept.{IsKeptAs}
-use Rattle.trace_stream.proofs.Fed.{fed, fed_err}
+use Rattle.trace_stream.proofs.PieceParts.{fed, fed_err}
 use Rattle.trace_stream.proofs.case_reader.CaseReader.feed.Goals as goal
 
 pub loop-at-init : goal.loop-at-init

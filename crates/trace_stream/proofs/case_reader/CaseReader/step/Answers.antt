@@ -5,7 +5,7 @@ use Rattle.stl_syntax.specs.Trace.{Row}
 use Rattle.trace_stream.specs.Cases.{IsNoBegin, IsBegun, CanKeep, with_row}
 use Rattle.trace_reader.specs.InputFaults.{of_trace}
 use Rattle.trace_stream.specs.Kept.{StandsForCase}
-use Rattle.trace_stream.proofs.Feeding.{Pushed, refused_next, stop_begin, header_step, row_step, nothing_step, kept_begun, kept_row}
+use Rattle.trace_stream.proofs.KeptOfBytes.{Pushed, refused_next, stop_begin, header_step, row_step, nothing_step, kept_begun, kept_row}
 use Rattle.trace_stream.proofs.RowsKept.{next_kept}
 use Rattle.trace_stream.proofs.case_reader.CaseReader.step.Goals.{In-Ok}
 use Rattle.trace_stream.proofs.case_reader.CaseReader.step.Goals as goal

@@ -4,8 +4,8 @@ use Rattle.std.proofs.lemmas.Result.{err_from_is_err_and}
 use Rattle.rational.proofs.Lists.{take_rest}
 use Rattle.trace_reader.specs.declared.refusal.Limits.{Limits}
 use Rattle.trace_stream.specs.Following.{IsLiveOpen, IsOpenStop}
-use Rattle.trace_stream.proofs.Fed.{fed, some_taken}
-use Rattle.trace_stream.proofs.Living.{live_fed}
+use Rattle.trace_stream.proofs.PieceParts.{fed, some_taken}
+use Rattle.trace_stream.proofs.ReaderSteps.{live_fed}
 use Rattle.trace_stream.proofs.OpenRows.{live_rows}
 use Rattle.trace_stream.proofs.live.Live.advance.Goals as goal
 

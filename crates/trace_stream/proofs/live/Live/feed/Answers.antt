@@ -1,7 +1,7 @@
 use Rattle.std.proofs.Common.{false, ◌++◌, subst}
 use Rattle.trace_stream.specs.declared.fault.StreamStop.{StreamStop}
 use Rattle.trace_stream.specs.Following.{IsOpenStop}
-use Rattle.trace_stream.proofs.Living.{live_open, flushed, fault_flushed}
+use Rattle.trace_stream.proofs.ReaderSteps.{live_open, flushed, fault_flushed}
 use Rattle.trace_stream.proofs.live.Live.feed.Goals as goal
 
 pub take_piece-requires : goal.take_piece-requires

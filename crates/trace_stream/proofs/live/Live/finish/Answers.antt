@@ -1,6 +1,6 @@
 use Rattle.std.proofs.Common.{◌++◌}
 use Rattle.std.proofs.lemmas.Result.{err_from_is_err_and}
-use Rattle.trace_stream.proofs.Living.{over_of}
+use Rattle.trace_stream.proofs.ReaderSteps.{over_of}
 use Rattle.trace_stream.proofs.live.Live.finish.Goals as goal
 
 pub take_end-requires : goal.take_end-requires

@@ -8,7 +8,7 @@ use Rattle.trace_reader.specs.declared.event.Event.{Event}
 use Rattle.trace_stream.specs.Cases.{CanKeep, with_row}
 use Rattle.trace_stream.specs.Following.{IsOpened, IsHeldUp}
 use Rattle.trace_stream.proofs.Ends.{ended_now, ended_row, end_can, has_header, refused_end}
-use Rattle.trace_stream.proofs.Living.{open_of, more_text, last_by_case, live_end_refused, last_taken, last_row, last_held}
+use Rattle.trace_stream.proofs.ReaderSteps.{open_of, more_text, last_by_case, live_end_refused, last_taken, last_row, last_held}
 use Rattle.trace_stream.proofs.live.Live.last.Goals as goal
 
 pub take_row-requires : goal.take_row-requires

@@ -8,9 +8,9 @@ use Rattle.trace_stream.specs.Cases.{IsNoBegin, IsBegun, CanKeep, with_row}
 use Rattle.trace_stream.specs.Following.{IsOpened, IsHeldUp, IsOpenStop}
 use Rattle.trace_stream.specs.CaseReader.{IsKept}
 use Rattle.trace_stream.specs.declared.fault.StreamStop.{StreamStop}
-use Rattle.trace_stream.proofs.Feeding.{Pushed, header_step, row_step, nothing_step, kept_begun, kept_row}
-use Rattle.trace_stream.proofs.Living.{next_of, live_refused, live_lacks, none_open, open_of, held_fault, open_held, more_text}
-use Rattle.trace_stream.proofs.Refused.{IsReadTo, read_of_kept, row_held}
+use Rattle.trace_stream.proofs.KeptOfBytes.{Pushed, header_step, row_step, nothing_step, kept_begun, kept_row}
+use Rattle.trace_stream.proofs.ReaderSteps.{next_of, live_refused, live_lacks, none_open, open_of, held_fault, open_held, more_text}
+use Rattle.trace_stream.proofs.WideRefused.{IsReadTo, read_of_kept, row_held}
 use Rattle.trace_stream.proofs.live.Live.step.Goals.{In-Ok}
 use Rattle.trace_stream.proofs.live.Live.step.Goals as goal
 

@@ -4,8 +4,8 @@ use Rattle.rational.proofs.Lists.{take_rest}
 use Rattle.stl_syntax.specs.Formula.{Formula}
 use Rattle.trace_reader.specs.declared.refusal.Limits.{Limits}
 use Rattle.trace_stream.specs.Following.{IsLiveOpen, IsOpenStop}
-use Rattle.trace_stream.proofs.Fed.{fed}
-use Rattle.trace_stream.proofs.Living.{live_fed}
+use Rattle.trace_stream.proofs.PieceParts.{fed}
+use Rattle.trace_stream.proofs.ReaderSteps.{live_fed}
 use Rattle.trace_stream.proofs.live.Live.take_piece.Goals as goal
 
 pub loop-at-init : goal.loop-at-init

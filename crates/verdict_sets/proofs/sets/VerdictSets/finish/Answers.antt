@@ -8,8 +8,8 @@ use Rattle.truth_sets.specs.Standing.{StandFor, TellsRoot}
 use Rattle.trace_stream.specs.declared.case.Case.{Case}
 use Rattle.verdict_sets.specs.Keeping.{HasSets}
 use Rattle.verdict_sets.specs.Telling.{AreLinesFrom}
-use Rattle.verdict_sets.proofs.Taking.{no_row, last_held}
-use Rattle.verdict_sets.proofs.Judging.{is_check_answer}
+use Rattle.verdict_sets.proofs.CaseSets.{no_row, last_held}
+use Rattle.verdict_sets.proofs.RootSets.{is_check_answer}
 use Rattle.verdict_sets.proofs.LinesFrom.{begun_with, all_left}
 use Rattle.verdict_sets.proofs.sets.VerdictSets.finish.Goals.{After-time-last}
 use Rattle.verdict_sets.proofs.sets.VerdictSets.finish.Goals as goal

@@ -1,4 +1,4 @@
-use Rattle.verdict_sets.proofs.Taking.{stands_own, is_tail, taken_in}
+use Rattle.verdict_sets.proofs.CaseSets.{stands_own, is_tail, taken_in}
 use Rattle.atom_lines.specs.Rows.{row_of}
 use Rattle.verdict_sets.proofs.sets.VerdictSets.grow.Goals as goal
 

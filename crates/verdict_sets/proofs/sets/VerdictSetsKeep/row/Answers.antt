@@ -1,7 +1,7 @@
 use Rattle.std.proofs.Common.{[], ◌∷◌, ap, nat_eq}
 use Rattle.std.proofs.lemmas.Result.{on_ok_weaker}
 use Rattle.trace_stream.specs.Cases.{with_row}
-use Rattle.verdict_sets.proofs.Taking.{can_take, fits_row}
+use Rattle.verdict_sets.proofs.CaseSets.{can_take, fits_row}
 use Rattle.verdict_sets.proofs.sets.VerdictSetsKeep.row.Goals as goal
 
 pub push-requires-clause-later : goal.push-requires-clause-later

@@ -1,6 +1,6 @@
 use Rattle.std.proofs.Common.{ap, nat_eq}
 use Rattle.trace_stream.specs.Kept.{with_rows}
-use Rattle.verdict_sets.proofs.Taking.{can_take, held_so_far}
+use Rattle.verdict_sets.proofs.CaseSets.{can_take, held_so_far}
 use Rattle.verdict_sets.proofs.sets.VerdictSetsKeep.take_rows.Goals as goal
 
 pub take_rows-requires : goal.take_rows-requires

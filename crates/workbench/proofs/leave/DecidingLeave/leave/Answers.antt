@@ -3,7 +3,7 @@ use Rattle.std.proofs.lemmas.Option.{same_Some}
 use Rattle.early_verdict.specs.Deciding.{Kept as Early}
 use Rattle.workbench.specs.Keeping.{IsEarlyOf}
 use Rattle.early_stream.specs.declared.deciding.Deciding.{Deciding}
-use Rattle.workbench.proofs.Leaving.{early_over}
+use Rattle.workbench.proofs.LeftByRun.{early_over}
 use Rattle.workbench.proofs.leave.DecidingLeave.leave.Goals as goal
 
 pub returns : goal.returns

@@ -3,7 +3,7 @@ use Rattle.std.proofs.lemmas.Option.{same_Some}
 use Rattle.online_robust.specs.Nets.{Parts}
 use Rattle.margin_stream.specs.declared.margins.Margins.{Margins}
 use Rattle.workbench.specs.Keeping.{IsNetOf}
-use Rattle.workbench.proofs.Leaving.{margins_over}
+use Rattle.workbench.proofs.LeftByRun.{margins_over}
 use Rattle.workbench.proofs.leave.MarginsLeave.leave.Goals as goal
 
 pub returns : goal.returns

@@ -28,10 +28,10 @@ use Rattle.online_nodes.proofs.Stretches.{stand_stretches, stretches_whole}
 use Rattle.verdict_stream.proofs.Passes.{state_after, run_split, emitted_alike, taken_once}
 use Rattle.verdict_stream.proofs.Watched.{no_row, show, shown_by, IsAfter, rows_at, driven_at, driven_emptied, none_driven}
 use Rattle.row_runs.specs.RowByRow.{AreMerged, IsRowByRow, nothing, by_row, by_end, IsEdgeMerged, RunsStandForRows, WatchesStandForRows}
-use Rattle.row_runs.proofs.Merging.{merged_stretches, needed_of}
+use Rattle.row_runs.proofs.MergedVerdicts.{merged_stretches, needed_of}
 use Rattle.row_runs.proofs.Once.{quiet_steps, once_steps, once_rows, once_pass}
-use Rattle.row_runs.proofs.Stepping.{GivesMerged, merged_on}
-use Rattle.row_runs.proofs.Building.{row_width, driven_by_rows, is_trace, is_given, HasPassed, pass_follows}
+use Rattle.row_runs.proofs.MergedOutputs.{GivesMerged, merged_on}
+use Rattle.row_runs.proofs.BuiltRuns.{row_width, driven_by_rows, is_trace, is_given, HasPassed, pass_follows}
 
 module _ (nodes : List Node) (header : Header) (order : IsPostOrder nodes) (one : HasOneRoot nodes) where
   abbrev at : List Event → State

@@ -17,7 +17,7 @@ use Rattle.early_verdict.specs.Fitting.{AreSetsTidy}
 use Rattle.early_verdict.specs.Standing.{IsOperator, IsOperatorAt, own_list}
 use Rattle.early_verdict.specs.Letting.{AreLess, NetHas}
 use Rattle.early_verdict.specs.declared.sets.Sets.{Sets}
-use Rattle.early_verdict.proofs.Narrowing.{Beside, le_after}
+use Rattle.early_verdict.proofs.FewerTimes.{Beside, le_after}
 use Rattle.early_verdict.proofs.NodeSets.{beside_of, few_of, own_of_node, tidy_of}
 
 module _ {nodes : List Node} {tr : Trace} {live shown : List Sets} {i : ℕ} {n : Node} (h : NetHas nodes tr live shown i n) (o : IsOperator n) where

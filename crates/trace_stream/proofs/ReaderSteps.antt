@@ -32,8 +32,8 @@ use Rattle.trace_stream.proofs.KeptRows.{sound_so_far}
 use Rattle.trace_stream.proofs.KeptRows.{before_of_kept}
 use Rattle.trace_stream.proofs.RowsBefore.{BeforeEnd, the_same, no_rows_there, before_end}
 use Rattle.trace_stream.proofs.OwedRows.{no_rows_no_text}
-use Rattle.trace_stream.proofs.Feeding.{IsNext, refused_next, same_header, HeaderStep}
-use Rattle.trace_stream.proofs.Refused.{read_of_ended, row_held, end_held}
+use Rattle.trace_stream.proofs.KeptOfBytes.{IsNext, refused_next, same_header, HeaderStep}
+use Rattle.trace_stream.proofs.WideRefused.{read_of_ended, row_held, end_held}
 
 -- among blank lines there is no header
 none_blank : (ls : List Line) {n : ℕ} {h : Heading} → All IsBlank ls → ¬ IsHeaderAt ls n h

@@ -15,7 +15,7 @@ use Rattle.stl_syntax.specs.Verdicts.{IsTold}
 use Rattle.stl_syntax.specs.declared.items.Verdict.{Verdict}
 use Rattle.online_nodes.specs.Laws.{AreTiles, AreTold}
 use Rattle.online_nodes.proofs.HeldLaw.{is_in}
-use Rattle.online_nodes.proofs.Writing.{same_itself, some_in, in_after, in_upto}
+use Rattle.online_nodes.proofs.ToldSoFar.{same_itself, some_in, in_after, in_upto}
 use Rattle.verdict_stream.specs.Pendings.{just_after, AreUpTo, none_left, all_later, one_whole, one_cut}
 use Rattle.verdict_stream.proofs.Cutting.{not_before, room_before, room_after, Leads, parts_of}
 

@@ -31,9 +31,9 @@ use Rattle.verdict_stream.proofs.Taking.{emitted_takes}
 use Rattle.verdict_stream.proofs.Passes.{state_after, rows_stay}
 use Rattle.verdict_stream.proofs.Watched.{steps_others, taken_on, driven_at, driven_emptied, by_row as driven_on}
 use Rattle.row_runs.specs.RowByRow.{IsRowByRow, nothing, by_row, by_end}
-use Rattle.row_runs.proofs.Parting.{fewest}
-use Rattle.row_runs.proofs.Giving.{LeadTo, shown_from, gives_out}
-use Rattle.row_runs.proofs.Stepping.{run_append}
+use Rattle.row_runs.proofs.PartedVerdicts.{fewest}
+use Rattle.row_runs.proofs.GivenCut.{LeadTo, shown_from, gives_out}
+use Rattle.row_runs.proofs.MergedOutputs.{run_append}
 
 -- the last of the first rows comes no later than the last of all
 last_no_later : (n : ℕ) (rows more all : List Row) → all ≡ rows ++ more → AreRows n all → last_time 0 rows ≤ last_time 0 all

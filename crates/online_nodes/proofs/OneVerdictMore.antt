@@ -21,7 +21,7 @@ use Rattle.online_nodes.specs.declared.writer.Out.{Out}
 use Rattle.rational.proofs.PlaceLemmas.{sides, not_both, before_same, same_before, same_places, after_same, upto_same, upto_of_before}
 use Rattle.online_nodes.proofs.WindowLaw.{IsMet, before_it, settled, remembers_of, knows_passed, knows_entered, knows_continued}
 use Rattle.online_nodes.proofs.WindowPlaces.{meets_after, meets_upto}
-use Rattle.online_nodes.proofs.Writing.{same_itself}
+use Rattle.online_nodes.proofs.ToldSoFar.{same_itself}
 
 or_first : Verdict → Option Verdict → Verdict
 or_first d None = d

@@ -42,8 +42,8 @@ use Rattle.whole_answers.specs.Answering.{IsRootOf}
 use Rattle.trace_stream.specs.Streams.{TellsTruth, status_of_truth}
 use Rattle.whole_answers.specs.Judging.{IsUnexplained, TellTruth, IsAnswerOf, IsUnanswered}
 use Rattle.explained_answers.specs.Reasons.{truth_of, items_of}
-use Rattle.explained_answers.proofs.Reasoned.{nodes_of, few_cells}
-use Rattle.explained_answers.proofs.Refuting.{kept_refute}
+use Rattle.explained_answers.proofs.ExplainTexts.{nodes_of, few_cells}
+use Rattle.explained_answers.proofs.KeptRefutes.{kept_refute}
 
 -- what is explained at the start is the truth there
 start_explained : (f : Formula) (tr : Trace) (steps : ℕ) (e : Explained) → IsExplained (nodes_for f tr) tr steps e

@@ -33,7 +33,7 @@ use Rattle.early_verdict.proofs.LivingLemmas.{live_leaf, looks_as, parts_as}
 use Rattle.early_verdict.proofs.Places.{lists_by}
 use Rattle.early_verdict.proofs.NodeReads.{FalseBy, ListedNo, ListedYes, TrueBy, read_listed, read_on}
 use Rattle.early_verdict.proofs.SetsTell.{both_alike, parts_kept}
-use Rattle.early_verdict.proofs.Splitting.{changed_each}
+use Rattle.early_verdict.proofs.SplitLists.{changed_each}
 
 -- sets that let go of times say the same of the others
 module _ (own bounds : Stretch) (s s' : Sets) (y : s.yes.bounds ≡ own) (n : s.no.bounds ≡ own) (k : IsNarrowed bounds s s')

@@ -14,11 +14,11 @@ use Rattle.online_nodes.proofs.RunLaw.{none_is_none, within_horizon}
 use Rattle.online_nodes.proofs.RowsLaw.{rows_of, trace_so_far, goes_on_itself}
 use Rattle.online_nodes.proofs.StayLaw.{shown_is, rows_grow, emitted_stays}
 use Rattle.online_nodes.proofs.EmittedLaw.{emitted_tiles, tiles_append}
-use Rattle.online_nodes.proofs.Writing.{same_itself}
+use Rattle.online_nodes.proofs.ToldSoFar.{same_itself}
 use Rattle.verdict_stream.proofs.Passes.{state_after, run_split, Parted, parted}
 use Rattle.agreeing.proofs.JoinLaw.{joined}
 use Rattle.row_runs.specs.RowByRow.{AreMerged}
-use Rattle.row_runs.proofs.Merging.{merged_of_joined, merged_append}
+use Rattle.row_runs.proofs.MergedVerdicts.{merged_of_joined, merged_append}
 use Rattle.row_runs.proofs.Once.{MovesOnce, once_alternates}
 
 -- what follows the first tiles leads on from where these end

@@ -22,7 +22,7 @@ use Rattle.trace_stream.specs.declared.case.Case.{Case}
 use Rattle.trace_stream.specs.declared.fault.StreamStop.{StreamStop}
 use Rattle.trace_stream.specs.declared.follow.FollowFault.{FollowFault}
 use Rattle.trace_stream.specs.declared.follow.FollowFault.TheVariants.{Memory, Wide}
-use Rattle.trace_stream.proofs.Feeding.{same_header}
+use Rattle.trace_stream.proofs.KeptOfBytes.{same_header}
 use Rattle.trace_stream.proofs.KeptRows.{sound_so_far}
 
 -- ---- formulas that have a stream

@@ -14,7 +14,7 @@ use Rattle.bounds.proofs.BooksRight.{books_are_right}
 use Rattle.bounds.proofs.GivenFew.{given_are_few}
 use Rattle.watch_bounds.specs.Holdings.{total, all_for_a_row}
 use Rattle.watch_bounds.specs.Work.{steps_in, WorkIsLinear}
-use Rattle.watch_bounds.proofs.Holding.{driven_rows}
+use Rattle.watch_bounds.proofs.HeldOnEdges.{driven_rows}
 use Rattle.watch_bounds.proofs.Totals.{total_twice}
 
 steps_append : (a b : List Event) → steps_in (a ++ b) ≡ steps_in a + steps_in b

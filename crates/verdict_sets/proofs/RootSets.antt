@@ -21,7 +21,7 @@ use Rattle.stl_syntax.specs.Texts.{AreVerdictLines, IsStartLine, start_line}
 use Rattle.stl_syntax.specs.Verdicts.{Describes, GoesOn, IsTold}
 use Rattle.stl_syntax.specs.declared.items.Verdict.{Verdict}
 use Rattle.stl_syntax.specs.declared.node.Node.{Node}
-use Rattle.online_nodes.proofs.Writing.{in_after, in_upto, some_in}
+use Rattle.online_nodes.proofs.ToldSoFar.{in_after, in_upto, some_in}
 use Rattle.truth_sets.specs.Standing.{TellsRoot}
 use Rattle.truth_sets.specs.declared.growing.Judged.{Judged}
 use Rattle.trace_stream.specs.Cases.{IsCase}

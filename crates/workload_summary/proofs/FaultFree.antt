@@ -14,7 +14,7 @@ use Rattle.trace_reader.proofs.LineLemmas.{done}
 use Rattle.trace_reader.proofs.TraceRefusalLaw.{heading-unique}
 use Rattle.workload.specs.Generated.{ticks, columns, generated_bytes}
 use Rattle.workload.specs.Judged.{judged_formula}
-use Rattle.workload.proofs.Listed.{all_of}
+use Rattle.workload.proofs.EachOfList.{all_of}
 use Rattle.workload.proofs.RowLines.{heading}
 use Rattle.workload.proofs.TraceBytes.{header, header_first, is_heading, rest_bytes, bytes_of_trace}
 use Rattle.trace_reader.specs.InputFaults.{Fault, whole_limits, IsHeaderAt, here, later, IsUnknownIn, IsUnitIn}

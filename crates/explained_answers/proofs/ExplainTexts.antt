@@ -27,7 +27,7 @@ use Rattle.whole_answers.specs.Judging.{IsUnexplained}
 use Rattle.explained_answers.specs.Reasons.{items_of, IsReasonText, stop_of_explaining}
 use Rattle.whole_answers.specs.Judging.{IsAnswerOf, IsUnanswered}
 use Rattle.trace_stream.proofs.Columns.{atom_unscaled}
-use Rattle.explained_answers.proofs.Refuting.{kept_refute}
+use Rattle.explained_answers.proofs.KeptRefutes.{kept_refute}
 
 -- in a case of the formula its nodes are those in the trace's ticks
 pub nodes_of : (f : Formula) (c : Case) → IsCase f c → c.formula.nodes ≡ nodes_for f c.trace
