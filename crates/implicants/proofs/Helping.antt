@@ -1,8 +1,6 @@
 -- Where atoms are the best that helps the formula to be certainly false, so is each node.
-use Rattle.std.proofs.Common.{◌≡◌, ℕ, ◌<◌, ◌⊎◌, inl, inr, Bool, true, false, not, List}
-use Rattle.std.proofs.Common.{Option, Some, refl, sym, subst, ap, ◌∙◌, ◌+◌, arith}
-use Rattle.std.specs.Prelude.{slice_get, IsTrue}
-use Rattle.std.proofs.lemmas.Option.{same_Some}
+use Rattle.std.proofs.Common.{◌≡◌, ℕ, ◌⊎◌, inl, inr, Bool, true, false, not, List}
+use Rattle.std.proofs.Common.{Option, refl, subst}
 use Rattle.rational.specs.Time.{Rational, Within}
 use Rattle.rational.specs.Windows.{Ahead, Behind, Function, Window, IsSupOver, IsInfOver, IsUpTo, IsDownTo}
 use Rattle.rational.specs.Extended.{Extended, ◌≤ᵉ◌, ◌<ᵉ◌, opposite, IsLeast, IsGreatest}
@@ -217,23 +215,3 @@ module _ (tr : Trace) (some : List Item) (reading : Reading) where
       once_helps h a b x y (at p) (put p) (has p refl) (subst (λ s. Helps s (at p) (put p)) e.first (kids p refl))
   tree_helps at put i j (Historically p a b x y) h signs e leaf kids has inf =
       historically_helps h a b x y (at p) (put p) (has p refl) (subst (λ s. Helps s (at p) (put p)) e.first (kids p refl))
-
--- signs that fit the nodes so far fit one more
-pub signed_more : (nodes : List Node) (signs : List Bool) (j : ℕ) (m : Node) → slice_get nodes j ≡ Some m → AreSigned signs m (sign_at signs j)
-    → ((k : ℕ) (n : Node) → k < j → slice_get nodes k ≡ Some n → AreSigned signs n (sign_at signs k))
-    → (k : ℕ) (n : Node) → k < j + 1 → slice_get nodes k ≡ Some n → AreSigned signs n (sign_at signs k)
-signed_more nodes signs j m at here before k n l there = by_place (here_or_below k l)
-  where
-    here_or_below : (k : ℕ) → k < j + 1 → (k ≡ j) ⊎ (k < j)
-    here_or_below k l = grind (arith, l)
-
-    by_place : (k ≡ j) ⊎ (k < j) → AreSigned signs n (sign_at signs k)
-    by_place (inr h) = before k n h there
-    by_place (inl e) =
-        let same : n ≡ m = same_Some _ _ (sym there ∙ ap (slice_get nodes) e ∙ at) in
-        subst (λ i. AreSigned signs n (sign_at signs i)) (sym e) (subst (λ n. AreSigned signs n (sign_at signs j)) (sym same) here)
-
--- what is not so is false
-pub not_so : (b : Bool) → IsTrue (not b) → b ≡ false
-not_so true h = absurd (let e = h in cc)
-not_so false h = refl

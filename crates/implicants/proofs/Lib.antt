@@ -32,3 +32,5 @@ pub mod Lifting
 pub mod Running
 pub mod Wholes
 pub mod Operands
+pub mod Parents
+pub mod Signing

@@ -1,5 +1,5 @@
 -- What cells leave certain that stay, and marks of needed ones.
-use Rattle.std.proofs.Common.{◌≡◌, ℕ, inl, Bool, true, false, List}
+use Rattle.std.proofs.Common.{◌≡◌, ℕ, Bool, true, false, List}
 use Rattle.std.proofs.Common.{Some, None, refl, lit<}
 use Rattle.std.specs.Prelude.{Option, IfSome}
 use Rattle.rational.specs.Time.{Rational, whole}
@@ -19,7 +19,7 @@ use Rattle.stl_syntax.specs.declared.items.Item.{Item}
 use Rattle.stl_syntax.specs.declared.node.Node.{Node}
 use Rattle.implicants.specs.Runs.{AreAllCells}
 use Rattle.implicants.specs.Keeping.{CoverMore}
-use Rattle.implicants.specs.Needs.{Certain, MarksNeeded, AreCertainties, AreToldOfMore}
+use Rattle.implicants.specs.Needs.{Certain, AreCertainties, AreToldOfMore}
 
 -- what is not known to be false is more than -1
 more_than : (o : Option Bool) → (¬ (o ≡ Some false)) → minus_one <ᵉ finite (whole (kleene_value o))
@@ -68,7 +68,3 @@ told_of_fewer nodes tr items others (Some chains) covered h = record {
   covered = λ i t c. h.covered i t (covered i t c);
   told = h.told;
 }
-
--- where no mark is put, none but those that are needed are
-pub no_more_needed : (nodes : List Node) (tr : Trace) (all : List Item) (left : ℕ) (marks : List Bool) → MarksNeeded nodes tr all left marks marks
-no_more_needed nodes tr all left marks = record { stay = λ c h. h; only = λ c h. inl h }

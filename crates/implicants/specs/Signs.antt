@@ -1,5 +1,5 @@
 -- Which certainty of each node helps the formula to be certainly false.
-use Rattle.std.specs.Prelude.{◌≡◌, ℕ, ◌-◌, Bool, false, not, List, Some, IfSome, length, slice_get, slice_index_or}
+use Rattle.std.specs.Prelude.{◌≡◌, ◌≢◌, ℕ, ◌-◌, Bool, false, not, List, Option, Some, IfSome, length, slice_get, slice_index_or}
 use Rattle.stl_syntax.specs.Views.{first_of, second_of, view_of}
 use Rattle.stl_syntax.specs.declared.node.Node.{Node}
 use Rattle.stl_syntax.specs.declared.operator.Join.TheVariants as J
@@ -15,6 +15,10 @@ abbrev pub first_sign : View → Bool → Bool
 first_sign (V.Not p) h = not h
 first_sign (V.Two J.Implies p q) h = not h
 first_sign v h = h
+
+-- the operands of a node, where it has two, are two nodes
+abbrev pub AreApart : Option ℕ → Option ℕ → Type 0
+AreApart p q = IfSome p (λ i. q ≢ Some i)
 
 -- the operands of a node that has the sign h have theirs
 pub record AreSigned (signs : List Bool) (n : Node) (h : Bool) : Type 0 where

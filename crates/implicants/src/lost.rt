@@ -14,7 +14,8 @@ pub(crate) struct Region {
     pub(crate) to: Frac,
 }
 
-/// Where the part of the piece begins that no run has; none where one run has all of it.
+/// From when on no run has the piece: from where it begins, or from where the run that has its begin ends. None where that run has all
+/// of it.
 fn lost_from(runs: &[Run], piece: &Span) -> Option<Frac> {
     let j = run_for(runs, piece);
     if j >= runs.len() {
@@ -30,7 +31,7 @@ fn lost_from(runs: &[Run], piece: &Span) -> Option<Frac> {
     Some(on.to)
 }
 
-/// Where that part ends, which begins at `from`.
+/// Up to when no run has the piece, of which none has it from `from` on: to where it ends, or to where the run that has its end begins.
 fn lost_to(runs: &[Run], piece: &Span, from: &Frac) -> Frac {
     let j = run_at(runs, &piece.to);
     if j >= runs.len() {

@@ -37,7 +37,7 @@ pub(crate) struct Pick {
     pub(crate) to: usize,
 }
 
-/// All of the runs.
+/// Picks every one of the runs.
 pub(crate) fn all_of(runs: &[Run]) -> Pick {
     Pick {
         from: 0,
@@ -170,7 +170,7 @@ fn next_picked(pick: Pick, next: usize) -> usize
     farther.min(end)
 }
 
-/// The chain that is the best but in some runs of the node.
+/// A chain of few pieces that is no less certain than a node: it is the best but in those runs of the node that are picked.
 pub(crate) fn few(
     alloc: Global,
     runs: &[Run],

@@ -29,7 +29,7 @@ fn either(a: bool, b: bool) -> bool
     a || b
 }
 
-/// Both spans as one, where the second goes on where the first ends.
+/// Two spans as one; none where the second does not go on where the first ends.
 fn joined(a: &Span, b: &Span) -> Option<Span>
     ensures { IfSome result (λ s. (t : Rational) → IsIn (interval s) t → IsIn (interval a.now) t ⊎ IsIn (interval b.now) t) }
 {

@@ -1,8 +1,11 @@
 //! Which certainty of each node helps the formula to be certainly false, and which node stands above it.
-ghost use Rattle.std.specs.Prelude.{◌≡◌, ◌<◌, length, IsTrue, IfOk, IfSome};
+ghost use Rattle.std.specs.Prelude.{◌≡◌, ◌≢◌, ◌<◌, ℕ, length, Some, IfOk, IfSome};
+ghost use Rattle.stl_syntax.specs.Cells.{IsChild};
 ghost use Rattle.stl_syntax.specs.Formula.{HasChildrenBelow};
-ghost use Rattle.implicants.specs.Signs.{AreSigned, AreSigns, first_sign, sign_at};
+ghost use Rattle.stl_syntax.specs.Views.{first_of, second_of, view_of};
+ghost use Rattle.implicants.specs.Signs.{AreApart, AreSigned, AreSigns, first_sign, sign_at};
 
+use crate::keeping::all_false;
 use frac128::Memory;
 use std::alloc::Global;
 use stl_syntax::{Formula, Join, Node, View};
@@ -20,7 +23,9 @@ fn first_sign(view: View, sign: bool) -> bool
 /// Puts the sign of the node at the place, where there is one.
 fn put_sign(place: Option<u32>, sign: bool, signs: &mut Vec<bool>)
     requires { IfSome place (λ p. p < length signs.old.items) }
-    ensures { length signs.new.items ≡ length signs.old.items }
+    ensures count { length signs.new.items ≡ length signs.old.items }
+    ensures put { IfSome place (λ p. sign_at signs.new.items p ≡ sign) }
+    ensures others { (k : ℕ) → place ≢ Some k → sign_at signs.new.items k ≡ sign_at signs.old.items k }
 {
     if let Some(p) = place {
         signs[p as usize] = sign;
@@ -29,67 +34,30 @@ fn put_sign(place: Option<u32>, sign: bool, signs: &mut Vec<bool>)
 
 /// Puts the signs of the operands of a node that has this one.
 fn put_signs(node: &Node, sign: bool, signs: &mut Vec<bool>)
-    requires { HasChildrenBelow (length signs.old.items) node.now }
-    ensures { length signs.new.items ≡ length signs.old.items }
+    requires below { HasChildrenBelow (length signs.old.items) node.now }
+    requires apart { AreApart (first_of (view_of node.now)) (second_of (view_of node.now)) }
+    ensures count { length signs.new.items ≡ length signs.old.items }
+    ensures signed { AreSigned signs.new.items node.now sign }
+    ensures others { (k : ℕ) → ¬ IsChild node.now k → sign_at signs.new.items k ≡ sign_at signs.old.items k }
 {
     let (first, second) = node.inputs();
     put_sign(first, first_sign(node.view(), sign), signs);
     put_sign(second, sign, signs);
 }
 
-/// Whether the node at the place, where there is one, has the sign.
-fn has_sign(place: Option<u32>, sign: bool, signs: &[bool]) -> bool
-    requires { IfSome place (λ p. p < length signs.now) }
-    ensures { IsTrue result → IfSome place (λ p. sign_at signs.now p ≡ sign) }
-{
-    match place {
-        Some(p) => signs[p as usize] == sign,
-        None => true,
-    }
-}
-
-/// Whether the operands of a node that has this sign have theirs.
-fn are_signed(node: &Node, sign: bool, signs: &[bool]) -> bool
-    requires { HasChildrenBelow (length signs.now) node.now }
-    ensures { IsTrue result → AreSigned signs.now node.now sign }
-{
-    let (first, second) = node.inputs();
-    let first_holds = has_sign(first, first_sign(node.view(), sign), signs);
-    first_holds && has_sign(second, sign, signs)
-}
-
-/// Whether each node has the sign that the one above it gives it, and the root that of false.
-fn are_signs(formula: &Formula, signs: &[bool]) -> bool
-    requires { length signs.now ≡ length formula.now.nodes }
-    ensures { IsTrue result → AreSigns formula.now.nodes signs.now }
-{
-    let count = formula.len();
-    for j in 0..count {
-        if !are_signed(formula.node(j), signs[j as usize], signs) {
-            return false;
-        }
-    }
-    !signs[count as usize - 1]
-}
-
 /// The sign of each node: whether it helps the formula to be certainly false that the node is certainly true, or certainly false.
-pub(crate) fn signs_of(alloc: Global, formula: &Formula) -> Result<Option<Vec<bool>>, Memory>
-    ensures { IfOk result (λ o. IfSome o (λ signs. AreSigns formula.now.nodes signs.items)) }
+pub(crate) fn signs_of(alloc: Global, formula: &Formula) -> Result<Vec<bool>, Memory>
+    ensures { IfOk result (λ signs. AreSigns formula.now.nodes signs.items) }
 {
     let count = formula.len();
-    let Ok(mut signs) = vec![in alloc; false; count as usize] else {
-        return Err(Memory);
-    };
+    let mut signs = all_false(alloc, count as usize)?;
     let mut j = count;
     while j > 0 {
         j -= 1;
         let sign = signs[j as usize];
         put_signs(formula.node(j), sign, &mut signs);
     }
-    if are_signs(formula, &signs) {
-        return Ok(Some(signs));
-    }
-    Ok(None)
+    Ok(signs)
 }
 
 /// Puts a place, where it is one.

@@ -201,8 +201,9 @@ fn runs_in(runs: &[Vec<Run>], k: u32) -> &[Run]
     &runs[k as usize]
 }
 
-/// Puts the best of `made` and of a chain by the node's own runs at place `k`: neither is less certain than the node is without the cell
-/// that is tried. Adds the runs in which that is less than the best. Gives the region in which `made` is, where no run of the node has it.
+/// Puts at place `k` a chain that is no less certain than the node there is without the cell that is tried: the best of `made`, and of a
+/// chain by the runs that are known of the node. Adds the runs in which it is less than the best. Gives the region in which `made` is so
+/// and no run says it yet; none where `made` says nothing new, and nodes above lose no more by it.
 fn put_lost(
     alloc: Global,
     formula: &Formula,
@@ -606,7 +607,7 @@ fn mark_lost(
     settle(&gained, runs)
 }
 
-/// How far ahead or behind a node looks of which both operands count far away.
+/// How far ahead or behind an until or a since looks, whose operands both count as far away as that; 0 for any other node.
 fn look_of(node: &Node) -> u32 {
     match node {
         Node::Until { high, .. } => *high,
@@ -615,7 +616,7 @@ fn look_of(node: &Node) -> u32 {
     }
 }
 
-/// How far ahead or behind the node at place `j` looks of which both operands count far away; 0 where there is no such place.
+/// How far ahead or behind an until or a since at place `j` looks; 0 for any other node, and where there is no such place.
 fn look_at(formula: &Formula, j: u32) -> u32 {
     if j >= formula.len() {
         return 0;
@@ -623,15 +624,13 @@ fn look_at(formula: &Formula, j: u32) -> u32 {
     look_of(formula.node(j))
 }
 
-/// What an explanation knows of the formula alone: the sign of each node and the places above it; none where some atom counts with both signs.
-fn ground_of(alloc: Global, formula: &Formula) -> Result<Option<Ground>, Memory>
-    ensures { IfOk result (λ o. IfSome o (λ g. AreSigns formula.now.nodes g.signs.items)) }
+/// What an explanation knows of the formula alone: the sign of each node and the place above it.
+fn ground_of(alloc: Global, formula: &Formula) -> Result<Ground, Memory>
+    ensures { IfOk result (λ g. AreSigns formula.now.nodes g.signs.items) }
 {
-    let Some(signs) = signs_of(alloc, formula)? else {
-        return Ok(None);
-    };
+    let signs = signs_of(alloc, formula)?;
     let above = places_above(alloc, formula)?;
-    Ok(Some(Ground { signs, above }))
+    Ok(Ground { signs, above })
 }
 
 /// Marks cells at `tries` places before `left` without which the root is lost, from the last to the first, where so much is lost already.
@@ -688,9 +687,7 @@ pub(crate) fn mark_upward(
     ensures needed { OnOk result
         (MarksNeeded formula.now.nodes trace.now cells.now.all.items left marks.old.items marks.new.items) }
 {
-    let Some(ground) = ground_of(alloc, formula)? else {
-        return Ok(());
-    };
+    let ground = ground_of(alloc, formula)?;
     match nodes {
         Some(nodes) => {
             let runs = runs_of(alloc, formula, nodes, &ground.signs)?;

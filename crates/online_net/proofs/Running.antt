@@ -29,7 +29,8 @@ use Rattle.atom_lines.specs.declared.passage.Way.{Way}
 use Rattle.online_nodes.specs.Held.{Edge, Held, HasMore, Stand, edge_at, no_edge, with_edge, with_more}
 use Rattle.online_nodes.specs.Truths.{AllAre}
 use Rattle.online_nodes.specs.Written.{Lead}
-use Rattle.online_nodes.proofs.GotLemmas.{more_given}
+use Rattle.node_edges.specs.Kinds.{verdict_part}
+use Rattle.node_edges.proofs.Stretches.{more_given}
 use Rattle.online_nodes.proofs.Stretches.{some_verdict, stand_again, stand_given, stand_more}
 use Rattle.online_nodes.proofs.ToldSoFar.{joined, told_same, same_itself, lead_on, lead_to}
 use Rattle.online_net.specs.Stretches.{after_time, before_time, HasMoreAt, HasPutRun, HasRun, HasTurned, HasPassed, HasGone, HasCome, HasPutStretch, HasPutTwo, StaysOver, StaysFrom, CanGoAlong}
@@ -85,7 +86,7 @@ more_both {a} {b} {c} {i} {xs} {ys} first second = record {
 pub put_given : (old new : Held) (i : ℕ) (v : Verdict) → i < length old.edges → new.edges ≡ with_edge old i (with_more (edge_at old i) (v ∷ []))
     → new.start ≡ old.start → HasMoreAt old new i (v ∷ [])
 put_given old new i v within is start = record {
-  here = subst (λ x. HasMore (edge_at old i) x (v ∷ [])) (sym own) (more_given (edge_at old i) (v ∷ []));
+  here = subst (λ x. HasMore (edge_at old i) x (v ∷ [])) (sym own) (more_given verdict_part (edge_at old i) (v ∷ []));
   others = is ∙ ap (λ x. with_edge old i x) (sym own);
   start = start;
 }

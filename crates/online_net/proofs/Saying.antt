@@ -32,7 +32,9 @@ use Rattle.value_laws.specs.declared.truth.Truth.{Truth as ATruth}
 use Rattle.online_nodes.specs.Truths.{AllAre}
 use Rattle.frac128.specs.Spans.{interval}
 use Rattle.online_nodes.specs.Written.{HasAnswer, HasFinished, HasGot, HasTold, Lead, Reaches}
-use Rattle.online_nodes.proofs.GotLemmas.{got_both, got_none, got-here, got-other, got-length, more_given}
+use Rattle.node_edges.specs.Kinds.{verdict_part}
+use Rattle.node_edges.proofs.Stretches.{more_given}
+use Rattle.online_nodes.proofs.GotLemmas.{got_both, got_none, got-here, got-other, got-length}
 use Rattle.online_net.specs.Atoms.{HasSaidThree, HasBegun, IsThrough, IsPut, HasPutAtom, HasPutAtoms, StandsNext, row_stretch, before_row, after_row}
 use Rattle.frac128.specs.declared.cut.Cut.{Cut}
 use Rattle.online_nodes.specs.declared.writer.Out.{Out}
@@ -288,7 +290,7 @@ pub atom_put : {b : Binding} {i : ℕ} (before : Option Row) (r : Row) {e0 e1 e2
     → HasAnswer e1 e2 out1 holds out2 → Reaches out1 end out2 → HasFinished e2 e3 out2
     → HasNoted e3 e4 i r.time → IsTruthAt b i r holds → HasPutAtom b before r i e0 e4
 atom_put {b} {i} before r {e0} {e1} {e2} {e3} {e4} {out1} {out2} {end} {holds} within later ends_so begun answer reaches finished noted truth = record {
-  here = record { more = all; put = with_more (edge_at e0 i) all; got = more_given (edge_at e0 i) all; is = here; describes = describes };
+  here = record { more = all; put = with_more (edge_at e0 i) all; got = more_given verdict_part (edge_at e0 i) all; is = here; describes = describes };
   others = λ j other. ap (λ es. get_or es j no_edge) noted.edges ∙ get_or-set_other e3.edges i j _ no_edge other ∙ got-other got j other;
   count = ap length noted.edges ∙ length-set e3.edges i _ ∙ got-length got;
   start = noted.start ∙ got.start;

@@ -1,5 +1,6 @@
 -- What was told piece by piece, and a point behind it, as a signal: its lines are those that are put onto an edge.
-use Rattle.std.proofs.Common.{◌≡◌, ◌⊎◌, ℕ, suc, ◌+◌, ◌<◌, ◌≤◌, inl, inr, Bool, true, false, List, [], ◌∷◌, ◌++◌, drop, length, Some, refl, sym, ◌∙◌, subst, ap, arith}
+use Rattle.std.proofs.Common.{◌≡◌, ◌⊎◌, inl, inr, ℕ, suc, ◌+◌, ◌<◌, ◌≤◌, arith, Bool, true, false, refl, sym, ◌∙◌, subst, ap, Some}
+use Rattle.std.proofs.Common.{List, [], ◌∷◌, ◌++◌, drop, length}
 use Rattle.std.specs.Prelude.{cond, slice_get}
 use Rattle.std.specs.declared.cmp.Ordering.{Ordering}
 use Rattle.std.specs.declared.cmp.Ordering.TheVariants.{Less, Equal, Greater}
@@ -26,11 +27,10 @@ use Rattle.pl_signal.specs.Knots as knots
 use Rattle.pieces.specs.declared.piece.Piece.{Piece}
 use Rattle.pieces.specs.Chains.{CanBeLeftOut, Chain, Each, HasShapeIn, IsNormal, IsPiece, Rise, end, stop, stop_from}
 use Rattle.pieces.specs.Streaming.{before_time}
-use Rattle.pieces.proofs.Ends.{after_of_lt, after_time_same, earlier_upto, here_after, here_upto, later_after, upto_of_lt, upto_time_same}
+use Rattle.pieces.proofs.Ends.{after_of_lt, after_time_same, earlier_upto, here_after, here_upto, upto_of_lt, upto_time_same}
 use Rattle.online_robust.specs.Putting.{later_lines, lines_after, lines_of}
 use Rattle.online_robust.specs.Slides.{IsStretchOf, WithPoint, chain_of}
 use Rattle.online_robust.specs.ToldLines.{all_told, first_shape, lines_told, shape_at_end}
-use Rattle.online_robust.specs.declared.line.MarginLine.{MarginLine}
 use Rattle.online_robust.specs.declared.line.MarginLine.TheVariants.{Point, Gap}
 
 -- what is not less by a comparison is no earlier
@@ -89,6 +89,17 @@ module _ (point : Margin) where
       (record { time = at; point = v; after = p.shape } ∷ knots_told p.until.time (shape_at_end p ps point) ps)
       (knots_told at v ps)
 
+  -- something holds of them where it does with the knot of a piece that goes on, and without that of one of one time
+  by_piece : (Q : List (Knot Margin) → Type 0) (at : Frac) (v : Margin) (p : Piece Margin) (ps : List (Piece Margin))
+      → (value at <ʳ value p.until.time → Q (record { time = at; point = v; after = p.shape } ∷ knots_told p.until.time (shape_at_end p ps point) ps))
+      → (less (value at) (value p.until.time) ≡ false → Q (knots_told at v ps)) → Q (knots_told at v (p ∷ ps))
+  by_piece Q at v p ps on off = by_test (less (value at) (value p.until.time)) refl
+    where
+      by_test : (b : Bool) → less (value at) (value p.until.time) ≡ b → Q (cond b
+          (record { time = at; point = v; after = p.shape } ∷ knots_told p.until.time (shape_at_end p ps point) ps) (knots_told at v ps))
+      by_test true e = on (less_out (value at) (value p.until.time) e)
+      by_test false e = off e
+
   -- they begin with one at the time
   record Heads (at : Frac) (v : Margin) (ks : List (Knot Margin)) : Type 0 where
     after : Margin
@@ -97,21 +108,15 @@ module _ (point : Margin) where
 
   heads : (at : Frac) (v : Margin) (ps : List (Piece Margin)) → Heads at v (knots_told at v ps)
   heads at v [] = record { after = v; rest = []; is = refl }
-  heads at v (p ∷ ps) = by_test (less (value at) (value p.until.time)) (heads at v ps)
-    where
-      by_test : (b : Bool) → Heads at v (knots_told at v ps) → Heads at v (cond b
-          (record { time = at; point = v; after = p.shape } ∷ knots_told p.until.time (shape_at_end p ps point) ps) (knots_told at v ps))
-      by_test true h = record { after = p.shape; rest = knots_told p.until.time (shape_at_end p ps point) ps; is = refl }
-      by_test false h = h
+  heads at v (p ∷ ps) = by_piece (Heads at v) at v p ps
+      (λ lt. record { after = p.shape; rest = knots_told p.until.time (shape_at_end p ps point) ps; is = refl }) (λ flat. heads at v ps)
+
+  -- what holds of a list that begins so holds of them
+  with_head : (Q : List (Knot Margin) → Type 0) (at : Frac) (v : Margin) (ps : List (Piece Margin))
+      → ((after : Margin) (rest : List (Knot Margin)) → Q (record { time = at; point = v; after = after } ∷ rest)) → Q (knots_told at v ps)
+  with_head Q at v ps all = let h = heads at v ps in subst Q (sym h.is) (all h.after h.rest)
 
   -- ---- their lines
-
-  -- behind a knot they are its gap, the point, and the later lines
-  behind_knot : (k : Knot Margin) (at : Frac) (v : Margin) (ps : List (Piece Margin))
-      → lines_after k (knots_told at v ps) ≡ Gap k.time at k.after ∷ Point at v ∷ later_lines (knots_told at v ps)
-  behind_knot k at v ps =
-      let h = heads at v ps in
-      ap (lines_after k) h.is ∙ ap (λ ks. Gap k.time at k.after ∷ Point at v ∷ later_lines ks) (sym h.is)
 
   later_are : (at : Frac) (v : Margin) (ps : List (Piece Margin)) → later_lines (knots_told at v ps) ≡ lines_told at ps point
   later_are at v [] = refl
@@ -122,107 +127,88 @@ module _ (point : Margin) where
           → later_lines (knots_told at v ps) ≡ lines_told at ps point
           → later_lines (cond b (record { time = at; point = v; after = p.shape } ∷ knots_told p.until.time (shape_at_end p ps point) ps) (knots_told at v ps))
           ≡ cond b (Gap at p.until.time p.shape ∷ Point p.until.time (shape_at_end p ps point) ∷ lines_told p.until.time ps point) (lines_told at ps point)
-      by_test true on off = behind_knot (record { time = at; point = v; after = p.shape }) p.until.time (shape_at_end p ps point) ps
+      by_test true on off =
+          with_head (λ ks. lines_after (record { time = at; point = v; after = p.shape }) ks
+          ≡ Gap at p.until.time p.shape ∷ Point p.until.time (shape_at_end p ps point) ∷ later_lines ks)
+          p.until.time (shape_at_end p ps point) ps (λ a r. refl)
           ∙ ap (λ l. Gap at p.until.time p.shape ∷ Point p.until.time (shape_at_end p ps point) ∷ l) on
       by_test false on off = off
 
   all_are : (first : Bool) (at : Frac) (ps : List (Piece Margin)) → lines_of first (knots_told at (first_shape ps point) ps) ≡ all_told first at ps point
   all_are true at ps =
-      let v = first_shape ps point in
-      let h = heads at v ps in
-      ap (lines_of true) h.is ∙ ap (λ ks. Point at v ∷ later_lines ks) (sym h.is) ∙ ap (λ l. Point at v ∷ l) (later_are at v ps)
+      with_head (λ ks. lines_of true ks ≡ Point at (first_shape ps point) ∷ later_lines ks) at (first_shape ps point) ps (λ a r. refl)
+      ∙ ap (λ l. Point at (first_shape ps point) ∷ l) (later_are at (first_shape ps point) ps)
   all_are false at ps =
-      let v = first_shape ps point in
-      let h = heads at v ps in
-      ap (lines_of false) h.is ∙ ap later_lines (sym h.is) ∙ later_are at v ps
+      with_head (λ ks. lines_of false ks ≡ later_lines ks) at (first_shape ps point) ps (λ a r. refl) ∙ later_are at (first_shape ps point) ps
 
   -- ---- they are a signal
-
-  comes : (k : Knot Margin) (at : Frac) (v : Margin) (ps : List (Piece Margin)) → value k.time <ʳ value at → knots.ComesBefore k (knots_told at v ps)
-  comes k at v ps lt = subst (knots.ComesBefore k) (sym (heads at v ps).is) lt
-
-  ends_alike : (k : Knot Margin) (at : Frac) (v : Margin) (ps : List (Piece Margin)) → knots.EndsAlike k (knots_told at v ps)
-  ends_alike k at v ps = subst (knots.EndsAlike k) (sym (heads at v ps).is) tt
 
   -- what makes the next knot needed, once the shape behind it is known
   needed_before : (k n : Knot Margin) (at : Frac) (v : Margin) (ps : List (Piece Margin)) → ¬ knots.CanBeLeftOut margin_shape k n
       → knots.NextIsNeeded margin_shape k (n ∷ knots_told at v ps)
-  needed_before k n at v ps kept = subst (λ ks. knots.NextIsNeeded margin_shape k (n ∷ ks)) (sym (heads at v ps).is) kept
+  needed_before k n at v ps kept = with_head (λ ks. knots.NextIsNeeded margin_shape k (n ∷ ks)) at v ps (λ a r. kept)
 
-  module _ (at : Frac) (v : Margin) (p : Piece Margin) where
+  module _ (at : Frac) (v : Margin) (p q : Piece Margin) (qs : List (Piece Margin)) (is : IsPiece margin_shape p (q ∷ qs))
+      (rise : Rise (end p) (q ∷ qs)) where
     abbrev k : Knot Margin
     k = record { time = at; point = v; after = p.shape }
 
+    abbrev w : Margin
+    w = shape_at_end p (q ∷ qs) point
+
+    -- where a piece of one time comes, and another behind it
+    needed_behind : (r : Piece Margin) → Before (end q) (end r) → ((end p).at ≈ (end q).at) × ((end p).after ≡ false) × ((end q).after ≡ true)
+        → ¬ CanBeLeftOut margin_shape p q r.shape → (rs : List (Piece Margin)) → knots.NextIsNeeded margin_shape k (knots_told p.until.time w (r ∷ rs))
+    needed_behind r later one kept rs = by_piece (knots.NextIsNeeded margin_shape k) p.until.time w r rs
+        (λ lt. needed_before k (record { time = p.until.time; point = w; after = r.shape }) r.until.time (shape_at_end r rs point) rs
+        (λ o. kept (record {
+          instant = one.0;
+          around = o.on;
+          here = transᵉ (symᵉ (value_same (margin_function p.shape) one.0)) (transᵉ
+              (subst (λ x. value_at (margin_function p.shape) (value p.until.time) ≈ᵉ value_at (margin_function x) (value p.until.time))
+              (ap (λ b. cond b p.shape q.shape) one.1) o.here)
+              (value_same (margin_function q.shape) one.0));
+        })))
+        (λ flat. absurd (false≢true (sym (instant (end q) (end r) (value p.until.time) (same_sym one.0) later flat).1 ∙ one.2)))
+
+    needed_later : (rs : List (Piece Margin)) → IsPiece margin_shape p (q ∷ rs) → Rise (end q) rs → less (value p.until.time) (value q.until.time) ≡ false
+        → knots.NextIsNeeded margin_shape k (knots_told p.until.time w rs)
+    needed_later [] is' rise' flat = tt
+    needed_later (r ∷ rs) is' rise' flat =
+        needed_behind r rise'.0 (instant (end p) (end q) (value p.until.time) (same_refl (value p.until.time)) rise.0 flat) is'.needed rs
+
     -- the knot where a piece ends is needed: another function comes, or a piece of one time that is
-    needed : (ps : List (Piece Margin)) → IsPiece margin_shape p ps → Each (IsPiece margin_shape) ps → Rise (end p) ps
-        → knots.NextIsNeeded margin_shape k (knots_told p.until.time (shape_at_end p ps point) ps)
-    needed [] is each rise = tt
-    needed (q ∷ qs) is each rise = by_test (less (value p.until.time) (value q.until.time)) refl
-      where
-        by_later : (rs : List (Piece Margin)) → IsPiece margin_shape p (q ∷ rs) → Rise (end q) rs → less (value p.until.time) (value q.until.time) ≡ false
-            → knots.NextIsNeeded margin_shape k (knots_told p.until.time (shape_at_end p (q ∷ qs) point) rs)
-        by_later [] is rise' flat = tt
-        by_later (r ∷ rs) is rise' flat = by_next (less (value p.until.time) (value r.until.time)) refl
-          where
-            one : ((end p).at ≈ (end q).at) × ((end p).after ≡ false) × ((end q).after ≡ true)
-            one = instant (end p) (end q) (value p.until.time) (same_refl (value p.until.time)) rise.0 flat
+    needed : knots.NextIsNeeded margin_shape k (knots_told p.until.time w (q ∷ qs))
+    needed = by_piece (knots.NextIsNeeded margin_shape k) p.until.time w q qs
+        (λ lt. needed_before k (record { time = p.until.time; point = w; after = q.shape }) q.until.time (shape_at_end q qs point) qs (λ o. is.differs o.on))
+        (λ flat. needed_later qs is rise.1 flat)
 
-            w_is : (shape_at_end p (q ∷ qs) point) ≡ q.shape
-            w_is = ap (λ b. cond b p.shape q.shape) one.1
+  next_needed : (at : Frac) (v : Margin) (p : Piece Margin) (ps : List (Piece Margin)) → IsPiece margin_shape p ps → Rise (end p) ps
+      → knots.NextIsNeeded margin_shape (record { time = at; point = v; after = p.shape }) (knots_told p.until.time (shape_at_end p ps point) ps)
+  next_needed at v p [] is rise = tt
+  next_needed at v p (q ∷ qs) is rise = needed at v p q qs is rise
 
-            kept : ¬ knots.CanBeLeftOut margin_shape k (record { time = p.until.time; point = (shape_at_end p (q ∷ qs) point); after = r.shape })
-            kept o = is.needed (record {
-              instant = one.0;
-              around = o.on;
-              here = transᵉ (symᵉ (value_same (margin_function p.shape) one.0)) (transᵉ
-                  (subst (λ x. value_at (margin_function p.shape) (value p.until.time) ≈ᵉ value_at (margin_function x) (value p.until.time)) w_is o.here)
-                  (value_same (margin_function q.shape) one.0));
-            })
-
-            later : (b : Bool) → less (value p.until.time) (value r.until.time) ≡ b → b ≡ false → ⊥
-            later b e no' = by_rise rise'.0
-              where
-                by_rise : Before (end q) (end r) → ⊥
-                by_rise (inl lt) = false≢true (sym (e ∙ no') ∙ less_in (value p.until.time) (value r.until.time) (lt_of_le_of_lt (ge_of_same (same_sym one.0)) lt))
-                by_rise (inr h) = false≢true (sym h.1 ∙ one.2)
-
-            by_next : (b : Bool) → less (value p.until.time) (value r.until.time) ≡ b
-                → knots.NextIsNeeded margin_shape k (cond b
-                (record { time = p.until.time; point = (shape_at_end p (q ∷ qs) point); after = r.shape } ∷ knots_told r.until.time (shape_at_end r rs point) rs)
-                (knots_told p.until.time (shape_at_end p (q ∷ qs) point) rs))
-            by_next true e = needed_before k (record { time = p.until.time; point = (shape_at_end p (q ∷ qs) point); after = r.shape }) r.until.time (shape_at_end r rs point) rs kept
-            by_next false e = absurd (later false e refl)
-
-        by_test : (b : Bool) → less (value p.until.time) (value q.until.time) ≡ b
-            → knots.NextIsNeeded margin_shape k (cond b
-            (record { time = p.until.time; point = (shape_at_end p (q ∷ qs) point); after = q.shape } ∷ knots_told q.until.time (shape_at_end q qs point) qs)
-            (knots_told p.until.time (shape_at_end p (q ∷ qs) point) qs))
-        by_test true e = needed_before k (record { time = p.until.time; point = (shape_at_end p (q ∷ qs) point); after = q.shape }) q.until.time (shape_at_end q qs point) qs
-            (λ o. is.differs o.on)
-        by_test false e = by_later qs is rise.1 e
+  -- a piece of one time ends where what is behind it begins
+  same_end : (c : Place) (at : Frac) (p : Piece Margin) → Before c (end p) → c.at ≈ value at → less (value at) (value p.until.time) ≡ false
+      → (end p).at ≈ value at
+  same_end c at p before here flat = same_trans (same_sym (instant c (end p) (value at) here before flat).0) here
 
   each_knot : (c : Place) (at : Frac) (v : Margin) (ps : List (Piece Margin)) → Rise c ps → Each (IsPiece margin_shape) ps → c.at ≈ value at
       → knots.Each (knots.IsKnot margin_shape) (knots_told at v ps)
   each_knot c at v [] rise each here = (record { rising = tt; needed = tt; ends = refl }, tt)
-  each_knot c at v (p ∷ ps) rise each here = by_test (less (value at) (value p.until.time)) refl
-      (each_knot (end p) p.until.time (shape_at_end p ps point) ps rise.1 each.1 (same_refl (value p.until.time)))
-      (λ same. each_knot (end p) at v ps rise.1 each.1 same)
-    where
-      by_test : (b : Bool) → less (value at) (value p.until.time) ≡ b
-          → knots.Each (knots.IsKnot margin_shape) (knots_told p.until.time (shape_at_end p ps point) ps)
-          → ((end p).at ≈ value at → knots.Each (knots.IsKnot margin_shape) (knots_told at v ps))
-          → knots.Each (knots.IsKnot margin_shape) (cond b
-          (record { time = at; point = v; after = p.shape } ∷ knots_told p.until.time (shape_at_end p ps point) ps) (knots_told at v ps))
-      by_test true e on off = (
+  each_knot c at v (p ∷ ps) rise each here =
+      let k : Knot Margin = record { time = at; point = v; after = p.shape } in
+      let w = shape_at_end p ps point in
+      by_piece (knots.Each (knots.IsKnot margin_shape)) at v p ps
+      (λ lt. (
         record {
-          rising = comes (record { time = at; point = v; after = p.shape }) p.until.time (shape_at_end p ps point) ps
-              (less_out (value at) (value p.until.time) e);
-          needed = needed at v p ps each.0 each.1 rise.1;
-          ends = ends_alike (record { time = at; point = v; after = p.shape }) p.until.time (shape_at_end p ps point) ps;
+          rising = with_head (knots.ComesBefore k) p.until.time w ps (λ a r. lt);
+          needed = next_needed at v p ps each.0 rise.1;
+          ends = with_head (knots.EndsAlike k) p.until.time w ps (λ a r. tt);
         },
-        on,
-      )
-      by_test false e on off = off (same_trans (same_sym (instant c (end p) (value at) here rise.0 e).0) here)
+        each_knot (end p) p.until.time w ps rise.1 each.1 (same_refl (value p.until.time)),
+      ))
+      (λ flat. each_knot (end p) at v ps rise.1 each.1 (same_end c at p rise.0 here flat))
 
   -- ---- what they are worth
 
@@ -243,114 +229,116 @@ module _ (point : Margin) where
     more c p ps t x (inl h) = inl (inr h)
     more c p ps t x (inr h) = inr h
 
-    worth : (c : Place) (at : Frac) (v : Margin) (ps : List (Piece Margin)) → Rise c ps → Same (stop_from c ps) (before_time to) → c.at ≈ value at
-        → (t : Rational) (x : Extended) → knots.IsWorth margin_shape (knots_told at v ps) t x
+    -- what a list of knots is worth from a time on: at the time the shape's value, and else what was told
+    abbrev AreWorth : Place → Frac → Margin → List (Piece Margin) → List (Knot Margin) → Type 0
+    AreWorth c at v ps ks = (t : Rational) (x : Extended) → knots.IsWorth margin_shape ks t x
         → ((t ≈ value at) × Passes (margin_function v) t x) ⊎ WithPoint (chain_of c ps) to point t x
+
+    module _ (c : Place) (at : Frac) (v : Margin) (p : Piece Margin) (ps : List (Piece Margin)) (rise : Rise c (p ∷ ps))
+        (ends : Same (stop_from c (p ∷ ps)) (before_time to)) (here : c.at ≈ value at) where
+      abbrev own : Knot Margin
+      own = record { time = at; point = v; after = p.shape }
+
+      -- at the end of the piece
+      at_end : value at <ʳ value p.until.time → (b : Bool) → is_after p.until.side ≡ b → (t : Rational) (x : Extended) → t ≈ value p.until.time
+          → Passes (margin_function (cond b p.shape (first_shape ps point))) t x → WithPoint (chain_of c (p ∷ ps)) to point t x
+      at_end lt true e t x is passes = inl (inl (
+        after_of_lt c t (lt_of_lt_of_le (lt_of_le_of_lt (ge_of_same (same_sym here)) lt) (ge_of_same is)),
+        upto_time_same (end p) (value p.until.time) t (same_sym is) (here_upto (end p) e),
+        passes,
+      ))
+      at_end lt false e t x is passes = more c p ps t x (first_is (end p) ps t x e rise.1 ends is passes)
+
+      -- a piece that goes on
+      worth_on : (ks : List (Knot Margin)) → Heads p.until.time (shape_at_end p ps point) ks → value at <ʳ value p.until.time
+          → AreWorth (end p) p.until.time (shape_at_end p ps point) ps ks → AreWorth c at v (p ∷ ps) (own ∷ ks)
+      worth_on ks h lt rest t x (inl i) = inl (i.when, i.worth)
+      worth_on ks h lt rest t x (inr (inl i)) =
+          let g = subst (λ l. knots.IsInGap margin_shape own l t x) h.is i in
+          inr (inl (inl (after_of_lt c t (lt_of_le_of_lt (ge_of_same (same_sym here)) g.after), upto_of_lt (end p) t g.before, g.worth)))
+      worth_on ks h lt rest t x (inr (inr i)) = by_rest (rest t x i)
+        where
+          by_rest : ((t ≈ value p.until.time) × Passes (margin_function (shape_at_end p ps point)) t x) ⊎ WithPoint (chain_of (end p) ps) to point t x
+              → ((t ≈ value at) × Passes (margin_function v) t x) ⊎ WithPoint (chain_of c (p ∷ ps)) to point t x
+          by_rest (inl r) = inr (at_end lt (is_after p.until.side) refl t x r.0 r.1)
+          by_rest (inr r) = inr (more c p ps t x r)
+
+      -- one of one time
+      worth_off : (ks : List (Knot Margin)) → AreWorth (end p) at v ps ks → AreWorth c at v (p ∷ ps) ks
+      worth_off ks rest t x i = by_rest (rest t x i)
+        where
+          by_rest : ((t ≈ value at) × Passes (margin_function v) t x) ⊎ WithPoint (chain_of (end p) ps) to point t x
+              → ((t ≈ value at) × Passes (margin_function v) t x) ⊎ WithPoint (chain_of c (p ∷ ps)) to point t x
+          by_rest (inl r) = inl r
+          by_rest (inr r) = inr (more c p ps t x r)
+
+    worth : (c : Place) (at : Frac) (v : Margin) (ps : List (Piece Margin)) → Rise c ps → Same (stop_from c ps) (before_time to) → c.at ≈ value at
+        → AreWorth c at v ps (knots_told at v ps)
     worth c at v [] rise ends here t x (inl h) = inl (h.when, h.worth)
     worth c at v [] rise ends here t x (inr (inl h)) = absurd h
     worth c at v [] rise ends here t x (inr (inr h)) = absurd h
-    worth c at v (p ∷ ps) rise ends here t x h = by_test (less (value at) (value p.until.time)) refl
-        (worth (end p) p.until.time (shape_at_end p ps point) ps rise.1 ends (same_refl (value p.until.time)) t x)
-        (λ same. worth (end p) at v ps rise.1 ends same t x) h
-      where
-        -- at the end of the piece
-        at_end : value at <ʳ value p.until.time → (b : Bool) → is_after p.until.side ≡ b → t ≈ value p.until.time
-            → Passes (margin_function (cond b p.shape (first_shape ps point))) t x → WithPoint (chain_of c (p ∷ ps)) to point t x
-        at_end lt true e is passes = inl (inl (
-          after_of_lt c t (lt_of_lt_of_le (lt_of_le_of_lt (ge_of_same (same_sym here)) lt) (ge_of_same is)),
-          upto_time_same (end p) (value p.until.time) t (same_sym is) (here_upto (end p) e),
-          passes,
-        ))
-        at_end lt false e is passes = more c p ps t x (first_is (end p) ps t x e rise.1 ends is passes)
-
-        in_gap : value at <ʳ value p.until.time → knots.IsInGap margin_shape (record { time = at; point = v; after = p.shape }) (knots_told p.until.time (shape_at_end p ps point) ps) t x → ((t ≈ value at) × Passes (margin_function v) t x) ⊎ WithPoint (chain_of c (p ∷ ps)) to point t x
-        in_gap lt h =
-            let g = subst (λ ks. knots.IsInGap margin_shape (record { time = at; point = v; after = p.shape }) ks t x) (heads p.until.time (shape_at_end p ps point) ps).is h in
-            inr (inl (inl (after_of_lt c t (lt_of_le_of_lt (ge_of_same (same_sym here)) g.after), upto_of_lt (end p) t g.before, g.worth)))
-
-        by_rest : value at <ʳ value p.until.time
-            → ((t ≈ value p.until.time) × Passes (margin_function (shape_at_end p ps point)) t x) ⊎ WithPoint (chain_of (end p) ps) to point t x → ((t ≈ value at) × Passes (margin_function v) t x) ⊎ WithPoint (chain_of c (p ∷ ps)) to point t x
-        by_rest lt (inl h) = inr (at_end lt (is_after p.until.side) refl h.0 h.1)
-        by_rest lt (inr h) = inr (more c p ps t x h)
-
-        by_same : ((t ≈ value at) × Passes (margin_function v) t x) ⊎ WithPoint (chain_of (end p) ps) to point t x → ((t ≈ value at) × Passes (margin_function v) t x) ⊎ WithPoint (chain_of c (p ∷ ps)) to point t x
-        by_same (inl h) = inl h
-        by_same (inr h) = inr (more c p ps t x h)
-
-        by_test : (b : Bool) → less (value at) (value p.until.time) ≡ b
-            → (knots.IsWorth margin_shape (knots_told p.until.time (shape_at_end p ps point) ps) t x
-            → ((t ≈ value p.until.time) × Passes (margin_function (shape_at_end p ps point)) t x) ⊎ WithPoint (chain_of (end p) ps) to point t x)
-            → ((end p).at ≈ value at → knots.IsWorth margin_shape (knots_told at v ps) t x
-            → ((t ≈ value at) × Passes (margin_function v) t x) ⊎ WithPoint (chain_of (end p) ps) to point t x)
-            → knots.IsWorth margin_shape (cond b
-            (record { time = at; point = v; after = p.shape } ∷ knots_told p.until.time (shape_at_end p ps point) ps) (knots_told at v ps)) t x
-            → ((t ≈ value at) × Passes (margin_function v) t x) ⊎ WithPoint (chain_of c (p ∷ ps)) to point t x
-        by_test true e on off (inl h) = inl (h.when, h.worth)
-        by_test true e on off (inr (inl h)) = in_gap (less_out (value at) (value p.until.time) e) h
-        by_test true e on off (inr (inr h)) = by_rest (less_out (value at) (value p.until.time) e) (on h)
-        by_test false e on off h = by_same (off (same_trans (same_sym (instant c (end p) (value at) here rise.0 e).0) here) h)
+    worth c at v (p ∷ ps) rise ends here t x i =
+        let w = shape_at_end p ps point in
+        by_piece (AreWorth c at v (p ∷ ps)) at v p ps
+        (λ lt. worth_on c at v p ps rise ends here (knots_told p.until.time w ps) (heads p.until.time w ps) lt
+        (worth (end p) p.until.time w ps rise.1 ends (same_refl (value p.until.time))))
+        (λ flat. worth_off c at v p ps rise ends here (knots_told at v ps) (worth (end p) at v ps rise.1 ends (same_end c at p rise.0 here flat))) t x i
 
   -- ---- where they begin and end, and their shapes
-
-  stop_behind : (k : Knot Margin) (at : Frac) (v : Margin) (ps : List (Piece Margin)) → knots.stop (k ∷ knots_told at v ps) ≡ knots.stop (knots_told at v ps)
-  stop_behind k at v ps = let h = heads at v ps in ap (λ ks. knots.stop (k ∷ ks)) h.is ∙ ap (λ ks. knots.stop ks) (sym h.is)
 
   ends_at : (c : Place) (at : Frac) (v : Margin) (ps : List (Piece Margin)) → Rise c ps → c.at ≈ value at
       → knots.stop (knots_told at v ps) ≈ (stop_from c ps).at
   ends_at c at v [] rise here = same_sym here
-  ends_at c at v (p ∷ ps) rise here = by_test (less (value at) (value p.until.time)) refl
-      (ends_at (end p) p.until.time (shape_at_end p ps point) ps rise.1 (same_refl (value p.until.time)))
-      (λ same. ends_at (end p) at v ps rise.1 same)
-    where
-      by_test : (b : Bool) → less (value at) (value p.until.time) ≡ b
-          → knots.stop (knots_told p.until.time (shape_at_end p ps point) ps) ≈ (stop_from (end p) ps).at
-          → ((end p).at ≈ value at → knots.stop (knots_told at v ps) ≈ (stop_from (end p) ps).at)
-          → knots.stop (cond b
-          (record { time = at; point = v; after = p.shape } ∷ knots_told p.until.time (shape_at_end p ps point) ps) (knots_told at v ps))
-          ≈ (stop_from (end p) ps).at
-      by_test true e on off = subst (λ t. t ≈ (stop_from (end p) ps).at)
-          (sym (stop_behind (record { time = at; point = v; after = p.shape }) p.until.time (shape_at_end p ps point) ps)) on
-      by_test false e on off = off (same_trans (same_sym (instant c (end p) (value at) here rise.0 e).0) here)
+  ends_at c at v (p ∷ ps) rise here =
+      let w = shape_at_end p ps point in
+      by_piece (λ ks. knots.stop ks ≈ (stop_from (end p) ps).at) at v p ps
+      (λ lt. subst (λ t. t ≈ (stop_from (end p) ps).at)
+      (with_head (λ ks. knots.stop ks ≡ knots.stop (record { time = at; point = v; after = p.shape } ∷ ks)) p.until.time w ps (λ a r. refl))
+      (ends_at (end p) p.until.time w ps rise.1 (same_refl (value p.until.time))))
+      (λ flat. ends_at (end p) at v ps rise.1 (same_end c at p rise.0 here flat))
 
   -- the first shape is that of a piece, or the point's
   first_has : (ps : List (Piece Margin)) (r : Margin) → r ≡ first_shape ps point → HasShapeIn ps r ⊎ (r ≡ point)
   first_has [] r e = inr e
   first_has (p ∷ ps) r e = inl (inl e)
 
-  shapes : (at : Frac) (v : Margin) (ps : List (Piece Margin)) (r : Margin) → knots.HasShape (knots_told at v ps) r
-      → (r ≡ v) ⊎ HasShapeIn ps r ⊎ (r ≡ point)
+  -- their shapes are that of the time, those of the pieces, and the point's
+  abbrev AreOf : Margin → List (Piece Margin) → List (Knot Margin) → Type 0
+  AreOf v ps ks = (r : Margin) → knots.HasShape ks r → (r ≡ v) ⊎ HasShapeIn ps r ⊎ (r ≡ point)
+
+  module _ (at : Frac) (v : Margin) (p : Piece Margin) (ps : List (Piece Margin)) where
+    in_more : (r : Margin) → HasShapeIn ps r ⊎ (r ≡ point) → (r ≡ v) ⊎ HasShapeIn (p ∷ ps) r ⊎ (r ≡ point)
+    in_more r (inl h) = inr (inl (inr h))
+    in_more r (inr h) = inr (inr h)
+
+    end_has : (r : Margin) (b : Bool) → r ≡ cond b p.shape (first_shape ps point) → (r ≡ v) ⊎ HasShapeIn (p ∷ ps) r ⊎ (r ≡ point)
+    end_has r true e = inr (inl (inl e))
+    end_has r false e = in_more r (first_has ps r e)
+
+    shapes_on : (ks : List (Knot Margin)) → AreOf (shape_at_end p ps point) ps ks → AreOf v (p ∷ ps) (record { time = at; point = v; after = p.shape } ∷ ks)
+    shapes_on ks rest r (inl e) = inl e
+    shapes_on ks rest r (inr (inl e)) = inr (inl (inl e))
+    shapes_on ks rest r (inr (inr h)) = by_rest (rest r h)
+      where
+        by_rest : (r ≡ shape_at_end p ps point) ⊎ HasShapeIn ps r ⊎ (r ≡ point) → (r ≡ v) ⊎ HasShapeIn (p ∷ ps) r ⊎ (r ≡ point)
+        by_rest (inl e) = end_has r (is_after p.until.side) e
+        by_rest (inr i) = in_more r i
+
+    shapes_off : (ks : List (Knot Margin)) → AreOf v ps ks → AreOf v (p ∷ ps) ks
+    shapes_off ks rest r h = by_rest (rest r h)
+      where
+        by_rest : (r ≡ v) ⊎ HasShapeIn ps r ⊎ (r ≡ point) → (r ≡ v) ⊎ HasShapeIn (p ∷ ps) r ⊎ (r ≡ point)
+        by_rest (inl e) = inl e
+        by_rest (inr i) = in_more r i
+
+  shapes : (at : Frac) (v : Margin) (ps : List (Piece Margin)) → AreOf v ps (knots_told at v ps)
   shapes at v [] r (inl e) = inl e
   shapes at v [] r (inr (inl e)) = inl e
   shapes at v [] r (inr (inr h)) = absurd h
   shapes at v (p ∷ ps) r h =
-      by_test (less (value at) (value p.until.time)) (shapes p.until.time (shape_at_end p ps point) ps r) (shapes at v ps r) h
-    where
-      in_more : HasShapeIn ps r ⊎ (r ≡ point) → (r ≡ v) ⊎ HasShapeIn (p ∷ ps) r ⊎ (r ≡ point)
-      in_more (inl h) = inr (inl (inr h))
-      in_more (inr h) = inr (inr h)
-
-      at_end : (b : Bool) → r ≡ cond b p.shape (first_shape ps point) → (r ≡ v) ⊎ HasShapeIn (p ∷ ps) r ⊎ (r ≡ point)
-      at_end true e = inr (inl (inl e))
-      at_end false e = in_more (first_has ps r e)
-
-      by_rest : (r ≡ (shape_at_end p ps point)) ⊎ HasShapeIn ps r ⊎ (r ≡ point) → (r ≡ v) ⊎ HasShapeIn (p ∷ ps) r ⊎ (r ≡ point)
-      by_rest (inl e) = at_end (is_after p.until.side) e
-      by_rest (inr h) = in_more h
-
-      by_same : (r ≡ v) ⊎ HasShapeIn ps r ⊎ (r ≡ point) → (r ≡ v) ⊎ HasShapeIn (p ∷ ps) r ⊎ (r ≡ point)
-      by_same (inl e) = inl e
-      by_same (inr h) = in_more h
-
-      by_test : (b : Bool) → (knots.HasShape (knots_told p.until.time (shape_at_end p ps point) ps) r
-          → (r ≡ shape_at_end p ps point) ⊎ HasShapeIn ps r ⊎ (r ≡ point))
-          → (knots.HasShape (knots_told at v ps) r → (r ≡ v) ⊎ HasShapeIn ps r ⊎ (r ≡ point))
-          → knots.HasShape (cond b
-          (record { time = at; point = v; after = p.shape } ∷ knots_told p.until.time (shape_at_end p ps point) ps) (knots_told at v ps)) r
-          → (r ≡ v) ⊎ HasShapeIn (p ∷ ps) r ⊎ (r ≡ point)
-      by_test true on off (inl e) = inl e
-      by_test true on off (inr (inl e)) = inr (inl (inl e))
-      by_test true on off (inr (inr h)) = by_rest (on h)
-      by_test false on off h = by_same (off h)
+      let w = shape_at_end p ps point in
+      by_piece (AreOf v (p ∷ ps)) at v p ps (λ lt. shapes_on at v p ps (knots_told p.until.time w ps) (shapes p.until.time w ps))
+      (λ flat. shapes_off at v p ps (knots_told at v ps) (shapes at v ps)) r h
 
 -- the lines of what was told up to a time, from its beginning on, are those of a signal of it and the point
 pub told_stretch : (told : Chain Margin) (to : Rational) (point : Margin) (at : Frac) (first : Bool) → IsNormal margin_shape told → told.from.after ≡ false

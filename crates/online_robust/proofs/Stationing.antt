@@ -4,7 +4,6 @@ use Rattle.std.proofs.Common.{sym, ap, subst, ◌∙◌, arith, Option, Some, No
 use Rattle.std.specs.Prelude.{IfSome, MatchBool, MatchOption, not, slice_get}
 use Rattle.std.proofs.lemmas.Int.{ints}
 use Rattle.std.proofs.lemmas.Bool.{false≢true}
-use Rattle.pl_signal.specs.declared.knot.Knot.{Knot}
 use Rattle.pl_signal.specs.declared.faults.OpFault.{OpFault}
 use Rattle.value_laws.specs.declared.margin.Margin.{Margin}
 use Rattle.stl_syntax.specs.Trace.{AreRows, AreRowsAfter, Row, IsTrace, first_time}

@@ -6,7 +6,7 @@ use Rattle.rational.specs.Extended.{value_at}
 use Rattle.frac128.specs.Value.{value}
 use Rattle.value_laws.specs.Margins.{margin_function}
 use Rattle.stl_syntax.specs.Trace.{Header, Row, Trace, IsTrace, Continues, first_time, last_time}
-use Rattle.stl_syntax.specs.Formula.{Subformula, subformula, horizon}
+use Rattle.stl_syntax.specs.Formula.{Subformula, subformula}
 use Rattle.stl_syntax.specs.SupInf.{Robustness}
 use Rattle.stl_syntax.specs.Limits.{reach}
 use Rattle.stl_syntax.specs.declared.atom.Atom.{Atom}
@@ -15,9 +15,8 @@ use Rattle.stl_syntax.specs.declared.node.Node.TheVariants.{Const, Atom as Leaf}
 use Rattle.online_nodes.specs.MarginEdges.{Part, point, gap, shown_number, AreEmittedParts}
 use Rattle.online_nodes.specs.StreamedWide.{front_at}
 use Rattle.online_robust.specs.Lines.{end_of}
-use Rattle.online_robust.specs.Held.{Held}
 use Rattle.online_robust.specs.Standing.{Stands}
-use Rattle.online_robust.specs.Steps.{IsLeaf, IsInput, back_of, seen_by}
+use Rattle.online_robust.specs.Steps.{IsLeaf, IsInput, back_of}
 use Rattle.online_robust.specs.declared.line.MarginLine.{MarginLine}
 use Rattle.online_robust.specs.declared.line.MarginLine.TheVariants.{Point, Gap}
 use Rattle.online_robust.specs.declared.station.Work.{Work}

@@ -12,7 +12,7 @@ use Rattle.pl_signal.specs.declared.knot.Knot.{Knot}
 use Rattle.stl_syntax.specs.Trace.{Row, row_time}
 use Rattle.atom_lines.specs.Binding.{Binding}
 use Rattle.atom_lines.specs.Points.{IsMarginAt, IsMarginOn}
-use Rattle.online_robust.specs.Held.{Held, edge_at, with_edge, with_more, with_number}
+use Rattle.online_robust.specs.Held.{Held, edge_at, with_edge, with_more}
 use Rattle.online_robust.specs.declared.line.MarginLine.{MarginLine}
 use Rattle.online_robust.specs.declared.line.MarginLine.TheVariants.{Point, Gap}
 

@@ -3,7 +3,7 @@ use Rattle.std.specs.Prelude.{◌≡◌, ◌≢◌, ◌⊎◌, ℕ, ℤ, pos, ne
 use Rattle.std.specs.Prelude.{Bool, Option, Some, None, IfSome, true, false, if◌then◌else◌, int_lt}
 use Rattle.rational.specs.Rational.{IsWithin, whole}
 use Rattle.rational.specs.Time.{Rational, shifted, ◌≈◌, ◌≤ʳ◌, ◌<ʳ◌}
-use Rattle.rational.specs.Extended.{Extended, Affine, Passes, value_at}
+use Rattle.rational.specs.Extended.{Extended, Affine, Passes}
 use Rattle.rational.specs.Affine.{IsBounded}
 use Rattle.rational.specs.InPlay.{IsWideCrossing, IsWideValue}
 use Rattle.rational.specs.Places.{Place, AtMost, Same}

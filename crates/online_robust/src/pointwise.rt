@@ -42,6 +42,7 @@ pub(crate) struct Two {
 
 /// The margin of an input at the time, which lies in its first gap, or at the end of it; the gap has this end and this margin. What
 /// ends by the time is taken.
+#[inline(always)]
 fn up_to(edges: &mut Edges, of: u32, end: &Frac, shape: &Margin, t: &Frac) -> Margin
     requires of { of < length edges.old.edges }
     requires read { (x : Source) × (gap : Line) × (end.now ≡ end_of gap) × (shape.now ≡ margin_of gap)
@@ -154,6 +155,7 @@ impl Not {
 
 impl Two {
     /// The left input's margin, as it counts.
+    #[inline(always)]
     fn left_of(&self, shape: &Margin) -> Margin
         requires { HasBoundedLevel (2 ^ 31) (margin_function shape.now) }
         ensures value { (t : Rational) → value_at (margin_function result) t ≈ᵉ value_turned self.now.turned (value_at (margin_function shape.now) t) }
@@ -163,6 +165,7 @@ impl Two {
     }
 
     /// The margin of the connective of two margins at the time.
+    #[inline(always)]
     fn of_both(&self, p: &Margin, q: &Margin, t: &Frac) -> Margin
         requires { (x : Couple) × (IsThere (Robustness x.left x.trace) x.reach (value t.now) p.now)
             × (IsThere (right_of x) x.reach (value t.now) q.now) × IsTick (value t.now) }

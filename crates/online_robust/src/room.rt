@@ -24,6 +24,7 @@ impl Room {
     /// # Errors
     ///
     /// `Memory` where there is no memory.
+    #[inline(always)]
     pub(crate) fn start(&mut self, at: Frac, point: Margin) -> Result<Builder<Margin>, Memory>
         ensures { IfOk result (λ b. b ≡ record { time = at; point = point; after = point } ∷ []) }
     {

@@ -2,12 +2,11 @@ use Rattle.std.proofs.Common.{◌≡◌, ◌<◌, ◌^◌, false, sym, ap, ◌�
 use Rattle.std.specs.Prelude.{IfSome, cond, int_lt, neg_ℤ, option_map}
 use Rattle.std.specs.Int.{w64}
 use Rattle.std.proofs.lemmas.Int.{ints, to_z-of_z}
-use Rattle.rational.specs.Rational.{FitsFloor, IsWithin, add, whole}
+use Rattle.rational.specs.Rational.{FitsFloor, add, whole}
 use Rattle.rational.specs.Time.{Rational, shifted, ◌≈◌, ◌≤ʳ◌, ◌<ʳ◌}
 use Rattle.rational.specs.Extended.{value_at}
 use Rattle.rational.specs.Places.{AtMost, Same, Upto}
 use Rattle.rational.proofs.Lists.{on_err_anyway}
-use Rattle.rational.proofs.Mixed.{within_same}
 use Rattle.rational.proofs.Order.{le_trans, same_refl, same_sym, same_trans}
 use Rattle.rational.proofs.PlaceLemmas.{same_places, same_trans_places, upto_same}
 use Rattle.rational.proofs.Shift.{le_whole}
@@ -23,7 +22,6 @@ use Rattle.pieces.specs.declared.stream.Stream.{Stream}
 use Rattle.pieces.specs.Chains.{Chain, Tells, stop}
 use Rattle.pieces.specs.Streaming.{Follows, HasAll, IsAt, IsCauseBelow, IsNextSeen, before_time}
 use Rattle.pieces.specs.Windows.{BestOver}
-use Rattle.pieces.proofs.ChainLemmas.{to_stop}
 use Rattle.pieces.proofs.Shifts.{fits}
 use Rattle.online_robust.specs.Held.{Held}
 use Rattle.online_robust.specs.Putting.{HasPut}
@@ -31,7 +29,6 @@ use Rattle.online_robust.specs.Slides.{CanSlide, Course, DropsBy, IsOnWay, IsRef
 use Rattle.online_robust.specs.Slides.{after_time, back_offset}
 use Rattle.online_robust.specs.ToldLines.{all_told}
 use Rattle.online_robust.specs.declared.slide.Window.{Window}
-use Rattle.online_robust.proofs.Builts.{tick_between, tick_within}
 use Rattle.online_robust.proofs.SlideCuts.{read_drops, reads_both}
 use Rattle.online_robust.proofs.SlideGone.{all_under, follows_under, gone, has_all, next_seen, none_early, read_same}
 use Rattle.online_robust.proofs.SlideRefused.{some_of_none, tell_refused}

@@ -1,4 +1,4 @@
-use Rattle.std.proofs.Common.{◌≡◌, ◌+◌, ◌++◌, [], refl, sym, ap, ◌∙◌, append-nil, append_assoc, subst, arith, length, drop}
+use Rattle.std.proofs.Common.{◌≡◌, ◌+◌, ◌++◌, [], refl, sym, ap, ◌∙◌, append-nil, append_assoc, subst, arith, drop}
 use Rattle.std.proofs.lemmas.List.{drop_all}
 use Rattle.online_robust.specs.Putting.{HasPut}
 use Rattle.online_robust.specs.ToldLines.{lines_told}

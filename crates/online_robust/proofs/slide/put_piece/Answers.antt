@@ -1,11 +1,6 @@
-use Rattle.std.proofs.Common.{◌≡◌, ◌+◌, suc, ◌++◌, ◌∷◌, [], drop, List, refl, sym, ap, ◌∙◌, subst, arith}
-use Rattle.std.specs.Prelude.{cond}
-use Rattle.rational.proofs.Lists.{drop_on}
-use Rattle.rational.proofs.TimeLemmas.{less_in, less_no}
-use Rattle.rational.specs.Time.{less}
+use Rattle.std.proofs.Common.{◌∷◌, []}
 use Rattle.frac128.specs.Value.{value}
 use Rattle.pieces.proofs.KnotLemmas.{not_less}
-use Rattle.online_robust.specs.ToldLines.{lines_told, shape_at_end}
 use Rattle.online_robust.specs.declared.line.MarginLine.TheVariants.{Gap, Point}
 use Rattle.online_robust.proofs.LinesPut.{put_nothing}
 use Rattle.online_robust.proofs.SlideStretch.{no_gap, some_gap}

@@ -1,4 +1,4 @@
-use Rattle.std.proofs.Common.{◌≡◌, ◌∷◌, [], ap, subst, sym}
+use Rattle.std.proofs.Common.{◌∷◌, [], ap, subst, sym}
 use Rattle.std.proofs.lemmas.Result.{on_ok_weaker}
 use Rattle.online_robust.specs.Putting.{HasPut}
 use Rattle.online_robust.specs.ToldLines.{all_told, first_shape, lines_told}

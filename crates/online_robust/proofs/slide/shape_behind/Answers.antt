@@ -1,6 +1,5 @@
-use Rattle.std.proofs.Common.{◌≡◌, ◌+◌, drop, refl, sym, ap, ◌∙◌, subst}
+use Rattle.std.proofs.Common.{◌≡◌, ◌+◌, drop, sym, ap, ◌∙◌, subst}
 use Rattle.std.specs.Prelude.{cond}
-use Rattle.rational.proofs.Lists.{drop_none}
 use Rattle.pl_signal.proofs.Values.{some_is}
 use Rattle.pieces.proofs.KnotLemmas.{side_after, side_before}
 use Rattle.online_robust.specs.ToldLines.{first_shape, shape_at_end}

@@ -1,12 +1,8 @@
-use Rattle.std.proofs.Common.{rules, ◌≡◌, ◌∙◌, ap, pos, to_z, of_z, subst}
+use Rattle.std.proofs.Common.{rules, ◌≡◌, ◌∙◌, ap, pos, to_z, of_z}
 use Rattle.std.specs.Int.{w64}
-use Rattle.std.proofs.lemmas.Int.{to_z-of_z}
 use Rattle.rational.proofs.Lists.{on_err_anyway}
 use Rattle.online_robust.specs.Held.{edge_at, with_edge, with_number}
-use Rattle.online_robust.specs.Moving.{IsFaultOf}
-use Rattle.online_robust.specs.Putting.{lines_of}
 use Rattle.online_robust.specs.Refusing.{told_by}
-use Rattle.online_robust.proofs.LinesPut.{put_within}
 use Rattle.online_robust.proofs.Stationing.{given_out, given_within, swept_fault, swept_turn, turn_edge}
 use Rattle.online_robust.proofs.station.give_out.Goals as goal
 
@@ -30,5 +26,6 @@ returns-clause-moved c = λ m g.
 
 pub returns-in_err-sweep-clause-fault : goal.returns-in_err-sweep-clause-fault
 returns-in_err-sweep-clause-fault c = λ m g.
-    on_err_anyway c.from_residual.result (swept_fault m c.args.node c.args.operator.now c.args.edges.now c.args.to c.args.with_first g (told_by c.sweep.new.fault)
+    on_err_anyway c.from_residual.result
+    (swept_fault m c.args.node c.args.operator.now c.args.edges.now c.args.to c.args.with_first g (told_by c.sweep.new.fault)
     c.in_err-sweep.ensures.wide)

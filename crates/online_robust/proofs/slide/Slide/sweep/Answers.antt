@@ -1,7 +1,6 @@
 use Rattle.std.proofs.Common.{rules, ◌≡◌, ℕ, pos, to_z, of_z, refl, sym, ap, subst, ◌∙◌, Option, Some, None}
 use Rattle.std.specs.Int.{w64}
 use Rattle.std.specs.Prelude.{MatchOption}
-use Rattle.std.proofs.lemmas.Int.{to_z-of_z}
 use Rattle.std.proofs.lemmas.Option.{same_Some}
 use Rattle.rational.specs.Rational.{◌≈◌, whole}
 use Rattle.rational.specs.Time.{shifted}
@@ -90,11 +89,13 @@ returns-clause-out c =
     (λ g. record {
       swept = g.swept;
       between = g.between;
-      told = λ t b. slide_told t z e c.args.to b end (now a t b).from (ends a) g.swept (g.told (x a t b) (from_of t) (can a t b) (window a t b) refl);
+      told = λ t b. slide_told t z e c.args.to b end (now a t b).from (ends a) g.swept
+          (g.told (x a t b) (from_of t) (can a t b) (window a t b) refl);
       edges = λ t b. slide_edges t z e c.args.to b end (ends a) g.between
           (subst (λ (w : Window). HasRead w.of e (shifted end (back_offset w)) g.between) (sym (window a t b)) g.read);
       stands = λ t b. subst (λ (w : Window). StandsNow t (Op.Slide (record { window = w; stream = Some new.stream; kept = new.kept })) g.between c.args.to)
-          (window a t b) (slide_stands t z e c.args.to b end (ends a) (now a t b).from c.in-Some-stream.stream new.stream new.kept g.between (now a t b).can g.way
+          (window a t b)
+          (slide_stands t z e c.args.to b end (ends a) (now a t b).from c.in-Some-stream.stream new.stream new.kept g.between (now a t b).can g.way
           (g.gone (x a t b) (from_of t) (can a t b) (window a t b) refl));
       put = g.put;
     })
