@@ -6,7 +6,7 @@ use value_laws::Margin;
 /// A time in ticks, `floor + rest / den`, in no lowest terms.
 #[derive(Clone, Copy)]
 pub struct Crossing {
-    /// The whole ticks.
+    /// The whole ticks of the time: the last tick that is not after it.
     pub floor: u32,
     /// How many parts of a tick the time lies above them.
     pub rest: u32,
@@ -38,14 +38,14 @@ pub struct Way {
     pub sum: i64,
     /// How its truth goes over the gap before that row.
     pub passage: Passage,
-    /// Its truth at that row.
+    /// The atom's truth at that row.
     pub last: bool,
 }
 
 /// A place at which a truth turns.
 #[derive(Clone, Copy)]
 pub struct Turning {
-    /// The time.
+    /// The time just before or just after which the truth turns.
     pub at: Crossing,
     /// Whether it turns just after that time, and not just before it.
     pub after: bool,
@@ -72,6 +72,6 @@ pub struct MarginWay {
     pub row: usize,
     /// How far the atom's sum lies above its constant there.
     pub sum: i64,
-    /// Its margin from the first row on, up to just before the last.
+    /// The atom's margin from the first row on, up to just before the last.
     pub margin: Margin,
 }

@@ -147,7 +147,7 @@ fn stays_of_one(rel: Rel, at: usize, last: usize, step: &Step) -> bool
     truth_at(rel, step.next).holds() == truth_at(rel, step.gap.from).holds()
 }
 
-/// The same as `stay_from`, for an atom of one term.
+/// How long the truth of an atom of one term stays from a row on: what `stay_from` answers, with no sum of terms to reckon.
 #[inline(always)]
 pub(crate) fn stay_of_one(atom: &BoundAtom, trace: &Trace, r: usize, last: usize, from: i64) -> Stay
     requires one { length atom.now.terms.items ≡ 1 }

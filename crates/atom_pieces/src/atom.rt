@@ -33,7 +33,7 @@ pub trait AtomShape: Shape {
         requires some { 0 < length trace.now.rows }
         ensures { IfOk result (IsAtomChain Self.Shape reading bound.now node trace.now) };
 
-    /// The same as a signal of knots.
+    /// The atom as a signal of knots over the whole trace, for a formula that is one atom: no chain of pieces is made on the way.
     fn knots_of_atom(
         alloc: Global,
         bound: &Bound,

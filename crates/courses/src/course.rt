@@ -158,7 +158,7 @@ fn constant<P: Shape>(x: &P, at: &Frac, fault: &mut Option<WidePair<P>>) -> Resu
     }
 }
 
-/// The one shape alone.
+/// A course that is one shape from end to end: there is no second that it might follow.
 fn only<P: Copy>(x: &P) -> Course<P>
     ensures side { result.side ≡ Least }
     ensures first { result.first ≡ x.now }

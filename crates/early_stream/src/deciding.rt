@@ -81,7 +81,7 @@ impl Deciding {
     ghost use Rattle.trace_stream.specs.declared.case.Case.{Case as Of};
     ghost use Rattle.early_stream.specs.Deciding.{IsDeciding};
 
-    /// The early verdict itself.
+    /// The early verdict that followed the rows, for what a run leaves to its caller.
     pub fn into_early(self) -> Early
         ensures { result ≡ self.early }
     {

@@ -36,7 +36,7 @@ impl BlockRow<'_> {
     ghost use Rattle.atom_lines.specs.Points.{IsTruthAt, IsTruthOn};
     ghost use Rattle.early_verdict.specs.BlockRows.{own_row, previous_row};
 
-    /// Its time.
+    /// The time of the row, in ticks.
     #[inline(always)]
     pub(crate) fn time(&self) -> u32
         ensures { result ≡ (own_row self.now).time }
@@ -71,7 +71,7 @@ impl BlockRow<'_> {
         truth_at_row(bound, node, self.block, self.at)
     }
 
-    /// Its truth on the open gap behind the row before, and there.
+    /// The truth of the atom at place `node` on the open gap between the row before and this one, and at this row.
     #[inline(always)]
     pub(crate) fn truth_since(&self, bound: &Bound, node: u32) -> (TruthPiece, Truth)
         requires after { 0 < self.now.at }

@@ -314,7 +314,7 @@ struct Back {
     most: u32,
 }
 
-/// Those of a since that has a bound; of no other node.
+/// The operands of a since that has an upper bound, and how far it looks back; none for any other node.
 fn bounded_since(node: &Node) -> Option<Back>
     ensures { IfSome result (λ s. (a : ℕ) × (node.now ≡ Since s.left s.right a (Some s.most))) }
 {
@@ -345,7 +345,7 @@ struct Endless {
     low: u32,
 }
 
-/// Those of a since without a bound; of no other node.
+/// The operands of a since without an upper bound, and how far behind a time its window ends; none for any other node.
 fn endless_since(node: &Node) -> Option<Endless>
     ensures { IfSome result (λ s. node.now ≡ Since s.left s.right s.low None) }
 {

@@ -73,7 +73,7 @@ pub(crate) fn all_sets(alloc: Global, formula: &Formula, start: u32) -> Result<V
     Ok(all)
 }
 
-/// As many sets with the same bounds, with no times.
+/// Empty sets for each node, with the bounds of those that its step goes on from: what it shows the node above it before any row.
 pub(crate) fn shown_of(alloc: Global, live: &[Sets]) -> Result<Vec<Sets>, Memory>
     ensures { IfOk result (λ v. AreShownOf live.now v.items) }
 {

@@ -36,7 +36,8 @@ fn decided_at(at: u32, verdict: Option<bool>) -> Option<Decided>
     }
 }
 
-/// So many rows come between two times that the sets let go: what that costs is a small part of what the rows themselves cost.
+/// How many rows come between two times that the sets let go: letting go looks at every node, and so costs a small part of what the rows
+/// themselves cost.
 const ROWS_BETWEEN: u32 = 31;
 
 /// Lets go, now and then, of what no later answer needs; of all sets, once a row has decided.
@@ -73,7 +74,7 @@ impl Progress {
     ghost use Rattle.early_verdict.specs.BlockRows.{own_row, previous_row, row_before};
     ghost use Rattle.early_verdict.specs.Deciding.{Stands, kept_of};
 
-    /// Takes the next row.
+    /// Takes the next row: the sets of all nodes grow by it, and where they decide the formula, the verdict is kept with the row's time.
     fn take(
         &mut self,
         alloc: Global,

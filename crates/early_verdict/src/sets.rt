@@ -6,31 +6,31 @@ ghost use Rattle.early_verdict.specs.Making.{HasPartBounds, HasPartsFor};
 use growing_sets::{Grown, Stretch};
 use std::alloc::Global;
 
-/// The sets between that at which until or since is certainly true and those of its operands.
+/// For an until or since: the sets by which that of the times at which it is certainly true grows from those of its operands.
 #[derive(Drop)]
 pub(crate) struct Holding {
     /// The times at which both operands are certainly true.
     pub(crate) both: Grown,
-    /// Those from which the left one goes on to one of them; for since back from which.
+    /// The times from which the left operand is certainly true on to one of `both`; for since back to one.
     pub(crate) run: Grown,
-    /// Those whose window has a time at which the right one is certainly true.
+    /// The times whose window has one at which the right operand is certainly true.
     pub(crate) some: Grown,
-    /// Those from which each time up to the window is one of `run`.
+    /// The times from which each one up to the window is one of `run`.
     pub(crate) each: Grown,
     /// For since, whether `run` is carried on from before its bounds.
     pub(crate) carried: bool,
 }
 
-/// The sets between that at which it is certainly false and those of its operands.
+/// For an until or since: the sets by which that of the times at which it is certainly false grows from those of its operands.
 #[derive(Drop)]
 pub(crate) struct Failing {
     /// The times at which an operand is certainly false.
     pub(crate) fail: Grown,
-    /// Those from which one of them goes on being so to a time at which the left one is; for since back from which.
+    /// The times from which an operand is certainly false all along to one at which the left one is; for since back to one.
     pub(crate) stop: Grown,
-    /// Those in whose windows the right one is certainly false.
+    /// The times in whose whole window the right operand is certainly false.
     pub(crate) never: Grown,
-    /// Those from which some time up to the window is one of `stop`.
+    /// The times from which some one up to the window is one of `stop`.
     pub(crate) broken: Grown,
     /// For since, whether `stop` is carried on from before its bounds.
     pub(crate) carried: bool,

@@ -91,7 +91,7 @@ impl Block {
         low
     }
 
-    /// The one at the place.
+    /// The stretch at a place of the block.
     #[inline(always)]
     fn get(&self, at: usize) -> Option<Stretch>
         ensures { result ≡ slice_get self.now.ring.items at }
@@ -417,7 +417,7 @@ impl Stretches {
         }
     }
 
-    /// How many they are.
+    /// How many stretches are in the list.
     #[inline(always)]
     pub fn len(&self) -> usize
         ensures len { result ≡ length self.now.items }
@@ -426,7 +426,7 @@ impl Stretches {
         self.count
     }
 
-    /// The one at the place.
+    /// The stretch at a place of the list.
     #[inline(always)]
     pub(crate) fn get(&self, at: usize) -> Option<Stretch>
         ensures one { result ≡ slice_get self.now.items at }
@@ -442,7 +442,7 @@ impl Stretches {
         }
     }
 
-    /// The last one.
+    /// The last stretch of the list.
     #[inline(always)]
     pub(crate) fn last(&self) -> Option<Stretch>
         ensures some { IfSome result (λ s. IsLast s self.now.items) }
@@ -562,7 +562,7 @@ impl Stretches {
         self.count = 1;
     }
 
-    /// Leaves none.
+    /// Takes all stretches out of the list.
     pub fn clear(&mut self)
         ensures { self.new.items ≡ [] }
     {

@@ -44,7 +44,7 @@ impl<P: Shape> Chains<P> {
         &self.all[node as usize]
     }
 
-    /// The list of them.
+    /// The chains as a list, that of the first node first.
     pub(crate) fn list(&self) -> &[Pieces<P>]
         ensures { result.now ≡ self.now }
     {

@@ -22,7 +22,7 @@ pub fn each_session_is_as_alone_to_its_end()
     ensures { EachIsAsAloneToItsEnd }
 {}
 
-/// So two inputs that agree on the lines of a tag tell its session the same to its end.
+/// Two inputs that agree on the lines of a tag tell its session the same to the end of the input: others add nothing.
 pub fn other_sessions_add_nothing_at_the_end()
     ensures { OthersAddNothingAtTheEnd }
 {}
@@ -33,7 +33,8 @@ pub fn each_bench_hears_what_is_said()
     ensures { EachHearsWhatIsSaid }
 {}
 
-/// So it is with what is written at the end of the input.
+/// The lines that were written in all, those of the end of the input with them, which begin with a tag and a space, and do not answer a
+/// query, are those that its session is told.
 pub fn each_bench_hears_its_end()
     ensures { EachHearsItsEnd }
 {}

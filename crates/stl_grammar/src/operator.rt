@@ -22,7 +22,7 @@ pub(crate) enum Timed {
 }
 
 impl Connective {
-    /// How tightly it binds.
+    /// How tightly the connective binds: one of a higher rank takes its operands first.
     pub(crate) fn rank(self) -> u8
         ensures { result ≡ binds self }
     {

@@ -74,7 +74,7 @@ impl Parser {
     ghost use Rattle.stl_grammar.specs.Parsing.{step_constant as constant_step, step_term as term_step, parse_step, Gives};
     ghost use Rattle.stl_grammar.specs.Parsing.{IsKnown, waiting, closing as closing_of};
 
-    /// Before the first token.
+    /// A parser that has read no token: an operand is to come.
     pub(crate) fn new(alloc: Global) -> Parser
         ensures { result ≡ record { place = Place.Operand; frames = []; drafts = []; terms = []; made = 0 } }
     {
@@ -88,7 +88,7 @@ impl Parser {
         }
     }
 
-    /// What comes next.
+    /// Where the parser stands: what may come next.
     pub(crate) fn place(&self) -> Place
         ensures { result ≡ self.now.place }
     {
@@ -119,7 +119,7 @@ impl Parser {
         }
     }
 
-    /// What is expected.
+    /// What may come next, as a refusal of another token names it.
     pub(crate) fn expected(&self) -> What
         ensures { result ≡ expected_in self.now }
     {
@@ -160,7 +160,7 @@ impl Parser {
         self.drafts.len().saturating_sub(1)
     }
 
-    /// Begins a node.
+    /// Counts one more node, begun by the token that was read, and goes to the place behind that token.
     fn begin(&mut self, place: Place)
         requires { self.old.made ≤ 256 }
         ensures { self.new ≡ begun place self.old }
@@ -216,7 +216,7 @@ impl Parser {
         self.fold(5)
     }
 
-    /// Adds a term.
+    /// Adds a term to the sum of the atom that is read; a sign or a comparison is to come.
     fn add_term(&mut self, term: Term) -> Result<(), AllocError>
         ensures { IfOk result (λ _. self.new ≡ record self.old { place = Place.Sign; terms = self.old.terms ++ term ∷ [] }) }
     {
@@ -275,7 +275,7 @@ impl Parser {
         self.add_term(term)
     }
 
-    /// Begins an operand.
+    /// Begins an operand by its first token, and answers whether the token can begin one.
     fn begin_operand(&mut self, text: &[u8], token: Token) -> Result<bool, AllocError>
         requires made { self.old.made ≤ 256 }
         requires known { IsKnown text.now token }
@@ -316,7 +316,7 @@ impl Parser {
         self.begin_operand(text, token)
     }
 
-    /// Ends a bound.
+    /// Ends the bound of an operator, and answers whether the token is a bracket that can.
     fn end_bound(
         &mut self,
         of: Timed,
@@ -334,7 +334,7 @@ impl Parser {
         Ok(true)
     }
 
-    /// Ends an atom.
+    /// Ends an atom with its constant: the terms that were read become its sum.
     fn end_atom(&mut self, rel: Rel, negative: bool, limit: Decimal) -> Result<(), AllocError>
         ensures { IfOk result (λ _. self.new ≡ atom_ends rel negative self.old limit) }
     {
@@ -382,7 +382,7 @@ impl Parser {
         self.wait(Operator::Connective(connective))
     }
 
-    /// Ends a parenthesis.
+    /// Ends the innermost parenthesis, and answers whether there was one to end.
     fn close(&mut self) -> Result<bool, AllocError>
         ensures { IfOk result (λ taken. Gives (closed self.old) taken self.new) }
     {

@@ -3,7 +3,7 @@ use crate::decimal::Decimal;
 use crate::operator::Timed;
 use stl_syntax::Rel;
 
-/// What comes next.
+/// Where a parser stands: what may come next.
 #[derive(Clone, Copy)]
 pub(crate) enum Place {
     Operand,

@@ -20,7 +20,7 @@ struct Next<'a> {
     right: bool,
 }
 
-/// Both of two truths, or one of them.
+/// The conjunction of two truths where `all` says so, and else the disjunction.
 #[inline(always)]
 fn join(all: bool, a: bool, b: bool) -> bool
     ensures { result ≡ joined all a b }

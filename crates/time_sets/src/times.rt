@@ -18,7 +18,7 @@ impl Times {
     ghost use Rattle.time_sets.specs.Windows.{IsOf};
     ghost use Rattle.time_sets.specs.declared.domain.Domain.{Domain};
 
-    /// All times, or none.
+    /// The set that has all times, or none: it never turns.
     pub fn constant(alloc: Global, holds: bool) -> Times
         ensures times { (t : Rational) → has result t ≡ holds }
         ensures starts { result.starts ≡ holds }

@@ -282,7 +282,7 @@ impl<F: Follow> Live<F> {
         take_end(&mut self.follower, &mut self.text)
     }
 
-    /// The formula.
+    /// The formula that was given to `new`, in ticks of its own.
     pub fn formula(&self) -> &Formula
         ensures { result.now ≡ self.now.formula }
     {

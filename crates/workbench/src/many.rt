@@ -52,7 +52,7 @@ fn outcome_from(outcome: Result<(), InputStop>) -> Result<(), Stop>
     }
 }
 
-/// Whether memory was wanting.
+/// Whether the sessions ended for want of memory: then nothing of their text is written.
 fn is_starved(outcome: Result<(), InputStop>) -> bool
     ensures yes { IsTrue result → outcome ≡ Err InputStop.NoMemory }
     ensures no { result ≡ false → outcome ≢ Err InputStop.NoMemory }

@@ -55,7 +55,7 @@ const STREAM_LIMITS: Limits = Limits {
     lines: 8_589_934_592,
 };
 
-/// Writes the answer.
+/// Writes the text of an answer that was made whole, and answers the truth at the start.
 pub(crate) fn write_answer<K: Sink>(out: &mut K, answer: &Answer) -> Result<bool, Stop>
     ensures written { IsWrittenWith answer.now.holds answer.now.text (K.written out.old) (K.written out.new) result }
     ensures cause { result ≡ Err Stop.Unwritten → Rose (K.faults out.old) (K.faults out.new) }

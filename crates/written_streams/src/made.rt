@@ -26,7 +26,7 @@ fn outcome_from<T: Copy>(outcome: Result<T, StreamStop>) -> Result<T, Halt>
     }
 }
 
-/// Whether memory was wanting.
+/// Whether the reader stopped for want of memory: then nothing of its text is written.
 fn is_starved<T: Copy>(outcome: Result<T, StreamStop>) -> bool
     ensures yes { IsTrue result → outcome ≡ Err StreamStop.NoMemory }
     ensures no { result ≡ false → outcome ≢ Err StreamStop.NoMemory }
