@@ -1,16 +1,14 @@
 -- A comparison with 0 depends on the sign alone.
-use Rattle.std.proofs.Common.{◌≡◌, ◌≢◌, ◌⊎◌, inl, inr, zero, suc, ℤ, pos, negsuc, ◌<ℤ◌, ◌≤ℤ◌, Bool, true, false, not, refl, sym, ap, ◌∙◌, arith}
+use Rattle.std.proofs.Common.{◌≡◌, ◌≢◌, ◌⊎◌, inl, inr, zero, suc, ℤ, pos, negsuc, ◌<ℤ◌, Bool, true, false, refl, sym, ◌∙◌, arith}
 use Rattle.std.proofs.lemmas.Int.{ints}
 use Rattle.std.proofs.lemmas.Bool.{true≢false, false≢true}
 use Rattle.std.specs.declared.cmp.Ordering.{Ordering}
 use Rattle.std.specs.declared.cmp.Ordering.TheVariants.{Less, Equal, Greater}
 use Rattle.rational.specs.Rational.{Rational, ◌<ʳ◌, ◌≈◌, whole, IsOrder}
 use Rattle.rational.proofs.Order.{lt_or_same_or_gt, lt_of_le_of_lt, lt_of_lt_of_le, le_of_same, ge_of_same, same_trans, same_sym}
-use Rattle.rational.proofs.Shift.{lt_whole}
 use Rattle.stl_syntax.specs.Truth.{compares}
 use Rattle.stl_syntax.specs.declared.rel.Rel.{Rel}
 use Rattle.stl_syntax.specs.declared.rel.Rel.TheVariants.{AtLeast, Above, AtMost, Below}
-use Rattle.atom_lines.specs.Signs.{least_sum}
 
 -- whether a number of that sign is compared so
 abbrev holds_for : Rel → Ordering → Bool
@@ -63,37 +61,3 @@ pub sign_of : (z : ℤ) → (z <ℤ pos 0) ⊎ (z ≡ pos 0) ⊎ (pos 0 <ℤ z)
 sign_of (pos zero) = inr (inl refl)
 sign_of (pos (suc n)) = inr (inr (omega (arith, ints)))
 sign_of (negsuc n) = inl (omega (arith, ints))
-
--- from the least sum on a comparison is what it is above 0
-pub from_least : (rel : Rel) (z : ℤ) → least_sum rel ≤ℤ z → compares rel (whole z) ≡ compares rel (whole (pos 1))
-from_least AtLeast z h = by_place (sign_of z)
-  where
-    by_place : (z <ℤ pos 0) ⊎ (z ≡ pos 0) ⊎ (pos 0 <ℤ z) → compares AtLeast (whole z) ≡ true
-    by_place (inl l) = absurd (omega (arith, ints, h, l))
-    by_place (inr (inl e)) = ap (λ n. compares AtLeast (whole n)) e
-    by_place (inr (inr l)) = by_sign AtLeast Greater (whole z) (lt_whole l)
-from_least Above z h = by_sign Above Greater (whole z) (lt_whole (let l : pos 0 <ℤ z = omega (arith, ints, h) in l))
-from_least AtMost z h = by_sign AtMost Greater (whole z) (lt_whole (let l : pos 0 <ℤ z = omega (arith, ints, h) in l))
-from_least Below z h = by_place (sign_of z)
-  where
-    by_place : (z <ℤ pos 0) ⊎ (z ≡ pos 0) ⊎ (pos 0 <ℤ z) → compares Below (whole z) ≡ false
-    by_place (inl l) = absurd (omega (arith, ints, h, l))
-    by_place (inr (inl e)) = ap (λ n. compares Below (whole n)) e
-    by_place (inr (inr l)) = by_sign Below Greater (whole z) (lt_whole l)
-
--- below it it is the other
-pub below_least : (rel : Rel) (z : ℤ) → z <ℤ least_sum rel → compares rel (whole z) ≡ not (compares rel (whole (pos 1)))
-below_least AtLeast z h = by_sign AtLeast Less (whole z) (lt_whole h)
-below_least Above z h = by_place (sign_of z)
-  where
-    by_place : (z <ℤ pos 0) ⊎ (z ≡ pos 0) ⊎ (pos 0 <ℤ z) → compares Above (whole z) ≡ false
-    by_place (inl l) = by_sign Above Less (whole z) (lt_whole l)
-    by_place (inr (inl e)) = ap (λ n. compares Above (whole n)) e
-    by_place (inr (inr l)) = absurd (omega (arith, ints, h, l))
-below_least AtMost z h = by_place (sign_of z)
-  where
-    by_place : (z <ℤ pos 0) ⊎ (z ≡ pos 0) ⊎ (pos 0 <ℤ z) → compares AtMost (whole z) ≡ true
-    by_place (inl l) = by_sign AtMost Less (whole z) (lt_whole l)
-    by_place (inr (inl e)) = ap (λ n. compares AtMost (whole n)) e
-    by_place (inr (inr l)) = absurd (omega (arith, ints, h, l))
-below_least Below z h = by_sign Below Less (whole z) (lt_whole h)

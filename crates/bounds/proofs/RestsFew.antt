@@ -33,11 +33,6 @@ RiseOn None [] = Unit {0}
 RiseOn None (t ∷ times) = RisesFrom false t times
 RiseOn (Some g) times = RisesFrom false (whole g) times
 
--- so they rise from any later place on in the list
-freely : (g : ℤ) (times : List Rational) → RisesFrom false (whole g) times → RiseOn None times
-freely g [] r = tt
-freely g (t ∷ times) r = r.1
-
 -- a time of the rows, or that of the last row
 abbrev IsReached : State → Subformula → Rational → Type 0
 IsReached s p t = IsRest p s.rows t ⊎ ((l : ℤ) × (last_row s ≡ Some l) × (t ≈ whole l))

@@ -111,10 +111,6 @@ pub other_true : (a : Bool) → a ≢ true → a ≡ false
 other_true true h = absurd (h refl)
 other_true false h = refl
 
-other_false : (a : Bool) → a ≢ false → a ≡ true
-other_false true h = refl
-other_false false h = absurd (h refl)
-
 module _ (p : Subformula) (tr : Trace) (stretch : Interval) where
   -- the verdicts end no later than the stretch
   end_inside : (v : Verdict) (verdicts : List Verdict) → GoesOn p tr stretch v verdicts → value v.on.to ≤ʳ stretch.to

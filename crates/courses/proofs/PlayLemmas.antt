@@ -22,7 +22,7 @@ use Rattle.pl_signal.specs.declared.faults.OpFault.TheVariants as F
 use Rattle.pl_signal.specs.Wide.{HasCause}
 use Rattle.pl_signal.specs.Joining.{IsGapFault}
 use Rattle.courses.specs.declared.course.Gap.{Gap}
-use Rattle.courses.specs.Courses.{IsOfGap, IsPlayed, IsCourseFault, IsValueFault, IsFixed}
+use Rattle.courses.specs.Courses.{IsOfGap, IsCourseFault, IsValueFault, IsFixed}
 use Rattle.courses.specs.Pairs.{IsPairWithin}
 
 module _ {A : Type 0} (shape : ShapeOf A) (P Q : Function) (from to : Rational) where
@@ -150,12 +150,6 @@ module _ {A : Type 0} {shape : ShapeOf A} {P Q : Function} {from to : Rational} 
         let v = value_at (shape.function o) (value gap.from) in
         constant_plays o (shape.function x) v tau is (λ t. symᵉ (fixed t)) (same_reflᵉ v) a b
 
-    -- what the since is made of on a gap is in play there
-    pub played : (x : A) → IsPlayed shape gap x → PlaysOn shape P Q R from to gap x
-    played x (inl e) = subst (PlaysOn shape P Q R from to gap) (sym e) left_plays
-    played x (inr (inl e)) = subst (PlaysOn shape P Q R from to gap) (sym e) right_plays
-    played x (inr (inr (o, is, fixed, still))) = fixed_plays o x is.0 fixed
-
     -- a value of one of the three shapes that is not stored is one in play
     pub value_of_cause : (e : OpFault A) (o : A) → IsOfGap shape gap o → IsValueFault shape o gap.from e → HasCause shape (since_start P Q R) from to e
     value_of_cause F.Memory o is h = tt
@@ -179,7 +173,3 @@ module _ {A : Type 0} {shape : ShapeOf A} {P Q : Function} {from to : Rational} 
       where
         level : (t : Rational) → finite v ≈ᵉ value_at (affine (constant v)) t
         level t = symᵉ (finite_same (at_constant v t))
-
-    -- so for what a course fixes
-    pub value_cause : (e : OpFault A) → IsCourseFault shape gap e → HasCause shape (since_start P Q R) from to e
-    value_cause e (o, is, h) = value_of_cause e o is.0 h

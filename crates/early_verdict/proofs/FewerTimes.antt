@@ -27,7 +27,8 @@ use Rattle.early_verdict.specs.declared.sets.Sets.{Sets}
 use Rattle.early_verdict.specs.declared.sets.Parts.{Parts}
 use Rattle.early_verdict.proofs.AllSets.{is_shown, lists_are, shown_is, shown_within, yes_there}
 use Rattle.early_verdict.proofs.NeverBoth.{never_both}
-use Rattle.early_verdict.proofs.Childhood.{child_or_not, left_child, one_parent}
+use Rattle.stl_syntax.proofs.Parents.{child_or_not, one_parent}
+use Rattle.early_verdict.proofs.Childhood.{left_child}
 use Rattle.early_verdict.proofs.FitLemmas.{fits_as, fits_within}
 use Rattle.early_verdict.proofs.LivingLemmas.{live_leaf, looks_as, parts_as}
 use Rattle.early_verdict.proofs.Places.{lists_by}

@@ -46,7 +46,7 @@ impl Cut {
         }
     }
 
-    /// Where a span begins.
+    /// The place at which a span begins: just before its first time, or just after where that is not in it.
     #[inline(always)]
     pub fn begin(on: &Span) -> Cut
         ensures { place result ≡ begins (interval on.now) }
@@ -57,7 +57,7 @@ impl Cut {
         }
     }
 
-    /// Where a span ends.
+    /// The place at which a span ends: just after its last time, or just before where that is not in it.
     #[inline(always)]
     pub fn end(on: &Span) -> Cut
         ensures { place result ≡ ends (interval on.now) }

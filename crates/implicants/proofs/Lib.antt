@@ -32,5 +32,4 @@ pub mod Lifting
 pub mod Running
 pub mod Wholes
 pub mod Operands
-pub mod Parents
 pub mod Signing

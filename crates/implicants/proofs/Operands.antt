@@ -1,41 +1,13 @@
--- The operands of a node: its first one and its second one are its children, and there are no others.
+-- The operands of a node, as the code has them.
 use Rattle.std.proofs.Common.{◌≡◌, ℕ, ◌<◌, ◌⊎◌, inl, inr, Option, Some, None, ap, refl, sym, ◌∙◌}
-use Rattle.std.specs.Prelude.{◌↔◌, IfSome}
+use Rattle.std.specs.Prelude.{IfSome}
 use Rattle.std.proofs.lemmas.Option.{same_Some, none-some}
-use Rattle.stl_syntax.specs.Cells.{IsChild}
 use Rattle.stl_syntax.specs.Formula.{HasChildrenBelow}
 use Rattle.stl_syntax.specs.Views.{first_of, second_of, view_of}
 use Rattle.stl_syntax.specs.declared.node.Node.{Node}
-use Rattle.stl_syntax.specs.declared.node.Node.TheVariants.{Const, Atom as Leaf, Not, And, Or, Implies, Until, Eventually, Always, Since, Once, Historically}
+use Rattle.stl_syntax.proofs.Parents.{child_by}
 use Rattle.stl_syntax.proofs.PostOrderLemmas.{child_below}
 use Rattle.implicants.specs.Upward.{AreOperands}
-
-no_child : (i : ℕ) → ⊥ ↔ ((None ≡ Some i) ⊎ (None ≡ Some i))
-no_child i = (λ h. absurd h, λ h. elim h [ inl e ↦ none-some i e | inr e ↦ none-some i e ])
-
-one_child : (p i : ℕ) → (p ≡ i) ↔ ((Some p ≡ Some i) ⊎ (None ≡ Some i))
-one_child p i = (λ e. inl (ap Some e), λ h. elim h [ inl e ↦ same_Some p i e | inr e ↦ absurd (none-some i e) ])
-
-two_children : (p q i : ℕ) → ((p ≡ i) ⊎ (q ≡ i)) ↔ ((Some p ≡ Some i) ⊎ (Some q ≡ Some i))
-two_children p q i = (
-  λ h. elim h [ inl e ↦ inl (ap Some e) | inr e ↦ inr (ap Some e) ],
-  λ h. elim h [ inl e ↦ inl (same_Some p i e) | inr e ↦ inr (same_Some q i e) ],
-)
-
--- the children of a node are its operands
-pub child_by : (n : Node) (i : ℕ) → IsChild n i ↔ ((first_of (view_of n) ≡ Some i) ⊎ (second_of (view_of n) ≡ Some i))
-child_by (Const b) i = no_child i
-child_by (Leaf a) i = no_child i
-child_by (And p q) i = two_children p q i
-child_by (Or p q) i = two_children p q i
-child_by (Implies p q) i = two_children p q i
-child_by (Until p q a b) i = two_children p q i
-child_by (Since p q a b) i = two_children p q i
-child_by (Not p) i = one_child p i
-child_by (Eventually p a b a_in b_in) i = one_child p i
-child_by (Always p a b a_in b_in) i = one_child p i
-child_by (Once p a b a_in b_in) i = one_child p i
-child_by (Historically p a b a_in b_in) i = one_child p i
 
 -- what holds of any place that there is holds of the one that is meant
 of_each : (P : ℕ → Type 0) (o : Option ℕ) → ((p : ℕ) → o ≡ Some p → P p) → IfSome o P

@@ -1,15 +1,25 @@
 -- Signs that are put from the root down.
-use Rattle.std.proofs.Common.{◌≡◌, ◌⊎◌, inl, inr, ℕ, ◌+◌, ◌≤◌, Bool, List, Option, Some, None, refl, ap, sym, ◌∙◌, subst, arith}
-use Rattle.std.specs.Prelude.{IfSome, slice_get}
+use Rattle.std.proofs.Common.{◌≡◌, ◌⊎◌, inl, inr, ℕ, ◌+◌, ◌≤◌, Bool, List, ◌∷◌, ◌++◌, Option, Some, None, refl, ap, sym, ◌∙◌, subst, arith}
+use Rattle.std.specs.Prelude.{IfSome, option_to_list, slice_get}
 use Rattle.std.proofs.lemmas.Option.{same_Some}
 use Rattle.stl_syntax.specs.Cells.{IsChild}
-use Rattle.stl_syntax.specs.PostOrder.{IsPostOrder}
+use Rattle.stl_syntax.specs.PostOrder.{children, IsPostOrder}
 use Rattle.stl_syntax.specs.Views.{first_of, second_of, view_of}
 use Rattle.stl_syntax.specs.declared.node.Node.{Node}
-use Rattle.stl_syntax.proofs.PostOrderLemmas.{child_below, placed}
-use Rattle.implicants.specs.Signs.{sign_at, first_sign, AreSigned}
-use Rattle.implicants.proofs.Operands.{child_by}
-use Rattle.implicants.proofs.Parents.{one_parent}
+use Rattle.stl_syntax.proofs.Parents.{child_by, one_parent}
+use Rattle.stl_syntax.proofs.PostOrderLemmas.{child_below, inputs_apart, placed}
+use Rattle.stl_syntax.proofs.ViewLaw.{children_by}
+use Rattle.implicants.specs.Signs.{sign_at, first_sign, AreApart, AreSigned}
+
+-- the operands of a node are two nodes
+pub operands_apart : (nodes : List Node) → IsPostOrder nodes → (i : ℕ) (n : Node) → slice_get nodes i ≡ Some n
+    → AreApart (first_of (view_of n)) (second_of (view_of n))
+operands_apart nodes order i n at = by_operands (first_of (view_of n)) (second_of (view_of n)) (children_by n)
+  where
+    by_operands : (o r : Option ℕ) → option_to_list o ++ option_to_list r ≡ children n → AreApart o r
+    by_operands None r e = tt
+    by_operands (Some p) r e = λ s.
+        inputs_apart nodes i n p p order at (subst (λ q. children n ≡ p ∷ option_to_list q) s (sym e)) refl
 
 -- the operands of a node keep their signs, and so does it
 signed_still : (n : Node) (h : Bool) (old new : List Bool) → ((p : ℕ) → IsChild n p → sign_at new p ≡ sign_at old p) → AreSigned old n h → AreSigned new n h
@@ -40,7 +50,7 @@ signed_down nodes old new j m order at here others behind k n l there = by_place
     by_place : (k ≡ j) ⊎ (j + 1 ≤ k) → AreSigned new n (sign_at new k)
     by_place (inr b) = subst (AreSigned new n) (sym (stays k l))
         (signed_still n (sign_at old k) old new
-        (λ p c. others p (λ d. one_parent nodes order j k p m n (omega (arith, b)) at there d c)) (behind k n b there))
+        (λ p c. others p (λ d. one_parent nodes order j k p m n (λ e. omega (arith, b, e)) at there d c)) (behind k n b there))
     by_place (inl e) =
         let same : n ≡ m = same_Some _ _ (sym there ∙ ap (slice_get nodes) e ∙ at) in
         subst (λ i. AreSigned new n (sign_at new i)) (sym e)

@@ -1,12 +1,12 @@
 -- One-sided limits of a signal, its parts and breakpoints, and when it is limited.
 use Rattle.std.proofs.Common.{◌≡◌, ℕ, zero, suc, ◌+◌, pos, neg_ℤ, ◌^◌, ◌⊎◌, inl, inr, List, [], ◌∷◌, Some, None, refl, sym, arith, subst}
 use Rattle.std.specs.Prelude.{Option, slice_get}
-use Rattle.rational.specs.Rational.{middle, IsWithin}
+use Rattle.rational.specs.Rational.{IsWithin}
 use Rattle.rational.specs.Time.{Rational, Within, ◌≤ʳ◌, ◌<ʳ◌, ◌≈◌, whole}
 use Rattle.rational.specs.Extended.{Extended, Affine, value_at, ◌≈ᵉ◌}
 use Rattle.rational.specs.Affine.{AreSame, IsBounded}
 use Rattle.rational.specs.InPlay.{IsLineOn, IsLeftLimit, IsRightLimit, IsPart, IsBreakpoint}
-use Rattle.rational.proofs.Order.{le_refl, le_of_lt, le_trans, lt_of_lt_of_le, lt_of_le_of_lt, not_lt_of_le, left_of_middle, right_of_middle, same_refl}
+use Rattle.rational.proofs.Order.{le_refl, le_of_lt, le_trans, same_refl}
 use Rattle.rational.proofs.AffineLemmas.{same_reflᵉ, same_symᵉ, same_transᵉ, value_same, bounded_same}
 use Rattle.rational.proofs.LimitLemmas.{HasOneValue, line_on_part, lines_same, earlier_end, later_end}
 use Rattle.rational.proofs.Bounds.{HasBounded, bounded_start, bounded_stop, bounded_between}
@@ -48,29 +48,6 @@ module _ {P : Type 0} (shape : ShapeOf P) where
         on = line_on_part (IsWorth shape ks) (shape.function k.after) (le_refl (time k)) b (gap_line ks i k n h j);
         value = same_reflᵉ (value_at (shape.function k.after) t);
       }
-
-  -- outside its domain a signal has no value, from its end on no limit from the right, and up to its start none from the left
-  pub no_value_after : (ks : List (Knot P)) (t : Rational) (v : Extended) → IsSignal shape ks → stop ks <ʳ t → ¬ (IsWorth shape ks t v)
-  no_value_after ks t v s h w = not_lt_of_le (worth_within shape ks t v s w).below h
-
-  -- from the end on there is no limit from the right
-  pub no_right_limit : (ks : List (Knot P)) (t : Rational) (v : Extended) → IsSignal shape ks → stop ks ≤ʳ t → ¬ (IsRightLimit (IsWorth shape ks) t v)
-  no_right_limit ks t v s h l =
-      let w = l.on (middle t l.b) (left_of_middle l.below) (right_of_middle l.below) in
-      no_value_after ks (middle t l.b) w.0 s (lt_of_le_of_lt h (left_of_middle l.below)) w.1
-
-  -- up to the start there is none from the left
-  pub no_left_limit : (ks : List (Knot P)) (t : Rational) (v : Extended) → IsSignal shape ks → t ≤ʳ start ks → ¬ (IsLeftLimit (IsWorth shape ks) t v)
-  no_left_limit ks t v s h l =
-      let w = l.on (middle l.a t) (left_of_middle l.above) (right_of_middle l.above) in
-      not_lt_of_le (worth_within shape ks (middle l.a t) w.0 s w.1).above (lt_of_lt_of_le (right_of_middle l.above) h)
-
-  -- and none after the end
-  pub no_left_limit_after : (ks : List (Knot P)) (t : Rational) (v : Extended) → IsSignal shape ks → stop ks <ʳ t → ¬ (IsLeftLimit (IsWorth shape ks) t v)
-  no_left_limit_after ks t v s h l =
-      let c = later_end l.above h in
-      let w = l.on (middle c.0 t) (lt_of_le_of_lt c.2 (left_of_middle c.1)) (right_of_middle c.1) in
-      no_value_after ks (middle c.0 t) w.0 s (lt_of_le_of_lt c.3 (left_of_middle c.1)) w.1
 
   -- the values of a limited signal are bounded
   pub worth_bounded : (ks : List (Knot P)) → IsLimited shape ks → HasBounded (2 ^ 31) (IsWorth shape ks)
@@ -119,28 +96,6 @@ module _ {P : Type 0} (shape : ShapeOf P) where
       → IsWithin (2 ^ 34) (stop ks) → IsLimited shape ks
   limited [] s w a b = tt
   limited (k ∷ ks) s w a b = limited_from k ks s.each w a.0 b.1
-
-  -- the value and the limits at a limited knot are bounded
-  pub point_bounded : (ks : List (Knot P)) (i : ℕ) (k : Knot P) → IsLimited shape ks → slice_get ks i ≡ Some k
-      → IsBounded (2 ^ 31) (value_at (shape.function k.point) (time k))
-  point_bounded [] i k h e = absurd (cc)
-  point_bounded (l ∷ ks) zero k h e = let s : l ≡ k = cc in subst (λ k. IsBounded (2 ^ 31) (value_at (shape.function k.point) (time k))) s h.0.point
-  point_bounded (l ∷ ks) (suc i) k h e = point_bounded ks i k h.1 e
-
-  limits_at : (ks : List (Knot P)) (i : ℕ) (k n : Knot P) → IsLimited shape ks → slice_get ks i ≡ Some k → slice_get ks (suc i) ≡ Some n
-      → IsBounded (2 ^ 31) (value_at (shape.function k.after) (time k)) × IsBounded (2 ^ 31) (value_at (shape.function k.after) (time n))
-  limits_at [] i k n h e f = absurd (cc)
-  limits_at (l ∷ []) zero k n h e f = absurd (cc)
-  limits_at (l ∷ m ∷ ks) zero k n h e f = let s : l ≡ k = cc in let r : m ≡ n = cc in
-      subst (λ k. IsBounded (2 ^ 31) (value_at (shape.function k.after) (time k)) × IsBounded (2 ^ 31) (value_at (shape.function k.after) (time n))) s
-      (subst (λ n. IsBounded (2 ^ 31) (value_at (shape.function l.after) (time l)) × IsBounded (2 ^ 31) (value_at (shape.function l.after) (time n)))
-      r h.0.limits)
-  limits_at (l ∷ ks) (suc i) k n h e f = limits_at ks i k n h.1 e f
-
-  -- so for the limits at both ends of a gap
-  pub limits_bounded : (ks : List (Knot P)) (i : ℕ) (k n : Knot P) → IsLimited shape ks → slice_get ks i ≡ Some k → slice_get ks (i + 1) ≡ Some n
-      → IsBounded (2 ^ 31) (value_at (shape.function k.after) (time k)) × IsBounded (2 ^ 31) (value_at (shape.function k.after) (time n))
-  limits_bounded ks i k n h e f = let s : i + 1 ≡ suc i = omega arith in limits_at ks i k n h e (subst (λ p. slice_get ks p ≡ Some n) s f)
 
   -- the times of a limited signal are within 2^34
   pub limited_start : (ks : List (Knot P)) → IsSignal shape ks → IsLimited shape ks → IsWithin (2 ^ 34) (start ks)

@@ -1,25 +1,16 @@
 -- Signals read side by side, by the places of their knots.
-use Rattle.std.proofs.Common.{◌≡◌, ℕ, ◌+◌, ◌-◌, ◌<◌, ◌≤◌, ◌⊎◌, ◌↔◌, IsTrue, true, false, inl, inr, List, [], ◌∷◌, length, get_or, Some, refl, sym, subst, arith}
+use Rattle.std.proofs.Common.{◌≡◌, ℕ, ◌+◌, ◌<◌, ◌≤◌, ◌⊎◌, ◌↔◌, IsTrue, true, false, inl, inr, List, [], length, Some, refl, sym, subst}
 use Rattle.std.specs.Prelude.{slice_get}
-use Rattle.std.specs.declared.cmp.Ordering.{Ordering}
-use Rattle.std.specs.declared.cmp.Ordering.TheVariants.{Less, Equal, Greater}
 use Rattle.std.proofs.lemmas.Bool.{cases_lt, false≢true}
-use Rattle.std.proofs.lemmas.Option.{slice_get_past, slice_get-get_or}
-use Rattle.rational.specs.Rational.{IsOrder}
+use Rattle.std.proofs.lemmas.Option.{slice_get_past}
 use Rattle.rational.specs.Time.{Rational, ◌≤ʳ◌, ◌<ʳ◌, ◌≈◌}
 use Rattle.rational.specs.Extended.{value_at}
-use Rattle.rational.proofs.Order.{le_of_lt, le_of_same, ge_of_same, lt_of_lt_of_le, lt_of_le_of_lt, lt_or_same_or_gt, not_lt_of_le, same_of_le, same_refl}
+use Rattle.rational.proofs.Order.{le_of_lt, le_of_same, ge_of_same, lt_of_lt_of_le, lt_of_le_of_lt, lt_or_same_or_gt, not_lt_of_le}
 use Rattle.value_laws.specs.Members.{ShapeOf}
 use Rattle.pl_signal.specs.declared.knot.Knot.{Knot}
 use Rattle.pl_signal.specs.Knots.{time, stop, IsWorth, IsSignal}
 use Rattle.pl_signal.specs.Places.{IsPlace}
 use Rattle.pl_signal.proofs.Values.{next_rises, stop_at, worth_between}
-
--- what is not before and not at one time is later
-pub later_than : (o : Ordering) {a b : Rational} → IsOrder o a b → b ≤ʳ a → ¬ (o ≡ Equal) → b <ʳ a
-later_than Less h k n = absurd (not_lt_of_le k h)
-later_than Equal h k n = absurd (n refl)
-later_than Greater h k n = h
 
 -- what is not after a time, and not equal to it, is before it
 pub before_unless : {a b : Rational} → b ≤ʳ a → ¬ (a ≈ b) → b <ʳ a
@@ -38,35 +29,7 @@ says_equal e = (λ t. e, λ k. refl)
 pub says_later : {a b : Rational} → b <ʳ a → IsTrue false ↔ (a ≈ b)
 says_later h = (λ t. absurd (false≢true t), λ e. absurd (not_lt_of_le (le_of_same e) h))
 
--- the earlier of two later times is later
-pub earlier_after : {at to x y : Rational} → at <ʳ x → at <ʳ y → (to ≡ x) ⊎ (to ≡ y) → at <ʳ to
-earlier_after {at = at} h k (inl e) = subst (λ t. at <ʳ t) (sym e) h
-earlier_after {at = at} h k (inr e) = subst (λ t. at <ʳ t) (sym e) k
-
--- one of the two places goes on
-pub nearer : {A B : Type 0} (n m i j i' j' : ℕ) → i + 1 < n → j + 1 < m → (i' ≡ i + 1) ⊎ ((i' ≡ i) × A) → (j' ≡ j + 1) ⊎ ((j' ≡ j) × B) → ¬ (A × B)
-    → (n - i') + (m - j') < (n - i) + (m - j)
-nearer n m i j i' j' h k (inl e) (inl f) both = omega (arith, h, k, e, f)
-nearer n m i j i' j' h k (inl e) (inr f) both = omega (arith, h, k, e, f.0)
-nearer n m i j i' j' h k (inr e) (inl f) both = omega (arith, h, k, e.0, f)
-nearer n m i j i' j' h k (inr e) (inr f) both = absurd (both (e.1, f.1))
-
 module _ {P : Type 0} (shape : ShapeOf P) where
-  -- both next knots cannot be later than the earlier of them
-  pub not_both : (ks ls : List (Knot P)) (i j : ℕ) (k l : Knot P) (to : Rational) → slice_get ks i ≡ Some k → slice_get ls j ≡ Some l → (to ≡ time k)
-      ⊎ (to ≡ time l)
-      → ¬ (((k : Knot P) → slice_get ks i ≡ Some k → to <ʳ time k) × ((l : Knot P) → slice_get ls j ≡ Some l → to <ʳ time l))
-  not_both ks ls i j k l to h m (inl e) b = not_lt_of_le (le_of_same (subst (λ t. time k ≈ t) (sym e) (same_refl (time k)))) (b.0 k h)
-  not_both ks ls i j k l to h m (inr e) b = not_lt_of_le (le_of_same (subst (λ t. time l ≈ t) (sym e) (same_refl (time l)))) (b.1 l m)
-
-  -- the place at a time in the last knot
-  pub at_stop : (ks : List (Knot P)) (i : ℕ) (t : Rational) → 0 < length ks → IsPlace ks t i → length ks ≤ i + 1 → t ≤ʳ stop ks → t ≈ stop ks
-  at_stop [] i t some p last h = absurd (omega arith)
-  at_stop (k ∷ ks) i t some p last h =
-      let here = slice_get-get_or (k ∷ ks) i k p.inside in
-      same_of_le h (subst (λ s. s ≤ʳ t) (sym (stop_at shape (k ∷ ks) i (get_or (k ∷ ks) i k) here (slice_get_past (k ∷ ks) (i + 1) last)))
-      (p.not_later (get_or (k ∷ ks) i k) here))
-
   -- the place at the first time
   pub first_place : (ks : List (Knot P)) (k : Knot P) (t : Rational) → IsSignal shape ks → slice_get ks 0 ≡ Some k → time k ≈ t → IsPlace ks t 0
   first_place ks k t s h e = record {
@@ -106,7 +69,3 @@ module _ {P : Type 0} (shape : ShapeOf P) where
       → IsWorth shape ks t (value_at (shape.function k.after) t)
   part_on_gap {n} ks i k t p at_i at_next before h l = worth_between shape ks i k n t at_i at_next (lt_of_le_of_lt (p.not_later k at_i) h)
       (lt_of_lt_of_le l before)
-
-  -- the knot at a place is before each later time
-  pub begun_before : (ks : List (Knot P)) (i : ℕ) (from to : Rational) → IsPlace ks from i → from <ʳ to → (k : Knot P) → slice_get ks i ≡ Some k → time k <ʳ to
-  begun_before ks i from to p order k h = lt_of_le_of_lt (p.not_later k h) order

@@ -1,13 +1,12 @@
 -- Moves and multiples of a number do not depend on its pair.
-use Rattle.std.proofs.Common.{◌≡◌, ℕ, ℤ, pos, ◌≤ℤ◌, ◌<ℤ◌, ◌*◌, ◌≤◌, ◌⊎◌, arith, mul-le-mul_right, ap, sym, ◌∙◌, inl, inr, Bool, true, false, ◌&&◌, IsTrue, refl}
+use Rattle.std.proofs.Common.{◌≡◌, ℕ, ℤ, pos, ◌≤ℤ◌, ◌*◌, ◌≤◌, ◌⊎◌, arith, mul-le-mul_right, ap, sym, ◌∙◌, inl, inr, Bool, true, false, ◌&&◌, IsTrue, refl}
 use Rattle.std.proofs.Common.{Option, Some, None}
-use Rattle.std.proofs.Props.{props}
 use Rattle.std.specs.Prelude.{IfSome}
 use Rattle.rational.specs.Rational.{part_above, part_below, middle}
 use Rattle.rational.proofs.Order.{lt_or_same_or_gt, not_lt_of_le, le_or_lt, le_refl, le_trans, lt_of_le_of_lt}
 use Rattle.rational.proofs.Order.{left_of_middle, right_of_middle, lt_of_lt_of_le, le_of_lt, le_of_same, ge_of_same, same_sym}
 use Rattle.rational.proofs.Field.{add_zero}
-use Rattle.rational.proofs.Shift.{le_shift_by, lt_shift_by}
+use Rattle.rational.proofs.Shift.{le_shift_by}
 use Rattle.rational.specs.Time.{Rational, Within, ◌≤ʳ◌, ◌<ʳ◌, ◌≈◌, Interval, IsIn, IsNotEmpty}
 use Rattle.rational.specs.Time.{Precedes, add, whole, shifted, later, times, less, HasTimeBetween}
 
@@ -91,11 +90,6 @@ less_same {t} {t'} u h = by_order (le_or_lt u t)
     by_order (inl l) = less_no t u l ∙ sym (less_no t' u (le_trans l (le_of_same h)))
     by_order (inr l) = less_in t u l ∙ sym (less_in t' u (lt_of_le_of_lt (le_of_same (same_sym h)) l))
 
--- the order with an end in or out is a fact, and no more
-pub Precedes-is_prop : (b : Bool) (t u : Rational) → IsProp (Precedes b t u)
-Precedes-is_prop true t u = hlevel props
-Precedes-is_prop false t u = hlevel props
-
 -- below precedes, whether the end is in or out
 pub precedes_of_lt : (b : Bool) (t u : Rational) → t <ʳ u → Precedes b t u
 precedes_of_lt true t u h = le_of_lt h
@@ -156,10 +150,6 @@ shifted-add t k = omega arith
 -- so for a way to a later time
 pub later-add : (t : Rational) (k : ℕ) → later t k ≈ add t (whole (pos k))
 later-add t k = omega arith
-
--- of two moves the greater leads to the later time
-pub lt_offsets : (t : Rational) (j k : ℤ) → j <ℤ k → shifted t j <ʳ shifted t k
-lt_offsets t j k h = lt_of_le_of_lt (le_of_same (shifted-add t j)) (lt_of_lt_of_le (lt_shift_by t j k h) (ge_of_same (shifted-add t k)))
 
 -- a time moved ahead is no earlier
 pub le_ahead : (t : Rational) (k : ℤ) → pos 0 ≤ℤ k → t ≤ʳ shifted t k

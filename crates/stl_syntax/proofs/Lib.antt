@@ -18,6 +18,7 @@ pub mod SupInfLemmas
 pub mod KnotsLemmas
 pub mod TruthLaw
 pub mod ViewLaw
+pub mod Parents
 pub mod KleeneLemmas
 pub mod Examples
 pub mod MoreExamples

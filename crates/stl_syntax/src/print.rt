@@ -109,7 +109,7 @@ fn put_window(text: &mut Text, scale: Scale, window: Window) -> Result<(), Memor
     text.push(if window.high_in { b"]" } else { b"[" })
 }
 
-/// Appends an upper bound.
+/// Appends the upper number of a window, or `inf` where there is none.
 fn put_upper(text: &mut Text, scale: Scale, high: Option<u32>) -> Result<(), Memory>
     requires { IsScale scale }
     ensures { OnOk result (text.new ≡ text.old ++ upper_text scale high) }

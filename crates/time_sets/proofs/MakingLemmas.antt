@@ -1,6 +1,6 @@
 -- What a stretch adds to a set that is made turn by turn.
-use Rattle.std.proofs.Common.{◌≡◌, ◌⊎◌, inl, inr, Bool, true, false, not, List, [], ◌∷◌, Option, Some, None, Result, Ok, Err, refl, sym, ap, ◌∙◌, subst}
-use Rattle.std.specs.Prelude.{cond, IsTrue, IfOk, MatchOption, ◌↔◌}
+use Rattle.std.proofs.Common.{◌≡◌, ◌⊎◌, inl, inr, Bool, true, false, not, List, [], ◌∷◌, Option, Some, None, Result, Ok, Err, sym, ap, ◌∙◌, subst}
+use Rattle.std.specs.Prelude.{cond, IsTrue, IfOk, ◌↔◌}
 use Rattle.std.proofs.lemmas.Bool.{false≢true}
 use Rattle.rational.specs.Time.{Rational}
 use Rattle.rational.specs.Places.{Place, Before, After, Upto, AtMost}
@@ -9,7 +9,7 @@ use Rattle.rational.proofs.PlaceLemmas.{before_at_most, before_through, before_t
 use Rattle.time_sets.specs.Turns.{place}
 use Rattle.time_sets.specs.Sets.{has, turned, EndBefore}
 use Rattle.time_sets.specs.Windows.{Lies}
-use Rattle.time_sets.specs.Making.{turned_at, Turns, CanTurn, IsBare, Grown, CanAdd, Adds, Ends}
+use Rattle.time_sets.specs.Making.{turned_at, Turns, CanTurn, IsBare, Grown, CanAdd, Adds}
 use Rattle.time_sets.specs.declared.turn.Turn.{Turn}
 use Rattle.time_sets.specs.declared.times.Times.{Times}
 use Rattle.time_sets.specs.declared.domain.Domain.{Domain}
@@ -102,19 +102,6 @@ module _ (on : Domain) (b e : Turn) where
     tells = λ t l. ((λ v. inl v), (λ x. elim x [ inl v ↦ v | inr y ↦ absurd (empty (before_through (place b) (place e) t y.0 y.1)) ]));
   }
 
-  -- where nothing is made yet, any place can be put
-  pub can_first : (s : Times) (last : Option Turn) → last ≡ None → CanAdd on last (After (place b)) s → CanTurn on b s
-  can_first s last is can = record {
-    rise = can.grown.rise;
-    begins = can.grown.begins;
-    ends = can.grown.ends;
-    last = subst (EndBefore (place b)) (sym (bare last is can.grown.before).turns) tt;
-  }
-    where
-      bare : (o : Option Turn) → o ≡ None → MatchOption o (IsBare s) (λ k. EndBefore (place k) s.turns.items) → IsBare s
-      bare None i h = h
-      bare (Some k) i h = absurd (let x : Some k ≡ None = i in cc)
-
   -- the first stretch
   pub adds_first : (s s' : Times) (last : Option Turn) → last ≡ None → CanAdd on last (After (place b)) s → Before (place b) (place e) → Turns on b s s'
       → Adds on last (Some e) (After (place b)) (λ t. After (place b) t × Upto (place e) t) s s'
@@ -183,16 +170,3 @@ module _ (on : Domain) (b e : Turn) where
         goes_on = can.goes_on;
         tells = λ t i. longer (IsTrue (turned_at l t (has s t))) (has s t) l b e m t touches one first second (can.goes_on t i) ((λ v. v), (λ v. v));
       }) can
-
--- a last stretch is ended by a turn at its end; with none there is nothing to end
-pub ends_some : (on : Domain) (last : Option Turn) (l : Turn) (s s' : Times) → last ≡ Some l → Turns on l s s' → Ends on last s s'
-ends_some on last l s s' is turns = subst (λ o. Ends on o s s') (sym is) (record {
-  rise = turns.rise;
-  begins = turns.begins;
-  ends = turns.ends;
-  times = turns.times;
-})
-
--- with no last stretch
-pub ends_none : (on : Domain) (last : Option Turn) (s : Times) → last ≡ None → Grown on last s → Ends on last s s
-ends_none on last s is can = subst (λ o. Ends on o s s) (sym is) (record { rise = can.rise; begins = can.begins; ends = can.ends; times = λ t l. refl })

@@ -7,7 +7,7 @@ use Rattle.rational.specs.Places.{Same, After, Upto, moved_begin}
 use Rattle.rational.proofs.PlaceLemmas.{share, before_through, after_at_most, upto_of_before, after_same, same_places}
 use Rattle.time_sets.specs.Turns.{place}
 use Rattle.time_sets.specs.Sets.{has, Rise, BeginAfter, EndBefore}
-use Rattle.time_sets.specs.Windows.{Lies, IsOf, Sees, SeesOne, SeesOnly, Reaches}
+use Rattle.time_sets.specs.Windows.{Lies, Sees, SeesOne, SeesOnly, Reaches}
 use Rattle.time_sets.specs.Parts.{IsPart, HasRoom, high_place, SeesSome}
 use Rattle.time_sets.specs.Making.{closed, Grown, CanAdd, Adds, Ends}
 use Rattle.time_sets.specs.declared.turn.Turn.{Turn}
@@ -50,9 +50,6 @@ pub record SeenSoFar (on : Domain) (w : Window) (s : Times) (end : Option Turn) 
   pub grown : Grown on end made
   pub goes_on : (t u : Rational) → Lies on t → Lies on u → IsTrue (now u) → Upto (high_place w.high w.high_in t) u → IfSome end (λ e. has made t ≡ true)
   pub tells : (t : Rational) → Lies on t → SeesOne on w s t ↔ (IsTrue (closed end made t) ⊎ SeesSome on w now t)
-
-if_none : (end : Option Turn) (P : Turn → Type 0) → end ≡ None → IfSome end P
-if_none end P e = subst (λ o. IfSome o P) (sym e) tt
 
 -- nothing is made yet
 pub bare_grown : (on : Domain) (s : Times) → s.starts ≡ false → s.turns.items ≡ [] → Grown on None s
@@ -104,10 +101,6 @@ seen_step on part w s end end' made made' now later b e room so is first last ad
       ((ends_past w.high w.high_in (place part.from) t).1 far));
   tells = λ t l. regroup _ _ _ _ _ _ (so.tells t l) (sees_split on part w now later b e t is room first last l) (adds.tells t l);
 }
-
--- a set that tells what is made so far
-pub of_ends : (on : Domain) (last : Option Turn) (old new : Times) → Ends on last old new → IsOf on new
-of_ends on last old new e = record { rise = e.rise; begins = e.begins; ends = e.ends }
 
 -- nothing is left
 pub seen_last : (on : Domain) (w : Window) (s : Times) (end : Option Turn) (made result : Times) (now : Rational → Bool)

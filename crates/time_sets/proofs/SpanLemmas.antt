@@ -8,7 +8,7 @@ use Rattle.rational.specs.Places.{Place, Before, After, Upto}
 use Rattle.rational.proofs.Order.{le_refl}
 use Rattle.rational.proofs.PlaceLemmas.{sides, not_both, share, before_through, after_of_before, before_trans}
 use Rattle.time_sets.specs.Turns.{place}
-use Rattle.time_sets.specs.Sets.{has, turned, BeginAfter, EndBefore, Rise}
+use Rattle.time_sets.specs.Sets.{has, turned, BeginAfter, Rise}
 use Rattle.time_sets.specs.Windows.{Lies, IsDomain, IsOf}
 use Rattle.time_sets.specs.Parts.{IsInside}
 use Rattle.time_sets.specs.Spans.{odd, border, IsLongest, SpansCover}
@@ -105,12 +105,6 @@ turned_between b (p ∷ rest) (suc n) d t r l a u =
     on : (n : ℕ) → BehindTurn (p ∷ rest) (suc n) d t → BehindTurn rest n d t
     on zero a = tt
     on (suc m) a = a
-
--- behind all turns the truth has turned as often as there are turns
-pub turned_behind : (b : Bool) (c : Place) (ps : List Turn) (t : Rational) → EndBefore c ps → After c t → turned b ps t ≡ flips b (length ps)
-turned_behind b c [] t h a = refl
-turned_behind b c (p ∷ rest) t h a =
-    turned_after b p rest t (after_of_before (place p) c t h.0 a) ∙ turned_behind (not b) c rest t h.1 a ∙ flips_next b (length rest)
 
 before_turn : (ps : List Turn) (n : ℕ) (e : Turn) (t : Rational) → Upto (place (get_or ps n e)) t → BeforeTurn ps n t
 before_turn [] n e t u = tt

@@ -167,10 +167,6 @@ floors_in_order z y r d s e p q below b = by_order (int_cmp (floor_of y) (floor_
 pub small_between : (f g h : ℤ) (n : ℕ) → f ≤ℤ g → g ≤ℤ h → unsigned_abs f ≤ n → unsigned_abs h ≤ n → unsigned_abs g ≤ n
 small_between f g h n i j k l = omega (arith, ints, i, j, k, l)
 
--- the sum of two small numbers is small
-pub sum_small : (f k : ℤ) (m : ℕ) → unsigned_abs f ≤ m → unsigned_abs k ≤ m → unsigned_abs (f +ℤ k) ≤ m + m
-sum_small f k m h j = omega (arith, ints, h, j)
-
 -- a floor and a rest are the parts of the fraction that they make up
 pub mixed_fraction : (f g : ℤ) (r d : ℕ) (p : 0 < d) → g ≡ f → mixed g r d p ≈ fraction (f *ℤ pos d +ℤ pos r) (pos d)
 mixed_fraction f g r zero p e = absurd (omega (arith, p))

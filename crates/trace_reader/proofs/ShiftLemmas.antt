@@ -1,6 +1,6 @@
 -- The digits moved to the top of the word, behind zeros.
 use Rattle.std.proofs.Common.{◌≡◌, ℕ, zero, suc, ◌-◌, ◌*◌, ◌%◌, ◌^◌, ◌<◌, ◌≤◌, List, [], ◌∷◌, ◌++◌, length}
-use Rattle.std.proofs.Common.{map, take, drop, get_or, refl, ap, ◌∙◌, arith, length-append, length-take}
+use Rattle.std.proofs.Common.{map, take, get_or, refl, ap, ◌∙◌, arith, length-append, length-take}
 use Rattle.std.specs.Prelude.{replicate}
 use Rattle.std.specs.Int.Bits.{bit_xor}
 use Rattle.std.proofs.lemmas.Nat.{xor_lt}
@@ -54,11 +54,6 @@ pub below_take : (n : ℕ) (xs : List ℕ) → Below 256 xs → Below 256 (take 
 below_take zero xs l = tt
 below_take (suc n) [] l = tt
 below_take (suc n) (x ∷ xs) l = (l.0, below_take n xs l.1)
-
-pub below_drop : (n : ℕ) (xs : List ℕ) → Below 256 xs → Below 256 (drop n xs)
-below_drop zero xs l = l
-below_drop (suc n) [] l = tt
-below_drop (suc n) (x ∷ xs) l = below_drop n xs l.1
 
 pub bare_below : (xs : List ℕ) → Below 256 xs → Below 256 (map bare xs)
 bare_below [] l = tt

@@ -92,7 +92,7 @@ impl Content {
         u64::from(self.rows.last().time()) + 1
     }
 
-    /// So many rows more were read, of which the trace has the last.
+    /// Takes note of `rows` more rows that were read straight into a trace, the last of which is the trace's last.
     pub(crate) fn pass(&mut self, rows: u64, trace: &Trace)
         requires count { self.old.count + rows < 2 ^ 64 }
         requires some { 0 < length trace.now.rows }
@@ -104,7 +104,7 @@ impl Content {
         self.count += rows;
     }
 
-    /// The last row.
+    /// The row that was read last.
     pub(crate) fn row(&self) -> &Row
         ensures { result.now ≡ self.now.row }
     {

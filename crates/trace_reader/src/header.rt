@@ -109,7 +109,7 @@ impl Header {
         self.scale
     }
 
-    /// The same header once more.
+    /// A copy of the header, in memory of its own.
     ///
     /// # Errors
     ///

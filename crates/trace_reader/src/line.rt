@@ -38,7 +38,7 @@ impl Lines {
     ghost use Rattle.std.specs.Prelude.{◌≡◌, ◌↔◌, ◌+◌, ◌^◌, ◌<◌, ◌≤◌, ◌++◌, [], length, IfOk, IsTrue, MatchResult};
     ghost use Rattle.trace_reader.specs.Cut.{begun_after, IsLineFault};
 
-    /// No line yet.
+    /// No line was begun yet. It asks at once for the memory of the longest line that there may be.
     pub(crate) fn new(alloc: Global) -> Result<Lines, Memory>
         ensures { IfOk result (λ l. l ≡ record { begun = 0; line = [] }) }
     {

@@ -222,7 +222,7 @@ impl Heading {
         self.digits.as_slice()
     }
 
-    /// The header.
+    /// The header that the heading is of.
     pub(crate) fn header(&self) -> &Header
         ensures { result.now ≡ record { columns = self.now.heading.columns; scale = self.now.scale } }
     {

@@ -125,7 +125,7 @@ impl Row {
         self.values[..columns].copy_from_slice(&other.values[..columns]);
     }
 
-    /// The same row once more.
+    /// A copy of the row, in memory of its own.
     ///
     /// # Errors
     ///

@@ -116,7 +116,8 @@ impl Heading {
         line_end(piece, at)
     }
 
-    /// As `read_plain`, of a short piece: with room behind it, so that a number may stand at its end.
+    /// Reads the row that a short piece begins with, as `read_plain` does, from a copy with room behind it: so a number may stand at the
+    /// end of the piece.
     #[inline(never)]
     fn read_padded(&self, row: &mut Row, piece: &[u8]) -> Option<usize>
         requires { length piece.now ≤ 128 }
@@ -142,7 +143,7 @@ impl Heading {
         self.read_plain(row, piece)
     }
 
-    /// As `plain_row`, where the row is not before a time.
+    /// The row that a piece begins with, as `plain_row` reads it; none where it is before the time `from`.
     #[inline(always)]
     fn later_row(&self, row: &mut Row, piece: &[u8], from: u64) -> Option<usize>
         ensures { MatchOption result (Unit {0}) (λ n. IsPlainRow self.now piece.now n row.new × (from ≤ row.new.time)) }

@@ -37,7 +37,7 @@ fn add_all(values: &mut Vec<i32>, more: &[i32])
     }
 }
 
-/// So many values, from a place on.
+/// The `count` values from the place `from` on.
 #[inline(always)]
 fn values_at(values: &[i32], from: usize, count: usize) -> &[i32]
     requires { from + count ≤ length values.now }
@@ -62,7 +62,7 @@ impl Trace {
     ghost use Rattle.std.specs.Prelude.{◌≡◌, ◌<◌, ◌≤◌, ◌-◌, ◌++◌, ◌∷◌, [], List, length, drop, nat_abs, slice_index_or, OnOk, OnErr};
     ghost use Rattle.stl_syntax.specs.Trace.{Row as Values, value, last_time, IsTrace};
 
-    /// A trace without rows.
+    /// The trace of a header, before any row.
     pub fn new(alloc: Global, header: Header) -> Trace
         ensures { result ≡ record { header = header; rows = [] } }
     {
@@ -131,7 +131,7 @@ impl Trace {
         row.replace(self.times[r], values_at(&self.values, from, columns));
     }
 
-    /// Copies the last row.
+    /// Copies the last row of the trace into `row`.
     pub(crate) fn copy_last(&self, row: &mut Row)
         requires some { 0 < length self.now.rows }
         requires narrow { length self.now.header.columns ≤ 64 }

@@ -37,7 +37,7 @@ impl TwoRows {
         }
     }
 
-    /// The last row.
+    /// The row that was read last, of the two.
     pub(crate) fn last(&self) -> &Row
         ensures { result.now ≡ self.now.last }
     {

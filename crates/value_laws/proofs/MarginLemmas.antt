@@ -1,5 +1,5 @@
 -- Comparisons, trends and meetings of lines, said of margins as functions of time.
-use Rattle.std.proofs.Common.{◌≡◌, ◌⊎◌, ℕ, inl, inr, pos, refl, Bool, true, false, lit<, arith, ap, ◌*◌}
+use Rattle.std.proofs.Common.{◌≡◌, ℕ, pos, refl, Bool, true, false, lit<, arith, ap, ◌*◌}
 use Rattle.std.specs.Prelude.{◌↔◌, IsTrue, Result, Ok, Err, Option, Some, None, MatchResult, MatchOption, ◌^◌, ◌≤◌}
 use Rattle.std.specs.declared.cmp.Ordering.{Ordering}
 use Rattle.std.specs.declared.cmp.Ordering.TheVariants.{Less, Equal, Greater}
@@ -11,12 +11,11 @@ use Rattle.rational.specs.Extended.{Extended, minus_infinity, finite, infinity, 
 use Rattle.rational.specs.Affine.{IsOrderᵉ, IsSteady, IsTrend, AreSame, MeetAlone, HasBoundedLevel}
 use Rattle.rational.proofs.Order.{same_sym, same_trans, not_lt_of_le, ge_of_same, le_of_same}
 use Rattle.rational.proofs.Field.{same_negate}
-use Rattle.rational.proofs.Lines.{at_constant, at_level, lt_at, lt_at_falls, slope_of}
-use Rattle.rational.proofs.Mixed.{within_same, within_whole, neg_parts}
+use Rattle.rational.proofs.Lines.{at_constant, at_level, lt_at, lt_at_falls}
+use Rattle.rational.proofs.Mixed.{within_same, neg_parts}
 use Rattle.rational.proofs.AffineMeetings.{alone_swap}
 use Rattle.rational.proofs.AffineLemmas.{finite_same, same_of_finite, same_reflᵉ, same_symᵉ, same_transᵉ, order_sameᵉ, steady_never_meet_alone}
 use Rattle.frac128.specs.Value.{value}
-use Rattle.frac128.specs.Line.{line}
 use Rattle.frac128.specs.declared.frac.Frac.{Frac}
 use Rattle.frac128.specs.declared.frac.WideFrac.{WideFrac}
 use Rattle.frac128.specs.declared.ramp.Ramp.{Ramp}
@@ -229,30 +228,3 @@ low_apart _ n s = (s (whole (pos 0))).at_least
 pub high_apart : (q : Margin) → (q ≡ High → ⊥) → ¬ AreSame (margin_function High) (margin_function q)
 high_apart High n s = n refl
 high_apart _ n s = (s (whole (pos 0))).at_most
-
--- a ramp of one value has the value that it begins with
-pub bounded_ramp : (f : Ramp) → HasBoundedLevel (2 ^ 31) (affine (line f))
-bounded_ramp f h t = by_slope (slope_of (line f))
-  where
-    zero : Rational
-    zero = whole (pos 0)
-
-    unit : Rational
-    unit = whole (pos 1)
-
-    later : zero <ʳ unit
-    later = record { lt = lit< tt }
-
-    same_ends : at (line f) zero ≈ at (line f) unit
-    same_ends = same_of_finite (h zero unit)
-
-    begins : at (line f) (whole f.t0) ≈ whole f.v0
-    begins = record { same = omega arith }
-
-    small : IsWithin (2 ^ 31) (whole f.v0)
-    small = within_whole (2 ^ 31) f.v0 f.small_v0
-
-    by_slope : Rises (line f) ⊎ Level (line f) ⊎ Falls (line f) → IsWithin (2 ^ 31) (at (line f) t)
-    by_slope (inl p) = absurd (not_lt_of_le (ge_of_same same_ends) (lt_at (line f) p later))
-    by_slope (inr (inl p)) = within_same (2 ^ 31) (same_sym (same_trans (at_level t (whole f.t0) (line f) p) begins)) small
-    by_slope (inr (inr p)) = absurd (not_lt_of_le (le_of_same same_ends) (lt_at_falls (line f) p later))

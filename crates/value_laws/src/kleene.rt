@@ -27,7 +27,7 @@ impl Kleene {
         self.known
     }
 
-    /// 1, -1 or 0.
+    /// The value as a number: 1 for certainly true, -1 for certainly false, 0 for neither.
     fn sign(&self) -> i8
         ensures { result ≡ kleene_value self.now.known }
     {

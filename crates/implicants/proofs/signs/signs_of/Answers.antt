@@ -4,8 +4,7 @@ use Rattle.std.proofs.lemmas.Option.{slice_get_within}
 use Rattle.stl_syntax.proofs.FormulaLemmas.{below_later}
 use Rattle.stl_syntax.proofs.PostOrderLemmas.{child_below}
 use Rattle.implicants.specs.Signs.{sign_at, AreSigned}
-use Rattle.implicants.proofs.Parents.{operands_apart}
-use Rattle.implicants.proofs.Signing.{signed_down}
+use Rattle.implicants.proofs.Signing.{operands_apart, signed_down}
 use Rattle.implicants.proofs.signs.signs_of.Goals as goal
 
 pub loop-j-init : goal.loop-j-init
