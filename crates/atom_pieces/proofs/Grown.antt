@@ -22,7 +22,7 @@ use Rattle.atom_lines.proofs.Readings.{given_is_function}
 use Rattle.pieces.specs.Building.{GoesOn}
 use Rattle.pieces.specs.Chains.{Chain, HasShape, IsWorth, stop}
 use Rattle.pieces.specs.Knots.{before, after}
-use Rattle.pieces.proofs.Telling.{TellsSoFar, tells_none, tells_on, told}
+use Rattle.pieces.proofs.ChainsTell.{TellsSoFar, tells_none, tells_on, told}
 use Rattle.atom_pieces.specs.AtomChains.{IsAtomChain}
 
 -- a trace stands in itself

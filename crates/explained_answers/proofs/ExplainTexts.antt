@@ -16,7 +16,7 @@ use Rattle.implicants.specs.declared.explaining.Explained.{Explained}
 use Rattle.implicants.specs.declared.explaining.Explained.TheVariants.{Holds, Violated}
 use Rattle.implicants.specs.declared.explaining.ExplainFault.{ExplainFault}
 use Rattle.implicants.specs.declared.explaining.ExplainFault.TheVariants as F
-use Rattle.implicants.proofs.Counting.{too_many_is_more}
+use Rattle.implicants.proofs.NodeCounts.{too_many_is_more}
 use Rattle.implicants.proofs.OfAtoms.{OfAtom, kept_of_atoms}
 use Rattle.stl_syntax.specs.Scaling.{nodes_for}
 use Rattle.report.specs.ItemLines.{IsOfAtom}

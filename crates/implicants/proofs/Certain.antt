@@ -44,7 +44,7 @@ use Rattle.implicants.specs.Runs.{IsRun, begins, AreAllCells}
 use Rattle.implicants.specs.Certainty.{stays, known_at, EndsAt, IsAtomCertainty}
 use Rattle.implicants.specs.SameCells.{IsSameUntil, SaysSame}
 use Rattle.implicants.proofs.Strips.{IsCellOn, point_at, gap_at, length_here, to_last, one_cell}
-use Rattle.implicants.proofs.Covering.{IsOver, to_remaining, from_remaining, from_at, to_covered, of_covered}
+use Rattle.implicants.proofs.MarkedCover.{IsOver, to_remaining, from_remaining, from_at, to_covered, of_covered}
 
 get_cases : (xs ys : List Item) (c : ℕ) (e : Item) → slice_get (xs ++ ys) c ≡ Some e
     → (slice_get xs c ≡ Some e) ⊎ ((k : ℕ) × (c ≡ length xs + k) × (slice_get ys k ≡ Some e))

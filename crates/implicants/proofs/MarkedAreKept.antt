@@ -12,12 +12,12 @@ use Rattle.stl_syntax.specs.declared.node.Node.{Node}
 use Rattle.implicants.specs.Certainty.{stays}
 use Rattle.implicants.specs.Keeping.{CoverMore, chosen, remaining, IsLeastEnough, AreSifted, AreBlank}
 use Rattle.implicants.specs.Needs.{put_mark, passed, IsNeeded, MarksNeeded}
-use Rattle.implicants.proofs.Covering.{IsOver, to_remaining, from_remaining, to_covered, of_covered}
-use Rattle.implicants.proofs.Growing.{must_not}
+use Rattle.implicants.proofs.MarkedCover.{IsOver, to_remaining, from_remaining, to_covered, of_covered}
+use Rattle.implicants.proofs.MoreItems.{must_not}
 use Rattle.implicants.proofs.KeptCells.{drops}
 use Rattle.std.proofs.lemmas.List.{length-replicate}
 use Rattle.std.proofs.lemmas.Bool.{cases_lt, lt-ltb, ltb-true, or_cases}
-use Rattle.implicants.proofs.Marking.{no_cell, blank_none, blank_set, blank_fewer, sifted_none, sifted_more}
+use Rattle.implicants.proofs.MarkLists.{no_cell, blank_none, blank_set, blank_fewer, sifted_none, sifted_more}
 
 or_one : (a b : Bool) → (a ≡ true) ⊎ (b ≡ true) → (a || b) ≡ true
 or_one true b h = refl

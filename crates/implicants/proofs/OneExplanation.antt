@@ -16,8 +16,8 @@ use Rattle.stl_syntax.specs.declared.items.Item.{Item}
 use Rattle.stl_syntax.specs.declared.node.Node.{Node}
 use Rattle.stl_syntax.specs.declared.node.Node.TheVariants.{Atom as Leaf}
 use Rattle.implicants.specs.Keeping.{CoverMore}
-use Rattle.implicants.proofs.Counting.{AreSameTimes, first_is_same, rest_is_same, cuts_are_same}
-use Rattle.implicants.proofs.Growing.{joined_more, must_not}
+use Rattle.implicants.proofs.NodeCounts.{AreSameTimes, first_is_same, rest_is_same, cuts_are_same}
+use Rattle.implicants.proofs.MoreItems.{joined_more, must_not}
 use Rattle.implicants.specs.Explaining.{HoldsAtStart}
 use Rattle.implicants.proofs.KeptCells.{ends, kept_is_enough}
 use Rattle.implicants.proofs.Violations.{so_items}

@@ -27,7 +27,7 @@ use Rattle.stl_syntax.specs.declared.node.Node.{Node}
 use Rattle.stl_syntax.proofs.LawProofs.{certainty_by_values}
 use Rattle.implicants.specs.Keeping.{CoverMore}
 use Rattle.implicants.specs.Needs.{IsOn, IsOff, AreCertainties}
-use Rattle.implicants.proofs.Growing.{must, must_not}
+use Rattle.implicants.proofs.MoreItems.{must, must_not}
 
 -- a three-valued chain is worth 1, -1 or 0
 level_bounded : (o : Option Bool) → IsWithin (2 ^ 31) (whole (kleene_value o))

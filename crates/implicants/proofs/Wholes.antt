@@ -23,8 +23,8 @@ use Rattle.implicants.specs.Upward.{AreWhole, IsBestOf, IsWhole}
 use Rattle.implicants.specs.declared.nearby.View.{View}
 use Rattle.implicants.specs.declared.runs.Run.{Run}
 use Rattle.implicants.proofs.Uncertain.{worth_bounded}
-use Rattle.implicants.proofs.Helping.{high_least, low_greatest}
-use Rattle.implicants.proofs.Running.{pushed_at}
+use Rattle.implicants.proofs.BestAtoms.{high_least, low_greatest}
+use Rattle.implicants.proofs.AddedRuns.{pushed_at}
 
 -- an element of a list in which one was put is that one, or was there before
 pub set_there : {A : Type 0} (xs : List A) (k : ℕ) (x : A) (j : ℕ) (y : A) → slice_get (set xs k x) j ≡ Some y

@@ -1,1 +1,1 @@
-pub mod Margined
+pub mod FollowedMargins

@@ -29,8 +29,8 @@ use Rattle.offline_eval.proofs.Along.{tells_along}
 use Rattle.offline_eval.proofs.Forms.{FormLaws}
 use Rattle.offline_eval.proofs.Sound.{reached_zero}
 use Rattle.pl_signal.proofs.Telling.{IsFunction, told}
-use Rattle.pieces.proofs.Telling.{tells_none, tells_on}
-use Rattle.pieces.proofs.Telling.{told as of_chain}
+use Rattle.pieces.proofs.ChainsTell.{tells_none, tells_on}
+use Rattle.pieces.proofs.ChainsTell.{told as of_chain}
 
 -- just before a tick comes before just after one that is no earlier
 pub tick_places : {a b : Rational} (n m : ℕ) → n ≤ m → a ≈ whole (pos n) → b ≈ whole (pos m) → Before (before a) (after b)

@@ -37,8 +37,8 @@ use Rattle.online_nodes.proofs.ToldSoFar.{in_after, in_upto}
 use Rattle.online_net.specs.Atoms.{HasPutAtoms, begun}
 use Rattle.online_net.specs.Nets.{Parts, Stands}
 use Rattle.online_net.specs.Stretches.{AreOfRows, IsPutRows, HaveRows, rows_between}
-use Rattle.online_net.proofs.Feeding.{fed_stands}
-use Rattle.online_net.proofs.Stepping.{atoms_bound, atom_leaf, row_may}
+use Rattle.online_net.proofs.RowInNet.{fed_stands}
+use Rattle.online_net.proofs.StillSteps.{atoms_bound, atom_leaf, row_may}
 use Rattle.online_net.proofs.RowParts.{drop_next}
 
 abbrev no_row : Row

@@ -23,8 +23,8 @@ use Rattle.online_nodes.proofs.ToldSoFar.{lead_describes}
 use Rattle.online_net.specs.Stretches.{after_time, AreOfRows, HasPutStretch, IsPutRows, HasPutRows, HaveRows, StaysOver}
 use Rattle.atom_lines.proofs.Columns.{next_row}
 use Rattle.online_net.proofs.RowParts.{of_rows, row_more}
-use Rattle.online_net.proofs.Running.{later_order}
-use Rattle.online_net.proofs.Saying.{HasNoted}
+use Rattle.online_net.proofs.AtomRuns.{later_order}
+use Rattle.online_net.proofs.AtomVerdicts.{HasNoted}
 
 abbrev no_row : Row
 no_row = record { time = 0; values = [] }

@@ -1,9 +1,9 @@
-mod Saying
+mod AtomVerdicts
 mod Events
-mod Feeding
+mod RowInNet
 mod Fresh
-mod Stepping
-mod Running
+mod StillSteps
+mod AtomRuns
 mod RowParts
 mod BlockRows
 mod EdgeRows

@@ -20,7 +20,7 @@ use Rattle.online_nodes.specs.Written.{Lead}
 use Rattle.online_nodes.proofs.Stretches.{stretches_behind, stretches_again}
 use Rattle.online_nodes.proofs.ToldSoFar.{same_itself, lead_describes}
 use Rattle.online_net.specs.Stretches.{after_time, AreOfRows}
-use Rattle.online_net.proofs.Running.{later_order}
+use Rattle.online_net.proofs.AtomRuns.{later_order}
 
 -- a tick is a fraction
 tick_value : (k : ℕ) → value (whole_frac (pos k)) ≈ whole (pos k)

@@ -28,7 +28,7 @@ use Rattle.online_robust.specs.Steps.{AreInputs, AreLeft, back_of}
 use Rattle.online_robust.specs.Pasts.{Past, trace_of, part_of, shown_of, Gave, IsRest}
 use Rattle.online_robust.specs.declared.line.MarginLine.{MarginLine}
 use Rattle.online_robust.specs.declared.line.MarginLine.TheVariants.{Point, Gap}
-use Rattle.online_robust.proofs.Growing.{itself}
+use Rattle.online_robust.proofs.GivenOutGrows.{itself}
 use Rattle.online_robust.proofs.LinesLeft.{EndBy}
 use Rattle.online_robust.proofs.RowFacts.{told_here, shown_here}
 use Rattle.online_robust.proofs.JoinedLemmas.{joined_to}

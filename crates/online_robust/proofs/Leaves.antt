@@ -34,7 +34,7 @@ use Rattle.online_robust.specs.Pasts.{part_of, shown_by}
 use Rattle.online_robust.specs.Moving.{AreMore, last_row_after}
 use Rattle.online_robust.specs.declared.line.MarginLine.{MarginLine}
 use Rattle.online_robust.specs.declared.line.MarginLine.TheVariants.{Point, Gap}
-use Rattle.online_robust.proofs.Growing.{itself, last_below}
+use Rattle.online_robust.proofs.GivenOutGrows.{itself, last_below}
 use Rattle.online_robust.proofs.RowFacts.{number_shown}
 use Rattle.online_robust.proofs.SignalLines.{after_parts, all_parts, tells_after, tells_closed}
 

@@ -1,8 +1,8 @@
 mod EdgesLemmas
 pub mod DroppingLemmas
-mod Refusing
+mod RefusalsBeside
 mod GivenOut
-mod Growing
+mod GivenOutGrows
 mod LinesLeft
 mod SignalLines
 mod Readers
@@ -10,17 +10,17 @@ mod NodesGoOn
 mod NetworkMoved
 mod RowFacts
 mod OperatorGoesOn
-mod Idling
+mod NothingNew
 pub mod Leaves
 mod LeafMoved
 mod Loops
 mod MovedTimes
 mod BestWindows
-mod Bridging
+mod OperatorBodies
 mod NodesAtStart
 mod Standings
 mod RootTaken
-mod Stationing
+mod StationCalls
 mod EdgeTouches
 mod LinesPut
 pub mod StreamTexts
@@ -28,7 +28,7 @@ pub mod JoinedLemmas
 pub mod LinesGone
 pub mod Robustly
 pub mod Builts
-pub mod Choosing
+pub mod ChosenMargins
 pub mod PointwiseLemmas
 pub mod NotLemmas
 pub mod TwoLemmas
@@ -41,14 +41,14 @@ pub mod SlideParts
 pub mod SlidePlays
 mod SlideNodes
 mod SlideCauses
-mod SlideTelling
+mod SlideSignal
 mod SlideTold
 mod SlideAgain
-mod SlideTaking
+mod SlideInput
 pub mod SlideWhole
 mod NodeLooks
 mod SlideCuts
-mod SlideBridging
+mod SlideBodies
 mod SlideReady
 mod SlideTurns
 mod SlideAll

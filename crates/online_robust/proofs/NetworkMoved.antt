@@ -22,7 +22,7 @@ use Rattle.online_robust.specs.Nets.{Shows}
 use Rattle.online_robust.specs.declared.line.MarginLine.{MarginLine}
 use Rattle.online_robust.specs.declared.station.Station.{Station}
 use Rattle.online_robust.specs.declared.station.Work.{Work}
-use Rattle.online_robust.proofs.Growing.{AreNext, gave_grows}
+use Rattle.online_robust.proofs.GivenOutGrows.{AreNext, gave_grows}
 use Rattle.online_robust.proofs.NodesGoOn.{held_grows}
 use Rattle.online_robust.proofs.Readers.{MayRead, may_read, seen_same, reader_above}
 

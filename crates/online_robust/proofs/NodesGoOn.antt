@@ -24,7 +24,7 @@ use Rattle.online_robust.specs.Pasts.{Past, trace_of, shown_by, IsRest, IsHeld}
 use Rattle.online_robust.specs.Moving.{AreStreamed, AreMore, IsNext}
 use Rattle.online_robust.specs.declared.line.MarginLine.{MarginLine}
 use Rattle.online_robust.specs.declared.line.MarginLine.TheVariants.{Point, Gap}
-use Rattle.online_robust.proofs.Growing.{AreNext, gave_grows, itself, next_cases}
+use Rattle.online_robust.proofs.GivenOutGrows.{AreNext, gave_grows, itself, next_cases}
 use Rattle.online_robust.proofs.LinesLeft.{back_above}
 use Rattle.online_robust.proofs.Readers.{back_within}
 

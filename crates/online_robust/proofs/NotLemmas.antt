@@ -23,7 +23,7 @@ use Rattle.online_robust.specs.declared.line.MarginLine.{MarginLine}
 use Rattle.online_robust.specs.declared.line.MarginLine.TheVariants.{Point, Gap}
 use Rattle.online_robust.specs.declared.pointwise.Not.{Not}
 use Rattle.online_robust.proofs.Builts.{built_on}
-use Rattle.online_robust.proofs.Choosing.{moved_as, turned_is_function, turned_there}
+use Rattle.online_robust.proofs.ChosenMargins.{moved_as, turned_is_function, turned_there}
 use Rattle.online_robust.proofs.JoinedLemmas.{FirstGap, ahead_same, ahead_next, first_gap, joined_to, there_at, there_in}
 use Rattle.online_robust.proofs.LinesGone.{took_held}
 use Rattle.online_robust.proofs.PointwiseLemmas.{TakesTwo, begun_point, begun_rest, is_gap, is_point, is_rest, two_lost}

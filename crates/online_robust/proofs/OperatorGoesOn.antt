@@ -42,7 +42,7 @@ use Rattle.online_robust.specs.Moving.{Move, AreMore, CanGiveOut, HasMoved, turn
 use Rattle.online_robust.specs.declared.line.MarginLine.{MarginLine}
 use Rattle.online_robust.specs.declared.operator.Operator.{Operator}
 use Rattle.online_robust.specs.declared.station.Work.TheVariants as W
-use Rattle.online_robust.proofs.Growing.{goes_on_from, itself}
+use Rattle.online_robust.proofs.GivenOutGrows.{goes_on_from, itself}
 use Rattle.online_robust.proofs.Readers.{reader_above, seen_same}
 use Rattle.online_robust.proofs.LinesLeft.{IsLaterBack, input_rest, input_reach, rest_cut}
 use Rattle.online_robust.proofs.RowFacts.{number_here, told_here, first_goes_on, last_goes_on, last_at_end, shown_is, number_shown, number_rises}

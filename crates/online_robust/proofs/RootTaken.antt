@@ -25,7 +25,7 @@ use Rattle.online_robust.specs.declared.line.MarginLine.{MarginLine}
 use Rattle.online_robust.specs.declared.line.MarginLine.TheVariants.{Point, Gap}
 use Rattle.online_robust.specs.declared.station.Station.{Station}
 use Rattle.online_robust.proofs.DroppingLemmas.{held_of-without}
-use Rattle.online_robust.proofs.Growing.{itself}
+use Rattle.online_robust.proofs.GivenOutGrows.{itself}
 use Rattle.online_robust.proofs.Readers.{seen_same}
 
 -- the first of a list, and the rest

@@ -18,7 +18,7 @@ use Rattle.online_robust.specs.Steps.{IsInput}
 use Rattle.online_robust.specs.Moving.{IsNext}
 use Rattle.online_robust.specs.Pasts.{Past, trace_of, number_by, shown_by, AreToldOver}
 use Rattle.online_robust.specs.declared.line.MarginLine.{MarginLine}
-use Rattle.online_robust.proofs.Growing.{front_rises, front_ends, last_below, next_cases}
+use Rattle.online_robust.proofs.GivenOutGrows.{front_rises, front_ends, last_below, next_cases}
 
 module _ (header : Header) where
   abbrev pub Rows : List Row → Type 0

@@ -25,12 +25,12 @@ use Rattle.online_robust.specs.Steps.{AreInputs, Belongs, IsInput, Step, back_of
 use Rattle.online_robust.specs.Told.{AreFit, AreTold, IsTick}
 use Rattle.online_robust.specs.declared.operator.Operator.TheVariants as Op
 use Rattle.online_robust.specs.declared.slide.Slide.{Slide}
-use Rattle.online_robust.proofs.Bridging.{input_within}
+use Rattle.online_robust.proofs.OperatorBodies.{input_within}
 use Rattle.online_robust.proofs.NodeLooks.{front_by}
 use Rattle.online_robust.proofs.Robustly.{robust_is_function}
 use Rattle.online_robust.proofs.SlideAgain.{at_start}
 use Rattle.online_robust.proofs.SlideAll.{IsAll, ready_all}
-use Rattle.online_robust.proofs.SlideBridging.{course_of, edge_input, first_tick, front_last, here, small, to_last, to_tick, told_far}
+use Rattle.online_robust.proofs.SlideBodies.{course_of, edge_input, first_tick, front_last, here, small, to_last, to_tick, told_far}
 use Rattle.online_robust.proofs.SlideWhole.{parts_none}
 
 module _ (t : Step) (z : Slide) (e : Held) (to : ℕ) (b : Belongs t (Op.Slide z) e to) (w : Stream Margin) (before : t.before ≡ None)

@@ -33,7 +33,7 @@ use Rattle.online_robust.proofs.Robustly.{robust_is_function}
 use Rattle.online_robust.proofs.SlideChains.{next_piece}
 use Rattle.online_robust.proofs.SlideLeft.{goes_on}
 use Rattle.online_robust.proofs.SlideOn.{back_most, le_offsets}
-use Rattle.online_robust.proofs.SlideTaking.{high_is}
+use Rattle.online_robust.proofs.SlideInput.{high_is}
 use Rattle.online_robust.proofs.SlideWhole.{lines_part}
 
 -- where nothing is to come, the window's high end does not stand where what was met ends

@@ -26,7 +26,7 @@ use Rattle.online_robust.specs.declared.line.MarginLine.{MarginLine}
 use Rattle.online_robust.proofs.Robustly.{robust_is_function}
 use Rattle.online_robust.proofs.SlideParts.{come_next}
 use Rattle.online_robust.proofs.SlideRefused.{meet_refused}
-use Rattle.online_robust.proofs.SlideTaking.{all_kept, all_of, comes_next, follows_all, follows_kept, high_is, kept_next, kept_taken, last_put, put_some, taken}
+use Rattle.online_robust.proofs.SlideInput.{all_kept, all_of, comes_next, follows_all, follows_kept, high_is, kept_next, kept_taken, last_put, put_some, taken}
 
 -- of an edge the first line that was not read has been read, and nothing else changed
 pub record HasReadLine (of : ℕ) (old new : Held) (line : MarginLine) : Type 0 where

@@ -32,9 +32,9 @@ use Rattle.online_robust.specs.declared.operator.Operator.TheVariants as Op
 use Rattle.online_robust.specs.declared.slide.Slide.{Slide}
 use Rattle.online_robust.specs.declared.slide.Window.{Window}
 use Rattle.online_robust.proofs.SlideAgain.{moved_whole}
-use Rattle.online_robust.proofs.SlideBridging.{course_of, edge_input, first_tick, front_last, here, small, to_last, to_tick, told_far}
+use Rattle.online_robust.proofs.SlideBodies.{course_of, edge_input, first_tick, front_last, here, small, to_last, to_tick, told_far}
 use Rattle.online_robust.proofs.SlideAll.{IsAll, ready_all}
-use Rattle.online_robust.proofs.Bridging.{input_within}
+use Rattle.online_robust.proofs.OperatorBodies.{input_within}
 use Rattle.online_robust.proofs.NodeLooks.{front_by}
 use Rattle.online_robust.proofs.SlideTurns.{come_again}
 

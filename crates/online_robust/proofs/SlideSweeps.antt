@@ -32,9 +32,9 @@ use Rattle.online_robust.specs.Told.{IsTick}
 use Rattle.online_robust.specs.declared.line.MarginLine.{MarginLine}
 use Rattle.online_robust.specs.declared.operator.Operator.TheVariants as Op
 use Rattle.online_robust.specs.declared.slide.Slide.{Slide}
-use Rattle.online_robust.proofs.Bridging.{from_none, from_some, none_let_go}
+use Rattle.online_robust.proofs.OperatorBodies.{from_none, from_some, none_let_go}
 use Rattle.online_robust.proofs.NodeLooks.{one_swept, shifted_whole}
-use Rattle.online_robust.proofs.SlideBridging.{course_of, edge_input, first_tick, here, to_tick}
+use Rattle.online_robust.proofs.SlideBodies.{course_of, edge_input, first_tick, here, to_tick}
 use Rattle.online_robust.proofs.SlideCuts.{cut_at}
 use Rattle.online_robust.proofs.SlideFirst.{on_first}
 use Rattle.online_robust.proofs.SlideGone.{read_same}

@@ -34,7 +34,7 @@ use Rattle.online_robust.specs.declared.line.MarginLine.{MarginLine}
 use Rattle.online_robust.specs.declared.line.MarginLine.TheVariants.{Point, Gap}
 use Rattle.online_robust.specs.declared.pointwise.Two.{Two}
 use Rattle.online_robust.proofs.Builts.{built_join}
-use Rattle.online_robust.proofs.Choosing.{chosen_bounded, chosen_is_function, moved_as, turned_is_function, turned_there}
+use Rattle.online_robust.proofs.ChosenMargins.{chosen_bounded, chosen_is_function, moved_as, turned_is_function, turned_there}
 use Rattle.online_robust.proofs.JoinedLemmas.{FirstGap, ahead_same, first_gap, first_of, there_in}
 use Rattle.online_robust.proofs.LinesGone.{took, took_held, both_of as lost_both}
 use Rattle.online_robust.proofs.PointwiseLemmas.{begun_point, begun_rest, begun_some}

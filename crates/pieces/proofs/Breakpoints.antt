@@ -19,7 +19,7 @@ use Rattle.pieces.specs.Chains.{Chain, CanBeLeftOut, Each, IsNormal, IsPiece, Is
 use Rattle.pieces.specs.Over.{HasBreaks}
 use Rattle.pieces.proofs.Ends.{at_most_of_before, at_most_trans}
 use Rattle.pieces.proofs.ChainLemmas.{one_value, worth_same}
-use Rattle.pieces.proofs.Standing.{begin_at, begin_most, end_most, next_begin, rises_at}
+use Rattle.pieces.proofs.ReadUpTo.{begin_at, begin_most, end_most, next_begin, rises_at}
 use Rattle.pieces.proofs.KnotLemmas.{gap_worth, own_worth}
 
 module _ {P : Type 0} (shape : ShapeOf P) where

@@ -21,7 +21,7 @@ use Rattle.pl_signal.specs.Wide.{HasCause}
 use Rattle.pl_signal.specs.Joining.{ChosenOf, IsGapFault}
 use Rattle.pieces.specs.Chains.{Chain, stop, HasShape, IsWorth}
 use Rattle.pieces.specs.Joining.{Joins, HasPart, IsJoinFault, IsWideMeeting}
-use Rattle.pieces.proofs.Telling.{TellsSoFar, tells_join}
+use Rattle.pieces.proofs.ChainsTell.{TellsSoFar, tells_join}
 
 -- one of two places goes on, and both no further than the ends
 pub nearer : (m n i j : ℕ) (x y : Bool) → i < m → j < n → (x ≡ true) ⊎ (y ≡ true)

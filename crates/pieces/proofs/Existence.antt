@@ -16,8 +16,8 @@ use Rattle.pieces.specs.declared.piece.Piece.{Piece}
 use Rattle.pieces.specs.Chains.{Chain, IsNormal, IsWorth, IsWorthFrom, end, stop}
 use Rattle.pieces.proofs.Ends.{after_of_lt, upto_of_lt, at_most_itself, at_most_of_before, at_most_of_same, at_most_trans, same_place}
 use Rattle.pieces.proofs.ChainLemmas.{every_time, to_stop}
-use Rattle.pieces.proofs.Telling.{worth_is_function}
-use Rattle.pieces.proofs.Standing.{StandsAt, stands_first, stands_inside, stands_last, stands_next, end_most, worth_on}
+use Rattle.pieces.proofs.ChainsTell.{worth_is_function}
+use Rattle.pieces.proofs.ReadUpTo.{StandsAt, stands_first, stands_inside, stands_last, stands_next, end_most, worth_on}
 use Rattle.pieces.proofs.Infs.{chain_inf}
 use Rattle.pieces.proofs.Composition.{at_least_lowest}
 

@@ -40,15 +40,15 @@ use Rattle.pieces.specs.Windows.{Best, BestOver, BestTo, IsLeft, IsNonEmpty, IsP
 use Rattle.pieces.proofs.Bests.{IsBest, Values, best_alike, best_over, best_union, best_value, better_alike, better_is_first, nw_same, nw_trans}
 use Rattle.pieces.proofs.Ends.{after_le, after_of_lt, after_time_same, at_most_itself, at_most_of_before, at_most_of_same, at_most_trans, here_after, here_upto, upto_le}
 use Rattle.pieces.proofs.Ends.{earlier_upto, same_place, upto_of_lt, upto_time_same}
-use Rattle.pieces.proofs.Counted.{fall_plays, low_comes}
-use Rattle.pieces.proofs.Holding.{keeps_climbed}
-use Rattle.pieces.proofs.Moving.{best_with_none, keeps_further, keeps_told, of_best, stands_slid, to_best}
+use Rattle.pieces.proofs.CountsInPlay.{fall_plays, low_comes}
+use Rattle.pieces.proofs.PieceEnds.{keeps_climbed}
+use Rattle.pieces.proofs.WindowGoesOn.{best_with_none, keeps_further, keeps_told, of_best, stands_slid, to_best}
 use Rattle.pieces.proofs.OverWindow.{all_met, best_is_function}
-use Rattle.pieces.proofs.Played.{plays_slid, plays_told}
-use Rattle.pieces.proofs.Seeing.{BestOf, OfPiece, all_seen, falling_before, floor, later_place, met_more, met_nothing, none, none_seen, rising_past}
-use Rattle.pieces.proofs.Seeing.{rising_within}
-use Rattle.pieces.proofs.Telling.{rising_is_function}
-use Rattle.pieces.proofs.Telling.{told as tells}
+use Rattle.pieces.proofs.InPlayCauses.{plays_slid, plays_told}
+use Rattle.pieces.proofs.SeenBest.{BestOf, OfPiece, all_seen, falling_before, floor, later_place, met_more, met_nothing, none, none_seen, rising_past}
+use Rattle.pieces.proofs.SeenBest.{rising_within}
+use Rattle.pieces.proofs.ChainsTell.{rising_is_function}
+use Rattle.pieces.proofs.ChainsTell.{told as tells}
 use Rattle.pieces.proofs.WindowEnds.{room_in}
 
 -- a place comes before another, or not

@@ -28,9 +28,9 @@ use Rattle.pieces.specs.Building.{GoesOn}
 use Rattle.pl_signal.specs.Knots as knots
 use Rattle.pl_signal.proofs.Telling as so_far
 use Rattle.pieces.specs.Knots.{before, after, GoesOnBy, IsAdded}
-use Rattle.pieces.proofs.Telling.{TellsSoFar, tells_on, worth_is_function}
+use Rattle.pieces.proofs.ChainsTell.{TellsSoFar, tells_on, worth_is_function}
 use Rattle.pieces.proofs.Ends.{upto_of_lt, after_of_lt, here_after, here_upto, earlier_upto, later_after}
-use Rattle.pieces.proofs.Standing.{begin_at, next_begin, last_begin, rises_at, is_inside, shape_at, worth_place}
+use Rattle.pieces.proofs.ReadUpTo.{begin_at, next_begin, last_begin, rises_at, is_inside, shape_at, worth_place}
 
 -- just before a time comes before just after it
 pub just_later : (c : Place) (t : Rational) → Same c (before t) → Before c (after t)

@@ -33,9 +33,9 @@ use Rattle.pieces.specs.Windows.{BestOver, CanSlide, IsLeft, IsNonEmpty, IsReach
 use Rattle.pieces.proofs.Bests.{Values, best_none, best_over, nw_back, nw_same, nw_trans}
 use Rattle.pieces.proofs.Ends.{at_most_itself, at_most_of_before, at_most_of_same, at_most_trans, same_place}
 use Rattle.pieces.proofs.OverWindow.{best_is_function, piece_from}
-use Rattle.pieces.proofs.Seeing.{floor, high, low, none, steady_met}
-use Rattle.pieces.proofs.Standing.{begin_most, end_most, is_inside, next_begin, rises_at, shape_at}
-use Rattle.pieces.proofs.Telling.{TellsSoFar, tells_on}
+use Rattle.pieces.proofs.SeenBest.{floor, high, low, none, steady_met}
+use Rattle.pieces.proofs.ReadUpTo.{begin_most, end_most, is_inside, next_begin, rises_at, shape_at}
+use Rattle.pieces.proofs.ChainsTell.{TellsSoFar, tells_on}
 use Rattle.pieces.proofs.WindowEnds.{room_in}
 
 -- a number is below another or not

@@ -19,7 +19,7 @@ use Rattle.pieces.specs.Windows.{BestOver, Sees}
 use Rattle.pieces.proofs.Bests.{best_once, best_over, nw_same, nw_trans, over_best}
 use Rattle.pieces.proofs.ChainLemmas.{every_time, worth_after, worth_same, worth_upto}
 use Rattle.pieces.proofs.Ends.{same_place}
-use Rattle.pieces.proofs.Telling.{worth_is_function}
+use Rattle.pieces.proofs.ChainsTell.{worth_is_function}
 
 -- the window of the one time
 abbrev pub now : Reach

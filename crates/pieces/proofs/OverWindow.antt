@@ -26,12 +26,12 @@ use Rattle.pieces.proofs.Bests.{best_alike, best_once, best_over, best_value, ov
 use Rattle.pieces.proofs.BuildingLemmas.{chain_of}
 use Rattle.pieces.proofs.ChainLemmas.{to_stop, worth_after, worth_upto}
 use Rattle.pieces.proofs.Ends.{after_le, at_most_itself, at_most_of_before, same_place, upto_le}
-use Rattle.pieces.proofs.Holding.{piece_begun}
-use Rattle.pieces.proofs.Played.{plays_none}
-use Rattle.pieces.proofs.Moving.{best_with_none, of_best, to_best}
-use Rattle.pieces.proofs.Seeing.{high, low, none}
-use Rattle.pieces.proofs.Standing.{begin_most, end_most, rises_at, shape_at, worth_place}
-use Rattle.pieces.proofs.Telling.{told as tells}
+use Rattle.pieces.proofs.PieceEnds.{piece_begun}
+use Rattle.pieces.proofs.InPlayCauses.{plays_none}
+use Rattle.pieces.proofs.WindowGoesOn.{best_with_none, of_best, to_best}
+use Rattle.pieces.proofs.SeenBest.{high, low, none}
+use Rattle.pieces.proofs.ReadUpTo.{begin_most, end_most, rises_at, shape_at, worth_place}
+use Rattle.pieces.proofs.ChainsTell.{told as tells}
 
 -- a window of one offset with an end out sees nothing
 pub sees_nothing : (over : Reach) → (over.low ≡ over.high) × ((over.low_in ≡ false) ⊎ (over.high_in ≡ false)) → (t u : Rational) → ¬ Sees over t u

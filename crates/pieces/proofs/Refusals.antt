@@ -19,10 +19,10 @@ use Rattle.pieces.specs.Over.{IsCauseOver}
 use Rattle.pieces.specs.Sliding.{IsToldFault}
 use Rattle.pieces.specs.Causes.{IsCauseBelow, IsHeldCause, IsHeldWithin, InPlayBelow}
 use Rattle.pieces.specs.Windows.{IsSmall}
-use Rattle.pieces.proofs.Counted.{refused_value}
-use Rattle.pieces.proofs.Holding.{lt_of_moved}
-use Rattle.pieces.proofs.Meeting.{stays_ahead, stays_behind}
-use Rattle.pieces.proofs.Playing.{held_in_play}
+use Rattle.pieces.proofs.CountsInPlay.{refused_value}
+use Rattle.pieces.proofs.PieceEnds.{lt_of_moved}
+use Rattle.pieces.proofs.BestEnd.{stays_ahead, stays_behind}
+use Rattle.pieces.proofs.TakenInPlay.{held_in_play}
 
 -- nothing was refused where nothing could be
 pub none_of_refused : {A : Type 0} (o : Option A) (Q : A → Type 0) → IfSome o Q → ((x : A) → ¬ Q x) → o ≡ None

@@ -29,10 +29,10 @@ use Rattle.pieces.specs.Negating.{BasesFrom}
 use Rattle.pieces.specs.Sinces.{BasesOfTwo, SinceOf, UntilOf}
 use Rattle.pieces.specs.Turning.{RunBack, turned}
 use Rattle.pieces.proofs.ChainLemmas.{worth_after, worth_upto, worth_same}
-use Rattle.pieces.proofs.Telling.{TellsSoFar, tells_on, told}
+use Rattle.pieces.proofs.ChainsTell.{TellsSoFar, tells_on, told}
 use Rattle.pieces.proofs.Ends.{at_most_of_before, at_most_trans}
 use Rattle.pieces.proofs.Lasts.{last_of_two, none_last, snoc, snoc_last}
-use Rattle.pieces.proofs.Standing.{begin_most, end_most, next_begin, rises_at, worth_place}
+use Rattle.pieces.proofs.ReadUpTo.{begin_most, end_most, next_begin, rises_at, worth_place}
 
 -- a time within the limits stays so
 pub about_within : (t : Rational) → IsWithin (2 ^ 34) t → IsWithin (2 ^ 34) (subtract (whole (pos 0)) t)

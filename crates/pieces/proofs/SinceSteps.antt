@@ -32,7 +32,7 @@ use Rattle.pieces.specs.Chains.{Chain, HasShape, IsLimited, IsNormal, IsWorth, s
 use Rattle.pieces.specs.Sinces.{BasesOfTwo, GoesOver, IsFit, IsPartFault, IsPassFault, IsTurning, IsUsed, Passes, SinceOf, SinceStep, up_to, from_on}
 use Rattle.pieces.proofs.Ends.{after_le, upto_le, after_of_lt, upto_of_lt, at_most_itself, at_most_trans, here_after, here_upto, earlier_upto, later_after}
 use Rattle.pieces.proofs.Infs.{chain_inf}
-use Rattle.pieces.proofs.Telling.{TellsSoFar, worth_is_function}
+use Rattle.pieces.proofs.ChainsTell.{TellsSoFar, worth_is_function}
 use Rattle.pieces.proofs.SincePlaces.{SinceTo, goes_from}
 
 -- the order at both ends holds up to a time between them

@@ -21,8 +21,8 @@ use Rattle.stl_syntax.specs.declared.scale.Scale.{Scale}
 use Rattle.stl_syntax.specs.Print.{IsAtomText}
 use Rattle.stl_syntax.proofs.PrintLaw.{one_printed}
 use Rattle.implicants.specs.Keeping.{CoverMore}
-use Rattle.implicants.proofs.Counting.{cuts_are_same}
-use Rattle.implicants.proofs.Growing.{must_not}
+use Rattle.implicants.proofs.NodeCounts.{cuts_are_same}
+use Rattle.implicants.proofs.MoreItems.{must_not}
 use Rattle.implicants.proofs.OneExplanation.{AreAlike, AreAllAlike, alike_sym, alike_trans, in_alike, same_cells}
 use Rattle.stl_syntax.specs.Scaling.{nodes_for}
 use Rattle.report.specs.Report.{explain, Join, AreJoined, IsItemLines, AreItemLines, IsExplained, Out}

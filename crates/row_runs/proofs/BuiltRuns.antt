@@ -27,9 +27,9 @@ use Rattle.online_nodes.proofs.FrameLaw.{no_more_by_take}
 use Rattle.online_nodes.proofs.FrontsLaw.{fronts_are_times}
 use Rattle.online_nodes.proofs.StayLaw.{shown_is, emitted_stays}
 use Rattle.online_nodes.proofs.EmittedLaw.{emitted_tiles, front_shown, taken_within}
-use Rattle.verdict_stream.proofs.Taking.{emitted_takes}
+use Rattle.verdict_stream.proofs.TakenVerdicts.{emitted_takes}
 use Rattle.verdict_stream.proofs.Passes.{state_after, rows_stay}
-use Rattle.verdict_stream.proofs.Watched.{steps_others, taken_on, driven_at, driven_emptied, by_row as driven_on}
+use Rattle.verdict_stream.proofs.WatchedRoot.{steps_others, taken_on, driven_at, driven_emptied, by_row as driven_on}
 use Rattle.row_runs.specs.RowByRow.{IsRowByRow, nothing, by_row, by_end}
 use Rattle.row_runs.proofs.PartedVerdicts.{fewest}
 use Rattle.row_runs.proofs.GivenCut.{LeadTo, shown_from, gives_out}

@@ -23,7 +23,7 @@ use Rattle.online_nodes.proofs.FrameLaw.{nothing_given}
 use Rattle.online_nodes.proofs.StayLaw.{shown_is, goes_on_before, agrees, so_far, Agree}
 use Rattle.online_nodes.proofs.EmittedLaw.{shown_later, none_before}
 use Rattle.verdict_stream.specs.Pendings.{just_after}
-use Rattle.verdict_stream.proofs.Cutting.{Leads, leads_describes, leads_moves}
+use Rattle.verdict_stream.proofs.CutVerdicts.{Leads, leads_describes, leads_moves}
 use Rattle.row_runs.proofs.PartedVerdicts.{parted_at}
 
 module _ (nodes : List Node) (header : Header) (order : IsPostOrder nodes) (i : ℕ) (l : i < length nodes) (tr : Trace) (is : IsTrace tr) where

@@ -14,7 +14,7 @@ use Rattle.online_nodes.specs.Driven.{rows_of, steps_of, takes}
 use Rattle.online_nodes.proofs.RisingLaw.{IsSound, sound_after}
 use Rattle.online_nodes.proofs.StayLaw.{first_same}
 use Rattle.verdict_stream.proofs.Passes.{Gives, given_by, AreQuiet, quiet_gives}
-use Rattle.verdict_stream.proofs.Watched.{shown_by}
+use Rattle.verdict_stream.proofs.WatchedRoot.{shown_by}
 use Rattle.agreeing.proofs.JoinLaw.{Alternate, alternate}
 
 module _ (nodes : List Node) (header : Header) (i : ℕ) where

@@ -17,7 +17,7 @@ use Rattle.online_nodes.specs.Laws.{AreTiles, AreTold}
 use Rattle.online_nodes.proofs.HeldLaw.{is_in}
 use Rattle.online_nodes.proofs.ToldSoFar.{same_itself, some_in, in_after, in_upto}
 use Rattle.verdict_stream.specs.Pendings.{just_after, AreUpTo, none_left, all_later, one_whole, one_cut}
-use Rattle.verdict_stream.proofs.Cutting.{not_before, room_before, room_after, Leads, parts_of}
+use Rattle.verdict_stream.proofs.CutVerdicts.{not_before, room_before, room_after, Leads, parts_of}
 
 -- a tick is a fraction
 tick_value : (n : ℕ) → value (whole_frac (pos n)) ≈ whole (pos n)

@@ -26,7 +26,7 @@ use Rattle.online_nodes.proofs.FrontsLaw.{fronts_are_times}
 use Rattle.online_nodes.proofs.EmittedLaw.{emitted_tiles}
 use Rattle.online_nodes.proofs.Stretches.{stand_stretches, stretches_whole}
 use Rattle.verdict_stream.proofs.Passes.{state_after, run_split, emitted_alike, taken_once}
-use Rattle.verdict_stream.proofs.Watched.{no_row, show, shown_by, IsAfter, rows_at, driven_at, driven_emptied, none_driven}
+use Rattle.verdict_stream.proofs.WatchedRoot.{no_row, show, shown_by, IsAfter, rows_at, driven_at, driven_emptied, none_driven}
 use Rattle.row_runs.specs.RowByRow.{AreMerged, IsRowByRow, nothing, by_row, by_end, IsEdgeMerged, RunsStandForRows, WatchesStandForRows}
 use Rattle.row_runs.proofs.MergedVerdicts.{merged_stretches, needed_of}
 use Rattle.row_runs.proofs.Once.{quiet_steps, once_steps, once_rows, once_pass}

@@ -3,7 +3,7 @@ use Rattle.std.proofs.Common.{◌≡◌, ◌≢◌, inl, inr, ℕ, true, false, 
 use Rattle.stl_syntax.specs.Formula.{Formula}
 use Rattle.stl_syntax.specs.Kept.{most_cells}
 use Rattle.stl_syntax.specs.Trace.{Trace}
-use Rattle.implicants.proofs.Counting.{one_too_many}
+use Rattle.implicants.proofs.NodeCounts.{one_too_many}
 use Rattle.stl_syntax.specs.Scaling.{nodes_for}
 use Rattle.answer_lines.specs.FaultTexts.{fault_text}
 use Rattle.report.specs.Report.{Command, check, robust, explain, json, table}

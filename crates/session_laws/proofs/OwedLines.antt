@@ -17,7 +17,7 @@ use Rattle.session_mux.specs.Sessions.{Tagged, IsTagged, AreTagged, none, unfini
 use Rattle.session_mux.specs.Sessions.{prefixed, last_eight, IsAnswer, AreAnswers, AreEnds, tags_after, MuxText}
 use Rattle.session_mux.specs.Inputs.{InputFault}
 use Rattle.session_mux.specs.Inputs.{fault_line, FaultOfInput, AreLinesBefore, sound, faulted, OwesLines}
-use Rattle.session_mux.proofs.Tagging.{tagged_once}
+use Rattle.session_mux.proofs.OneTag.{tagged_once}
 use Rattle.session_mux.proofs.LinesPass.{Later, WithTag, InLine}
 use Rattle.session_mux.proofs.FrontLines.{later_fault, input_fault_stays, answers_split}
 use Rattle.session_mux.proofs.FrontTexts.{take_beyond}

@@ -8,9 +8,9 @@ pub mod SessionLemmas
 pub mod KnowingLemmas
 pub mod AnsweringLemmas
 pub mod MuxLemmas
-pub mod Tagging
+pub mod OneTag
 pub mod LinesPass
-pub mod Inputting
+pub mod InputBytes
 pub mod FrontLines
 pub mod FrontFaults
 pub mod FrontTexts

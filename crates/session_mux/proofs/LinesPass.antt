@@ -10,7 +10,7 @@ use Rattle.trace_stream.proofs.FaultPlaces.{at_true, at_false, to_true, to_false
 use Rattle.session_mux.specs.Sessions.{Tagged, IsTagged, AreTagged, none as none_tagged, unfinished, blank as blank_line, next, tags_after}
 use Rattle.session_mux.specs.Inputs.{InputFault, too_many_lines, too_long, bad_tag, too_many_sessions, FaultOfInput}
 use Rattle.session_mux.specs.Taking.{IsSized, ArePassed, none, blank, old_tag, new_tag}
-use Rattle.session_mux.proofs.Tagging.{tagged_once}
+use Rattle.session_mux.proofs.OneTag.{tagged_once}
 
 -- ---- one line
 

@@ -35,10 +35,10 @@ use Rattle.session_mux.specs.declared.stop.LineKind.{LineKind}
 use Rattle.session_mux.specs.declared.stop.LineKind.TheVariants as kind
 use Rattle.session_mux.specs.declared.input.Input.{Input}
 use Rattle.session_mux.proofs.FrontTexts.{take_beyond}
-use Rattle.session_mux.proofs.Inputting.{stored_there, refused_fault}
+use Rattle.session_mux.proofs.InputBytes.{stored_there, refused_fault}
 use Rattle.session_mux.proofs.LinesPass.{passed_on, known_tag, known_count}
 use Rattle.session_mux.proofs.RunLemmas.{contents_end, run_as_one, tags_as_one, run_answers}
-use Rattle.session_mux.proofs.Tagging.{tagged_once}
+use Rattle.session_mux.proofs.OneTag.{tagged_once}
 
 -- ---- a tag
 

@@ -26,8 +26,8 @@ use Rattle.online_nodes.specs.Laws.{answered_to}
 use Rattle.online_nodes.proofs.RunLaw.{none_is_none}
 use Rattle.online_nodes.proofs.StayLaw.{Agree}
 use Rattle.verdict_stream.specs.Pendings.{just_after, IsTextOfRow, IsTextOfRows, AreUpTo}
-use Rattle.verdict_stream.proofs.Cutting.{Leads, leads_describes, leads_moves, parts_of, of_none, none_up_to, AreParts}
-use Rattle.verdict_stream.proofs.Watched.{front_after, front_push}
+use Rattle.verdict_stream.proofs.CutVerdicts.{Leads, leads_describes, leads_moves, parts_of, of_none, none_up_to, AreParts}
+use Rattle.verdict_stream.proofs.WatchedRoot.{front_after, front_push}
 
 -- ---- the times of rows
 

@@ -26,7 +26,7 @@ use Rattle.bounds.proofs.SteadyFormulas.{steady_atoms_keep_truths, steady_atoms_
 use Rattle.verdict_stream.specs.Quieting.{IsSteady, IsLineAfter}
 use Rattle.verdict_stream.proofs.CutRows.{agree_by}
 use Rattle.verdict_stream.proofs.SteadyNodes.{stay_on}
-use Rattle.verdict_stream.proofs.Watched.{front_after, front_push, rows_told}
+use Rattle.verdict_stream.proofs.WatchedRoot.{front_after, front_push, rows_told}
 
 -- the truth is the same where both imply one another
 same_truth : (p : Subformula) (tr tr' : Trace) (t u : Rational) (b : Bool) → (Truth p tr t → Truth p tr' u) → (Truth p tr' u → Truth p tr t)

@@ -36,7 +36,7 @@ use Rattle.verdict_stream.specs.Watching.{IsWatched, WatchesRows, IsBehind, IsUn
 use Rattle.verdict_stream.specs.declared.watcher.Network.{Network}
 use Rattle.verdict_stream.specs.declared.watcher.Watcher.{Watcher}
 use Rattle.verdict_stream.specs.declared.verdicts.Verdicts.{Verdicts}
-use Rattle.verdict_stream.proofs.Watched.{driven_at, no_row}
+use Rattle.verdict_stream.proofs.WatchedRoot.{driven_at, no_row}
 use Rattle.verdict_stream.proofs.RowsTogether.{last_of}
 use Rattle.verdict_stream.proofs.SteadyNodes.{none_stay}
 use Rattle.verdict_stream.proofs.QuietRows.{old_trace, new_trace, row_rises, atoms_on, steady_on, line_told}

@@ -18,7 +18,7 @@ use Rattle.online_nodes.specs.Network.{Event, row, node_is_atom, after_event, st
 use Rattle.online_nodes.specs.Driven.{rows_of, steps_of}
 use Rattle.online_nodes.proofs.FrontsLaw.{atom_horizon}
 use Rattle.verdict_stream.proofs.Passes.{parted, quiet_gives, atom_steps, Gives, given_by, text_of_given}
-use Rattle.verdict_stream.proofs.Watched.{show, shown_by, front_after, front_push, front_is}
+use Rattle.verdict_stream.proofs.WatchedRoot.{show, shown_by, front_after, front_push, front_is}
 
 -- some rows, with the last of them apart
 pub record HasLast (rows : List Row) : Type 0 where

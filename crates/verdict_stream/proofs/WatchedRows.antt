@@ -24,8 +24,8 @@ use Rattle.trace_stream.specs.declared.case.Case.{Case}
 use Rattle.verdict_stream.specs.declared.watcher.Network.{Network}
 use Rattle.verdict_stream.specs.declared.watcher.Watcher.{Watcher}
 use Rattle.verdict_stream.proofs.Passes.{run_split}
-use Rattle.verdict_stream.proofs.Watched.{driven_at, driven_emptied, AreOthers, Passing, passing_of, pass_before, front_after, shown_after}
-use Rattle.verdict_stream.proofs.Watched.{HasPassed, passed_of, StartTold, start_truth, rest_text, rows_told}
+use Rattle.verdict_stream.proofs.WatchedRoot.{driven_at, driven_emptied, AreOthers, Passing, passing_of, pass_before, front_after, shown_after}
+use Rattle.verdict_stream.proofs.WatchedRoot.{HasPassed, passed_of, StartTold, start_truth, rest_text, rows_told}
 use Rattle.verdict_stream.proofs.RowsTogether.{last_of, rows_of_more, rows_give, rows_text}
 
 -- ---- the last row

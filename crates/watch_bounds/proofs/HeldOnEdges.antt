@@ -21,9 +21,9 @@ use Rattle.online_nodes.proofs.FrontsLaw.{fronts_are_times}
 use Rattle.online_nodes.proofs.RowsLaw.{rows_of as rows_came, AreRowsSoFar}
 use Rattle.online_nodes.proofs.StretchLaw.{joined_few}
 use Rattle.online_net.specs.Nets.{Parts, Stands}
-use Rattle.verdict_stream.proofs.Owing.{has_fed}
+use Rattle.verdict_stream.proofs.OwedRows.{has_fed}
 use Rattle.verdict_stream.proofs.Passes.{state_after, taken_once}
-use Rattle.verdict_stream.proofs.Watched.{driven_at, driven_emptied, rows_at}
+use Rattle.verdict_stream.proofs.WatchedRoot.{driven_at, driven_emptied, rows_at}
 use Rattle.bounds.specs.Turns.{rows_within}
 use Rattle.bounds.specs.Rests.{verdicts_for_a_row}
 use Rattle.bounds.proofs.GivenFew.{within_all}

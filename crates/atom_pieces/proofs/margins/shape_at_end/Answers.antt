@@ -1,5 +1,5 @@
 use Rattle.std.proofs.Common.{◌-◌, inl}
-use Rattle.pieces.proofs.Standing.{shape_at}
+use Rattle.pieces.proofs.ReadUpTo.{shape_at}
 use Rattle.atom_pieces.proofs.margins.shape_at_end.Goals as goal
 
 pub returns-in-Equal-clause-shape : goal.returns-in-Equal-clause-shape

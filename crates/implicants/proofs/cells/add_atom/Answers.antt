@@ -4,7 +4,7 @@ use Rattle.frac128.specs.Value.{value}
 use Rattle.stl_syntax.specs.SupInf.{truth_setting}
 use Rattle.implicants.specs.Cuts.{times_of}
 use Rattle.implicants.proofs.TruthSignals.{node_told}
-use Rattle.implicants.proofs.Handing.{some_cut}
+use Rattle.implicants.proofs.HandedDown.{some_cut}
 use Rattle.implicants.proofs.cells.add_atom.Goals as goal
 
 pub add_cells-requires-clause-many : goal.add_cells-requires-clause-many

@@ -4,8 +4,8 @@ use Rattle.frac128.specs.Value.{value}
 use Rattle.stl_syntax.specs.Cells.{cells}
 use Rattle.stl_syntax.specs.Kept.{ItemsOn}
 use Rattle.implicants.specs.Cuts.{times_of}
-use Rattle.implicants.proofs.Handing.{rise_of}
-use Rattle.implicants.proofs.Listing.{listed_first, listed_on, step_of, step_up_to, step_within}
+use Rattle.implicants.proofs.HandedDown.{rise_of}
+use Rattle.implicants.proofs.NodeCells.{listed_first, listed_on, step_of, step_up_to, step_within}
 use Rattle.implicants.proofs.cells.add_cells.Goals as goal
 
 pub loop-k-init : goal.loop-k-init

@@ -1,4 +1,4 @@
-use Rattle.implicants.proofs.Listing.{IsListed}
+use Rattle.implicants.proofs.NodeCells.{IsListed}
 use Rattle.implicants.proofs.cells.add_cells.Given as goal
 
 abbrev pub invariant-loop-k : goal.invariant-loop-k

@@ -1,5 +1,5 @@
 use Rattle.std.proofs.Common.{rules, ◌≡◌, ◌++◌, ◌∷◌, [], length, arith}
-use Rattle.implicants.proofs.Gathering.{below_step, below_all}
+use Rattle.implicants.proofs.AtomCells.{below_step, below_all}
 use Rattle.implicants.proofs.cells.all_cells.Goals as goal
 
 pub loop-i-preserved : goal.loop-i-preserved

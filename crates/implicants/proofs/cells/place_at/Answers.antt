@@ -3,7 +3,7 @@ use Rattle.std.proofs.lemmas.Option.{same_Some, slice_get_within}
 use Rattle.frac128.specs.Value.{value}
 use Rattle.pl_signal.specs.Knots.{time}
 use Rattle.rational.specs.Time.{◌≈◌}
-use Rattle.implicants.proofs.Listing.{place_next, place_stays, same_told, other_told}
+use Rattle.implicants.proofs.NodeCells.{place_next, place_stays, same_told, other_told}
 use Rattle.implicants.proofs.cells.place_at.Goals as goal
 use Rattle.implicants.proofs.cells.place_at.Goals.{else-place-knots-via-then-place-knots+else-is_eq, else-place-knots-via-else-place-knots}
 

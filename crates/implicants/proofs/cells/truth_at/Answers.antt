@@ -1,6 +1,6 @@
 use Rattle.std.proofs.Common.{sym}
 use Rattle.frac128.specs.Value.{value}
-use Rattle.implicants.proofs.Listing.{worth_here, worth_after, same_told, other_told}
+use Rattle.implicants.proofs.NodeCells.{worth_here, worth_after, same_told, other_told}
 use Rattle.implicants.proofs.cells.truth_at.Goals as goal
 
 pub returns-then-is_eq : goal.returns-then-is_eq

@@ -3,7 +3,7 @@ use Rattle.std.specs.Prelude.{Contains}
 use Rattle.std.proofs.lemmas.Result.{on_ok_weaker}
 use Rattle.stl_syntax.specs.Views.{view_of}
 use Rattle.implicants.specs.Cuts.{AreNearMoves, moves_of}
-use Rattle.implicants.proofs.Moving.{adds_same, same_moves}
+use Rattle.implicants.proofs.MovedCuts.{adds_same, same_moves}
 use Rattle.implicants.proofs.cuts.add_from.Goals as goal
 
 pub add_moves-requires-clause-near : goal.add_moves-requires-clause-near

@@ -2,7 +2,7 @@ use Rattle.std.proofs.Common.{◌≡◌, ◌-◌, ◌+◌, length, ap, arith, sy
 use Rattle.frac128.specs.Value.{value}
 use Rattle.stl_syntax.specs.Cells.{shifts}
 use Rattle.implicants.specs.Cuts.{times_of, cuts_at, Adds, IsMovedBy}
-use Rattle.implicants.proofs.Handing.{IsHandedBefore, handed_none, handed_child, handed_other, handed_all, cuts_at_is}
+use Rattle.implicants.proofs.HandedDown.{IsHandedBefore, handed_none, handed_child, handed_other, handed_all, cuts_at_is}
 use Rattle.implicants.proofs.cuts.add_handed_down.Goals as goal
 use Rattle.implicants.proofs.cuts.add_handed_down.Goals.{then-is_child+in_ok-add_from, else-is_child}
 

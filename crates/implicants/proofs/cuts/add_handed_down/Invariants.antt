@@ -1,7 +1,7 @@
 use Rattle.std.proofs.Common.{length}
 use Rattle.frac128.specs.Value.{value}
 use Rattle.implicants.specs.Cuts.{times_of, cuts_at, Adds}
-use Rattle.implicants.proofs.Handing.{IsHandedBefore}
+use Rattle.implicants.proofs.HandedDown.{IsHandedBefore}
 use Rattle.implicants.proofs.cuts.add_handed_down.Given as goal
 
 abbrev pub invariant-loop-j : goal.invariant-loop-j

@@ -7,7 +7,7 @@ use Rattle.rational.specs.Time.{add, whole}
 use Rattle.rational.proofs.Mixed.{move_fits}
 use Rattle.frac128.specs.Value.{value}
 use Rattle.implicants.specs.Cuts.{times_of, Adds, IsMoved}
-use Rattle.implicants.proofs.Moving.{adds_none, MovesOne, frac_on}
+use Rattle.implicants.proofs.MovedCuts.{adds_none, MovesOne, frac_on}
 use Rattle.implicants.proofs.cuts.add_moved.Goals as goal
 
 pub loop-t-init : goal.loop-t-init

@@ -2,7 +2,7 @@ use Rattle.std.proofs.Common.{rules, pos}
 use Rattle.std.proofs.lemmas.Int.{to_z-of_z}
 use Rattle.frac128.specs.Value.{value}
 use Rattle.implicants.specs.Cuts.{times_of}
-use Rattle.implicants.proofs.Moving.{moves_on}
+use Rattle.implicants.proofs.MovedCuts.{moves_on}
 use Rattle.implicants.proofs.cuts.add_moves.Goals as goal
 
 pub loop-k-preserved : goal.loop-k-preserved

@@ -3,7 +3,7 @@ use Rattle.std.proofs.lemmas.List.{length-map}
 use Rattle.frac128.specs.Value.{value}
 use Rattle.stl_syntax.specs.Cells.{AreCuts}
 use Rattle.implicants.specs.Cuts.{times_of, AreCutsFrom}
-use Rattle.implicants.proofs.Handing.{AreCutsTo, cuts_begin, some_cut, cuts_on, passed, cuts_end, IsNextCount}
+use Rattle.implicants.proofs.HandedDown.{AreCutsTo, cuts_begin, some_cut, cuts_on, passed, cuts_end, IsNextCount}
 use Rattle.implicants.proofs.cuts.all_cuts.Goals as goal
 
 pub loop-depth-init : goal.loop-depth-init

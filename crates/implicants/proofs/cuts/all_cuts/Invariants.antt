@@ -1,4 +1,4 @@
-use Rattle.implicants.proofs.Handing.{AreCutsTo}
+use Rattle.implicants.proofs.HandedDown.{AreCutsTo}
 use Rattle.implicants.proofs.cuts.all_cuts.Given as goal
 
 abbrev pub invariant-loop-depth : goal.invariant-loop-depth

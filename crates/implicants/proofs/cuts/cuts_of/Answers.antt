@@ -7,8 +7,8 @@ use Rattle.stl_syntax.specs.SupInf.{truth_setting}
 use Rattle.stl_syntax.specs.Cells.{AreCuts}
 use Rattle.implicants.specs.Cuts.{times_of, cuts_at, Adds, IsHandedDown}
 use Rattle.implicants.proofs.TruthSignals.{node_told}
-use Rattle.implicants.proofs.Cutting.{cuts_of, root_cuts}
-use Rattle.implicants.proofs.Handing.{ends_of, all_near, all_three, handed_alike}
+use Rattle.implicants.proofs.CutTimes.{cuts_of, root_cuts}
+use Rattle.implicants.proofs.HandedDown.{ends_of, all_near, all_three, handed_alike}
 use Rattle.implicants.proofs.cuts.cuts_of.Goals as goal
 
 pub returns-then-i-count : goal.returns-then-i-count

@@ -1,7 +1,7 @@
 use Rattle.std.proofs.Common.{refl, Some}
 use Rattle.std.proofs.lemmas.Result.{on_ok_weaker}
 use Rattle.implicants.specs.Upward.{IsGoneRun}
-use Rattle.implicants.proofs.Running.{added_run}
+use Rattle.implicants.proofs.AddedRuns.{added_run}
 use Rattle.implicants.proofs.gone.add_gone.Goals as goal
 
 pub returns : goal.returns

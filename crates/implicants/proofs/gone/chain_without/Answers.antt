@@ -3,8 +3,8 @@ use Rattle.std.proofs.lemmas.Result.{IfOk-weaker}
 use Rattle.value_laws.specs.Kinds.{kleene_shape}
 use Rattle.implicants.specs.Nearby.{IsBestChain}
 use Rattle.implicants.specs.declared.nearby.View.{View}
-use Rattle.implicants.proofs.Lifting.{runs_best_at}
-use Rattle.implicants.proofs.Losing.{gone_lost}
+use Rattle.implicants.proofs.LostAbove.{runs_best_at}
+use Rattle.implicants.proofs.LostWithout.{gone_lost}
 use Rattle.implicants.proofs.Wholes.{whole_view}
 use Rattle.implicants.proofs.gone.chain_without.Goals as goal
 

@@ -1,4 +1,4 @@
-use Rattle.implicants.proofs.Running.{no_run}
+use Rattle.implicants.proofs.AddedRuns.{no_run}
 use Rattle.std.proofs.Common.{◌≡◌, inl, inr, Some, subst}
 use Rattle.std.specs.Prelude.{slice_get}
 use Rattle.implicants.proofs.gone.gone_among.Goals as goal

@@ -3,8 +3,8 @@ use Rattle.std.specs.Prelude.{slice_get}
 use Rattle.std.proofs.lemmas.Result.{IfOk-weaker}
 use Rattle.implicants.specs.Signs.{sign_at}
 use Rattle.implicants.specs.Upward.{AreGone}
-use Rattle.implicants.proofs.Losing.{gone_lost}
-use Rattle.implicants.proofs.Running.{no_run}
+use Rattle.implicants.proofs.LostWithout.{gone_lost}
+use Rattle.implicants.proofs.AddedRuns.{no_run}
 use Rattle.implicants.proofs.gone.runs_of_atom.Goals as goal
 
 pub returns-in-Atom : goal.returns-in-Atom

@@ -1,8 +1,8 @@
 use Rattle.std.proofs.Common.{◌≡◌, ◌∷◌, [], Some, ap, arith, length, length-append, subst, sym}
 use Rattle.std.specs.Prelude.{slice_get}
 use Rattle.implicants.specs.Upward.{AreLostEach}
-use Rattle.implicants.proofs.Gaining.{lost_pushed}
-use Rattle.implicants.proofs.Running.{no_run}
+use Rattle.implicants.proofs.GivenUp.{lost_pushed}
+use Rattle.implicants.proofs.AddedRuns.{no_run}
 use Rattle.implicants.proofs.gone.runs_of_cells.Goals as goal
 
 pub loop-i-init : goal.loop-i-init

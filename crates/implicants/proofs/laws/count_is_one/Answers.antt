@@ -1,5 +1,5 @@
 use Rattle.std.proofs.Common.{refl}
-use Rattle.implicants.proofs.Counting.{one_count, one_too_many, too_many_is_more}
+use Rattle.implicants.proofs.NodeCounts.{one_count, one_too_many, too_many_is_more}
 use Rattle.implicants.proofs.laws.count_is_one.Goals as goal
 
 pub returns-clause-count : goal.returns-clause-count

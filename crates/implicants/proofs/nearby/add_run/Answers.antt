@@ -1,5 +1,5 @@
 use Rattle.std.proofs.lemmas.Result.{on_ok_weaker}
-use Rattle.implicants.proofs.Nearing.{near_begin, near_run, near_within}
+use Rattle.implicants.proofs.NearBest.{near_begin, near_run, near_within}
 use Rattle.implicants.proofs.nearby.add_run.Goals as goal
 
 pub go_up_to-requires : goal.go_up_to-requires

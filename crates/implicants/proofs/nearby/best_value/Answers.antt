@@ -1,4 +1,4 @@
-use Rattle.implicants.proofs.Nearing.{best_passes}
+use Rattle.implicants.proofs.NearBest.{best_passes}
 use Rattle.implicants.proofs.nearby.best_value.Goals as goal
 
 pub returns : goal.returns

@@ -1,4 +1,4 @@
-use Rattle.implicants.proofs.Nearing.{near_closed}
+use Rattle.implicants.proofs.NearBest.{near_closed}
 use Rattle.implicants.proofs.nearby.closed.Goals as goal
 
 pub returns : goal.returns

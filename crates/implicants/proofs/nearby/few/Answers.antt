@@ -1,5 +1,5 @@
 use Rattle.std.proofs.lemmas.Result.{IfOk-weaker}
-use Rattle.implicants.proofs.Nearing.{near_start, near_within}
+use Rattle.implicants.proofs.NearBest.{near_start, near_within}
 use Rattle.implicants.proofs.nearby.few.Goals as goal
 
 pub loop-j-init : goal.loop-j-init

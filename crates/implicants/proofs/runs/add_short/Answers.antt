@@ -3,8 +3,8 @@ use Rattle.std.proofs.lemmas.Result.{on_ok_weaker}
 use Rattle.rational.specs.Places.{Before}
 use Rattle.frac128.specs.Cuts.{place}
 use Rattle.pieces.specs.Chains.{begin_at, end}
-use Rattle.pieces.proofs.Standing.{next_begin, rises_at}
-use Rattle.implicants.proofs.Running.{adds_short, adds_twice, short_over}
+use Rattle.pieces.proofs.ReadUpTo.{next_begin, rises_at}
+use Rattle.implicants.proofs.AddedRuns.{adds_short, adds_twice, short_over}
 use Rattle.implicants.proofs.runs.add_short.Goals as goal
 
 pub loop-p-init : goal.loop-p-init

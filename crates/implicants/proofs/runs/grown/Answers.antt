@@ -2,7 +2,7 @@ use Rattle.std.proofs.Common.{subst, Some}
 use Rattle.std.specs.Prelude.{IfSome}
 use Rattle.value_laws.specs.Kinds.{kleene_shape}
 use Rattle.implicants.specs.Upward.{IsShortOver}
-use Rattle.implicants.proofs.Running.{adds_short, joined_short}
+use Rattle.implicants.proofs.AddedRuns.{adds_short, joined_short}
 use Rattle.implicants.proofs.runs.grown.Goals as goal
 
 pub returns-in_default-clause-added : goal.returns-in_default-clause-added

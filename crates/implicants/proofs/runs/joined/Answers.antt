@@ -1,6 +1,6 @@
 use Rattle.std.proofs.Common.{sym, ◌∙◌}
-use Rattle.implicants.proofs.Listing.{same_told}
-use Rattle.implicants.proofs.Running.{joined_in}
+use Rattle.implicants.proofs.NodeCells.{same_told}
+use Rattle.implicants.proofs.AddedRuns.{joined_in}
 use Rattle.implicants.proofs.runs.joined.Goals as goal
 
 pub returns : goal.returns

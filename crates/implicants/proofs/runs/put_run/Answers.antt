@@ -1,6 +1,6 @@
 use Rattle.std.proofs.Common.{inl, subst, sym}
 use Rattle.implicants.specs.Upward.{PutsRun}
-use Rattle.implicants.proofs.Gaining.{puts_fewer, puts_inserted, puts_set}
+use Rattle.implicants.proofs.GivenUp.{puts_fewer, puts_inserted, puts_set}
 use Rattle.implicants.proofs.runs.put_run.Goals as goal
 
 pub returns-then-is_held : goal.returns-then-is_held

@@ -3,7 +3,7 @@ use Rattle.std.specs.Prelude.{slice_get}
 use Rattle.value_laws.specs.Kinds.{kleene_shape}
 use Rattle.implicants.specs.Signs.{sign_at}
 use Rattle.implicants.specs.Upward.{AreShortEach}
-use Rattle.implicants.proofs.Running.{no_run, short_each, short_more}
+use Rattle.implicants.proofs.AddedRuns.{no_run, short_each, short_more}
 use Rattle.implicants.proofs.runs.runs_of.Goals as goal
 
 pub loop-k-init : goal.loop-k-init

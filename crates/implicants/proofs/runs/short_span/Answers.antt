@@ -1,5 +1,5 @@
 use Rattle.frac128.specs.Cuts.{place}
-use Rattle.implicants.proofs.Running.{short_piece}
+use Rattle.implicants.proofs.AddedRuns.{short_piece}
 use Rattle.implicants.proofs.runs.short_span.Goals as goal
 
 pub returns : goal.returns

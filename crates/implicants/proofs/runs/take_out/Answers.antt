@@ -1,6 +1,6 @@
 use Rattle.std.proofs.Common.{subst, sym, arith}
 use Rattle.implicants.specs.Upward.{AreAmong}
-use Rattle.implicants.proofs.Gaining.{among_both, among_without}
+use Rattle.implicants.proofs.GivenUp.{among_both, among_without}
 use Rattle.implicants.proofs.runs.take_out.Goals as goal
 
 pub loop-runs-init : goal.loop-runs-init

@@ -1,6 +1,6 @@
 use Rattle.std.proofs.Common.{◌≡◌, Some, inl, subst}
 use Rattle.std.specs.Prelude.{slice_get}
-use Rattle.implicants.proofs.Running.{short_pushed}
+use Rattle.implicants.proofs.AddedRuns.{short_pushed}
 use Rattle.implicants.proofs.upward.add_gained.Goals as goal
 
 pub loop-j-init : goal.loop-j-init

@@ -1,5 +1,5 @@
 use Rattle.offline_eval.proofs.SignalsAndChains.{some_piece}
-use Rattle.implicants.proofs.Nearing.{begins_is_on}
+use Rattle.implicants.proofs.NearBest.{begins_is_on}
 use Rattle.implicants.proofs.upward.begins_short.Goals as goal
 
 pub returns : goal.returns

@@ -2,7 +2,7 @@ use Rattle.std.proofs.Common.{◌≡◌, ◌≤◌, ◌∷◌, [], Some, ap, ari
 use Rattle.std.specs.Prelude.{slice_get}
 use Rattle.value_laws.specs.Kinds.{kleene_shape}
 use Rattle.implicants.specs.Upward.{AreWhole}
-use Rattle.implicants.proofs.Running.{no_run}
+use Rattle.implicants.proofs.AddedRuns.{no_run}
 use Rattle.implicants.proofs.Wholes.{whole_push, whole_view}
 use Rattle.implicants.proofs.upward.blank.Goals as goal
 

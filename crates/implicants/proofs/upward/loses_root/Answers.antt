@@ -6,7 +6,7 @@ use Rattle.value_laws.specs.Kinds.{kleene_shape}
 use Rattle.stl_syntax.specs.Trace.{start}
 use Rattle.stl_syntax.specs.declared.items.Item.{Item}
 use Rattle.implicants.specs.Upward.{HasBestIn, IsGround}
-use Rattle.implicants.proofs.Lifting.{root_needed}
+use Rattle.implicants.proofs.LostAbove.{root_needed}
 use Rattle.implicants.proofs.upward.loses_root.Goals as goal
 
 pub loop-k-init : goal.loop-k-init

@@ -1,6 +1,6 @@
 use Rattle.std.proofs.Common.{◌≡◌, ◌+◌, ◌-◌, suc, refl, subst, arith, ◌∙◌}
 use Rattle.implicants.specs.Upward.{AreLostFrom}
-use Rattle.implicants.proofs.Losing.{PutsFrom, puts_from_none, puts_from_more, puts_from_all, puts_count}
+use Rattle.implicants.proofs.LostWithout.{PutsFrom, puts_from_none, puts_from_more, puts_from_all, puts_count}
 use Rattle.implicants.proofs.upward.mark_from.Goals as goal
 
 pub loop-c-init : goal.loop-c-init

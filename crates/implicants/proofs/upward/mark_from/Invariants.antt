@@ -1,7 +1,7 @@
 use Rattle.std.proofs.Common.{◌≡◌, ◌≤◌, length}
 use Rattle.value_laws.specs.Kinds.{kleene_shape}
 use Rattle.implicants.specs.Upward.{AreLostFrom, HasChains}
-use Rattle.implicants.proofs.Losing.{PutsFrom}
+use Rattle.implicants.proofs.LostWithout.{PutsFrom}
 use Rattle.implicants.proofs.upward.mark_from.Given as goal
 
 abbrev pub invariant-loop-c : goal.invariant-loop-c

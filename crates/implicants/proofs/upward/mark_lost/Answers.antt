@@ -3,8 +3,8 @@ use Rattle.std.specs.Prelude.{slice_get, slice_index_or}
 use Rattle.std.proofs.lemmas.Result.{on_ok_weaker}
 use Rattle.implicants.specs.Needs.{IsNeeded}
 use Rattle.implicants.specs.Upward.{AreLost, AreLostEach, Settles}
-use Rattle.implicants.proofs.Gaining.{lost_marked, lost_next, lost_settled, lost_without}
-use Rattle.implicants.proofs.Running.{no_run}
+use Rattle.implicants.proofs.GivenUp.{lost_marked, lost_next, lost_settled, lost_without}
+use Rattle.implicants.proofs.AddedRuns.{no_run}
 use Rattle.implicants.proofs.upward.mark_lost.Goals as goal
 
 pub returns-then-index-clause-lost : goal.returns-then-index-clause-lost

@@ -4,7 +4,7 @@ use Rattle.value_laws.specs.Kinds.{kleene_shape}
 use Rattle.implicants.specs.Keeping.{remaining}
 use Rattle.implicants.specs.Needs.{AreToldOfMore}
 use Rattle.implicants.specs.Upward.{AreLostEach, AreShortEach}
-use Rattle.implicants.proofs.Gaining.{lost_of_all, lost_told}
+use Rattle.implicants.proofs.GivenUp.{lost_of_all, lost_told}
 use Rattle.implicants.proofs.upward.mark_upward.Goals as goal
 
 pub runs_of-requires : goal.runs_of-requires

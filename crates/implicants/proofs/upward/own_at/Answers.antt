@@ -1,6 +1,6 @@
 use Rattle.std.proofs.Common.{arith}
 use Rattle.std.proofs.lemmas.Result.{IfOk-weaker}
-use Rattle.implicants.proofs.Lifting.{runs_best_at}
+use Rattle.implicants.proofs.LostAbove.{runs_best_at}
 use Rattle.implicants.proofs.Wholes.{whole_view}
 use Rattle.implicants.proofs.upward.own_at.Goals as goal
 

@@ -1,8 +1,8 @@
 use Rattle.std.proofs.Common.{arith, subst, sym, length-set, ◌∙◌, ◌<◌, ◌≤◌, ◌^◌}
 use Rattle.stl_syntax.specs.Trace.{first_time}
 use Rattle.implicants.specs.Upward.{AreLost}
-use Rattle.implicants.proofs.Gaining.{gained_lost}
-use Rattle.implicants.proofs.Lifting.{both_best, both_best_in}
+use Rattle.implicants.proofs.GivenUp.{gained_lost}
+use Rattle.implicants.proofs.LostAbove.{both_best, both_best_in}
 use Rattle.implicants.proofs.Wholes.{whole_both, whole_meet, whole_set}
 use Rattle.implicants.proofs.upward.put_lost.Goals as goal
 

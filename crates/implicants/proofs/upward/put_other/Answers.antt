@@ -1,7 +1,7 @@
 use Rattle.std.proofs.Common.{inl, inr, sym, ap, subst, Some, ◌∙◌}
 use Rattle.std.proofs.lemmas.Option.{same_Some}
 use Rattle.implicants.specs.Upward.{AreLost}
-use Rattle.implicants.proofs.Lifting.{put_best_in}
+use Rattle.implicants.proofs.LostAbove.{put_best_in}
 use Rattle.implicants.proofs.Wholes.{set_there, whole_set}
 use Rattle.implicants.proofs.upward.put_other.Goals as goal
 

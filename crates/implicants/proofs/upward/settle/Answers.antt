@@ -1,5 +1,5 @@
 use Rattle.std.proofs.Common.{inl, ◌∙◌, refl}
-use Rattle.implicants.proofs.Gaining.{settles_more}
+use Rattle.implicants.proofs.GivenUp.{settles_more}
 use Rattle.implicants.proofs.upward.settle.Goals as goal
 
 pub loop-j-init : goal.loop-j-init

@@ -2,7 +2,7 @@ use Rattle.std.proofs.Common.{◌≡◌, ◌<◌, Some, length, subst, sym, arit
 use Rattle.std.specs.Prelude.{slice_get}
 use Rattle.std.proofs.lemmas.Option.{slice_get-get_or}
 use Rattle.std.proofs.lemmas.Result.{on_ok_weaker}
-use Rattle.implicants.proofs.Gaining.{settles_one}
+use Rattle.implicants.proofs.GivenUp.{settles_one}
 use Rattle.implicants.proofs.upward.settle_run.Goals as goal
 
 pub returns-clause-settles : goal.returns-clause-settles

@@ -8,7 +8,7 @@ use Rattle.pl_signal.specs.declared.faults.OpFault.TheVariants as F
 use Rattle.stl_syntax.specs.declared.items.Item.{Item}
 use Rattle.stl_syntax.proofs.FormulaLemmas.{below_later}
 use Rattle.implicants.specs.Upward.{HasBest, HasBestIn, IsGround}
-use Rattle.implicants.proofs.Lifting.{IsMadeOf, child_not_atom, is_so, kids_best, node_best, node_never_wide, some_then}
+use Rattle.implicants.proofs.LostAbove.{IsMadeOf, child_not_atom, is_so, kids_best, node_best, node_never_wide, some_then}
 use Rattle.implicants.proofs.Wholes.{whole_made, whole_sound}
 use Rattle.implicants.proofs.upward.taken_on.Goals as goal
 use Rattle.implicants.proofs.upward.taken_on.Goals.{After-put_lost}

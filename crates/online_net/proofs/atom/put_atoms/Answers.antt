@@ -1,6 +1,6 @@
 use Rattle.std.proofs.Common.{◌≡◌, ◌+◌, length, not, refl, sym, ap, subst, ◌∙◌, arith}
 use Rattle.online_net.specs.Atoms.{HasPutAtoms}
-use Rattle.online_net.proofs.Saying.{none_at, none_not, put_more, put_skips}
+use Rattle.online_net.proofs.AtomVerdicts.{none_at, none_not, put_more, put_skips}
 use Rattle.online_net.proofs.atom.put_atoms.Goals as goal
 use Rattle.online_net.proofs.atom.put_atoms.Goals.{then-is_none+in_ok-put_atom, else-is_none}
 

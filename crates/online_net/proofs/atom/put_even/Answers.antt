@@ -3,7 +3,7 @@ use Rattle.rational.specs.Rational.{whole}
 use Rattle.frac128.specs.Spans.{interval}
 use Rattle.rational.specs.Places.{Place, begins, ends, Same}
 use Rattle.online_nodes.specs.Held.{Held, edge_at, with_edge, with_number}
-use Rattle.online_net.proofs.Saying.{even_put}
+use Rattle.online_net.proofs.AtomVerdicts.{even_put}
 use Rattle.online_net.proofs.atom.put_even.Goals as goal
 
 -- just after a number of ticks

@@ -1,7 +1,7 @@
 use Rattle.std.proofs.Common.{None, false, true, sym, ◌∙◌}
 use Rattle.frac128.proofs.Wholes.{same_at_tick}
 use Rattle.online_net.specs.Atoms.{after_row, before_row}
-use Rattle.online_net.proofs.Saying.{IsNew, new_is, first_begun}
+use Rattle.online_net.proofs.AtomVerdicts.{IsNew, new_is, first_begun}
 use Rattle.online_net.proofs.atom.put_first.Goals as goal
 use Rattle.online_net.proofs.atom.put_first.Goals.{After-new}
 

@@ -1,7 +1,7 @@
 use Rattle.std.proofs.Common.{true, ap, pos, ◌∙◌}
 use Rattle.frac128.proofs.Wholes.{same_at_tick}
 use Rattle.online_nodes.specs.Held.{Held, edge_at, with_edge, with_number}
-use Rattle.online_net.proofs.Saying.{atom_put}
+use Rattle.online_net.proofs.AtomVerdicts.{atom_put}
 use Rattle.online_net.proofs.atom.put_last.Goals as goal
 
 pub returns : goal.returns

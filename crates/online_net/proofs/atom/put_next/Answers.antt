@@ -1,5 +1,5 @@
 use Rattle.std.proofs.Common.{sym, ◌∙◌}
-use Rattle.online_net.proofs.Saying.{through}
+use Rattle.online_net.proofs.AtomVerdicts.{through}
 use Rattle.online_net.proofs.atom.put_next.Goals as goal
 
 pub put_turning-requires-clause-on : goal.put_turning-requires-clause-on

@@ -1,7 +1,7 @@
 use Rattle.std.proofs.Common.{sym, subst}
 use Rattle.rational.specs.Places.{Upto}
 use Rattle.frac128.specs.Cuts.{place}
-use Rattle.online_net.proofs.Saying.{said_three}
+use Rattle.online_net.proofs.AtomVerdicts.{said_three}
 use Rattle.online_net.proofs.atom.say_flip.Goals as goal
 
 pub upto-requires-2-clause-inside : goal.upto-requires-2-clause-inside

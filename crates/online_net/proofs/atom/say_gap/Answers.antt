@@ -1,7 +1,7 @@
 use Rattle.std.proofs.Common.{false, true, sym, subst, ◌∙◌}
 use Rattle.frac128.proofs.Wholes.{same_at_tick}
 use Rattle.online_net.specs.Atoms.{after_row}
-use Rattle.online_net.proofs.Saying.{new_is, new_inside, whole_begun, turn_begun}
+use Rattle.online_net.proofs.AtomVerdicts.{new_is, new_inside, whole_begun, turn_begun}
 use Rattle.stl_syntax.specs.Trace.{row_time}
 use Rattle.stl_syntax.specs.Truth.{holds_at}
 use Rattle.atom_lines.specs.Pieces.{TellsGap}

@@ -1,6 +1,6 @@
 use Rattle.std.proofs.Common.{refl}
 use Rattle.rational.proofs.Order.{same_sym}
-use Rattle.online_net.proofs.Saying.{room_after}
+use Rattle.online_net.proofs.AtomVerdicts.{room_after}
 use Rattle.online_net.proofs.atom.span_after.Goals as goal
 
 pub invariant_of-result : goal.invariant_of-result

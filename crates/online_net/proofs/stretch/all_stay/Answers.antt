@@ -3,7 +3,7 @@ use Rattle.std.specs.Prelude.{slice_get}
 use Rattle.std.proofs.lemmas.Bool.{cases_order}
 use Rattle.std.proofs.lemmas.Option.{slice_get_within}
 use Rattle.online_net.specs.Stretches.{StaysFrom}
-use Rattle.online_net.proofs.Saying.{none_at, none_not}
+use Rattle.online_net.proofs.AtomVerdicts.{none_at, none_not}
 use Rattle.online_net.proofs.stretch.all_stay.Goals as goal
 
 pub loop-i-init : goal.loop-i-init

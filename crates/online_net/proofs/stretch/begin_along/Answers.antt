@@ -10,7 +10,7 @@ use Rattle.atom_lines.specs.Passages.{TurnsInside}
 use Rattle.atom_lines.specs.Rows.{row_of}
 use Rattle.atom_lines.proofs.WayLemmas.{sum_read}
 use Rattle.online_net.specs.Stretches.{after_time, HasGone}
-use Rattle.online_net.proofs.Running.{come_first, first_order, later_order}
+use Rattle.online_net.proofs.AtomRuns.{come_first, first_order, later_order}
 use Rattle.online_net.proofs.stretch.begin_along.Goals as goal
 use Rattle.online_net.proofs.stretch.begin_along.Goals.{After-truth_behind}
 

@@ -2,7 +2,7 @@ use Rattle.std.proofs.Common.{◌<◌, sym, subst}
 use Rattle.rational.proofs.PlaceLemmas.{before_trans}
 use Rattle.frac128.specs.Cuts.{place}
 use Rattle.online_net.specs.Stretches.{before_time}
-use Rattle.online_net.proofs.Running.{passed_before, passed_count, gone}
+use Rattle.online_net.proofs.AtomRuns.{passed_before, passed_count, gone}
 use Rattle.online_net.proofs.stretch.go_along.Goals as goal
 
 pub pass-requires-clause-inside : goal.pass-requires-clause-inside

@@ -9,7 +9,7 @@ use Rattle.atom_lines.specs.Passages.{TurnsInside}
 use Rattle.atom_lines.specs.Rows.{row_of}
 use Rattle.atom_lines.proofs.WayLemmas.{sum_read}
 use Rattle.online_net.specs.Stretches.{after_time, HasGone}
-use Rattle.online_net.proofs.Running.{come_on, goes_some}
+use Rattle.online_net.proofs.AtomRuns.{come_on, goes_some}
 use Rattle.online_net.proofs.stretch.go_on.Goals as goal
 
 abbrev none : Row

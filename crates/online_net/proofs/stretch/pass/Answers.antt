@@ -5,7 +5,7 @@ use Rattle.rational.proofs.PlaceLemmas.{before_same, same_places}
 use Rattle.frac128.specs.Cuts.{place}
 use Rattle.atom_lines.specs.Passages.{TurnsInside, crossing_time}
 use Rattle.online_net.specs.Stretches.{after_time, first_truth, HasPassed, HasTurned}
-use Rattle.online_net.proofs.Running.{more_count}
+use Rattle.online_net.proofs.AtomRuns.{more_count}
 use Rattle.online_net.proofs.stretch.pass.Goals as goal
 
 pub turn_at_row-requires-clause-some : goal.turn_at_row-requires-clause-some

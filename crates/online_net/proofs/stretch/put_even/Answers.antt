@@ -4,7 +4,7 @@ use Rattle.frac128.specs.Spans.{interval}
 use Rattle.stl_syntax.specs.Trace.{Row}
 use Rattle.stl_syntax.specs.declared.items.Verdict.{Verdict}
 use Rattle.online_net.specs.Stretches.{after_time}
-use Rattle.online_net.proofs.Running.{steady_put}
+use Rattle.online_net.proofs.AtomRuns.{steady_put}
 use Rattle.online_net.proofs.stretch.put_even.Goals as goal
 
 abbrev none : Row

@@ -7,7 +7,7 @@ use Rattle.stl_syntax.specs.Trace.{Row}
 use Rattle.atom_lines.specs.Passages.{TurnsInside}
 use Rattle.atom_lines.specs.Rows.{row_of}
 use Rattle.online_net.specs.Stretches.{after_time, HasGone, HasPutTwo}
-use Rattle.online_net.proofs.Running.{come_first, last_gap, more_count, put_run_to, stretch_put, two_put}
+use Rattle.online_net.proofs.AtomRuns.{come_first, last_gap, more_count, put_run_to, stretch_put, two_put}
 use Rattle.online_net.proofs.stretch.put_gap.Goals as goal
 
 abbrev none : Row

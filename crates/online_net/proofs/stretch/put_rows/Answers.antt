@@ -2,7 +2,7 @@ use Rattle.std.proofs.Common.{◌≡◌, ◌+◌, [], length, not, refl, sym, ap
 use Rattle.stl_syntax.specs.Trace.{Row}
 use Rattle.online_nodes.specs.Held.{Held, edge_at, with_edge, with_number}
 use Rattle.online_net.specs.Stretches.{HaveRows}
-use Rattle.online_net.proofs.Saying.{none_at, none_not}
+use Rattle.online_net.proofs.AtomVerdicts.{none_at, none_not}
 use Rattle.online_net.proofs.EdgeRows.{rows_count, rows_more, rows_skip}
 use Rattle.online_net.proofs.stretch.put_rows.Goals as goal
 use Rattle.online_net.proofs.stretch.put_rows.Goals.{then-is_none+in_ok-put_verdicts, else-is_none}

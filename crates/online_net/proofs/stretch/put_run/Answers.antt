@@ -1,5 +1,5 @@
 use Rattle.rational.proofs.PlaceLemmas.{same_places}
-use Rattle.online_net.proofs.Running.{put_given}
+use Rattle.online_net.proofs.AtomRuns.{put_given}
 use Rattle.online_net.proofs.stretch.put_run.Goals as goal
 
 pub returns : goal.returns

@@ -6,7 +6,7 @@ use Rattle.stl_syntax.specs.declared.items.Verdict.{Verdict}
 use Rattle.atom_lines.specs.Rows.{row_of}
 use Rattle.online_net.specs.Stretches.{after_time}
 use Rattle.online_net.proofs.EdgeRows.{rows_rise}
-use Rattle.online_net.proofs.Running.{put_given, steady_put}
+use Rattle.online_net.proofs.AtomRuns.{put_given, steady_put}
 use Rattle.online_net.proofs.stretch.put_steady.Goals as goal
 
 abbrev none : Row

@@ -1,6 +1,6 @@
 use Rattle.std.proofs.Common.{◌<◌, refl, sym, subst, not}
 use Rattle.stl_syntax.specs.declared.items.Verdict.{Verdict}
-use Rattle.online_net.proofs.Running.{more_both, more_count, put_given}
+use Rattle.online_net.proofs.AtomRuns.{more_both, more_count, put_given}
 use Rattle.online_net.proofs.stretch.put_turned.Goals as goal
 
 pub put-requires-2 : goal.put-requires-2

@@ -5,7 +5,7 @@ use Rattle.frac128.specs.Cuts.{place}
 use Rattle.stl_syntax.specs.Trace.{Row}
 use Rattle.atom_lines.specs.Rows.{row_of}
 use Rattle.online_net.specs.Stretches.{after_time}
-use Rattle.online_net.proofs.Running.{more_count, put_run_to, stretch_put}
+use Rattle.online_net.proofs.AtomRuns.{more_count, put_run_to, stretch_put}
 use Rattle.online_net.proofs.stretch.put_ways.Goals as goal
 use Rattle.online_net.proofs.stretch.put_ways.Goals.{After-tick_cut-end}
 

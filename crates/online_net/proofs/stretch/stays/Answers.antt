@@ -2,7 +2,7 @@ use Rattle.rational.proofs.Order.{same_refl}
 use Rattle.stl_syntax.specs.Trace.{row_time}
 use Rattle.atom_lines.specs.Rows.{row_of}
 use Rattle.online_net.specs.Stretches.{CanGoAlong}
-use Rattle.online_net.proofs.Running.{stays_from}
+use Rattle.online_net.proofs.AtomRuns.{stays_from}
 use Rattle.online_net.proofs.stretch.stays.Goals as goal
 use Rattle.online_net.proofs.stretch.stays.Goals.{After-way_from-way}
 

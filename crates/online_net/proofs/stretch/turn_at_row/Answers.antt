@@ -6,7 +6,7 @@ use Rattle.rational.proofs.Tests.{same_of_beq}
 use Rattle.frac128.specs.Cuts.{place}
 use Rattle.online_nodes.proofs.ToldSoFar.{other_bool}
 use Rattle.online_net.specs.Stretches.{HasTurned}
-use Rattle.online_net.proofs.Running.{turn_none, turned_is}
+use Rattle.online_net.proofs.AtomRuns.{turn_none, turned_is}
 use Rattle.online_net.proofs.stretch.turn_at_row.Goals as goal
 
 pub turn_over-requires-clause-some : goal.turn_over-requires-clause-some

@@ -1,4 +1,4 @@
-use Rattle.online_net.proofs.Running.{turned_over}
+use Rattle.online_net.proofs.AtomRuns.{turned_over}
 use Rattle.online_net.proofs.stretch.turn_over.Goals as goal
 
 pub returns : goal.returns

@@ -1,5 +1,5 @@
 use Rattle.std.proofs.Common.{sym}
-use Rattle.online_net.proofs.Running.{turned_is}
+use Rattle.online_net.proofs.AtomRuns.{turned_is}
 use Rattle.online_net.proofs.stretch.turned_at_row.Goals as goal
 
 pub returns : goal.returns

@@ -3,7 +3,7 @@ use Rattle.std.specs.Int.{w64}
 use Rattle.rational.specs.Rational.{◌≈◌, whole}
 use Rattle.frac128.specs.Value.{value}
 use Rattle.online_robust.specs.declared.pointwise.Not as Own
-use Rattle.online_robust.proofs.Bridging.{can_negate, not_couple, not_edges, not_stands, not_told}
+use Rattle.online_robust.proofs.OperatorBodies.{can_negate, not_couple, not_edges, not_stands, not_told}
 use Rattle.online_robust.proofs.operator.sweep_not.Goals as goal
 
 pub sweep-requires : goal.sweep-requires

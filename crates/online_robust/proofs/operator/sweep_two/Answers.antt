@@ -5,8 +5,8 @@ use Rattle.rational.proofs.Lists.{on_err_anyway}
 use Rattle.frac128.specs.Value.{value}
 use Rattle.online_robust.specs.Refusing.{told_by}
 use Rattle.online_robust.specs.Steps.{IsStreamedFault}
-use Rattle.online_robust.proofs.Refusing.{memory_told}
-use Rattle.online_robust.proofs.Bridging.{can_join, two_couple, two_edges, two_stands, two_told, two_fault}
+use Rattle.online_robust.proofs.RefusalsBeside.{memory_told}
+use Rattle.online_robust.proofs.OperatorBodies.{can_join, two_couple, two_edges, two_stands, two_told, two_fault}
 use Rattle.online_robust.proofs.operator.sweep_two.Goals as goal
 
 pub sweep-requires-clause-can : goal.sweep-requires-clause-can

@@ -33,7 +33,7 @@ use Rattle.online_robust.proofs.SlideCuts.{read_drops, reads_both}
 use Rattle.online_robust.proofs.SlideGone.{all_under, follows_under, gone, has_all, next_seen, none_early, read_same}
 use Rattle.online_robust.proofs.SlideRefused.{some_of_none, tell_refused}
 use Rattle.online_robust.proofs.SlideStretch.{told_stretch}
-use Rattle.online_robust.proofs.SlideTelling.{best_told}
+use Rattle.online_robust.proofs.SlideSignal.{best_told}
 use Rattle.online_robust.proofs.slide.go_to.Goals.{After-read_under, In_ok-tell}
 use Rattle.online_robust.proofs.slide.go_to.Goals as goal
 

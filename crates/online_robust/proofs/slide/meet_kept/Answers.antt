@@ -2,7 +2,7 @@ use Rattle.std.proofs.Common.{Some, subst}
 use Rattle.online_robust.specs.Held.{Held}
 use Rattle.online_robust.specs.Slides.{Course, IsKeptBelow, IsOnWay}
 use Rattle.online_robust.proofs.SlideMeets.{kept_comes, kept_refused, met_kept}
-use Rattle.online_robust.proofs.SlideTaking.{follows_kept, kept_next}
+use Rattle.online_robust.proofs.SlideInput.{follows_kept, kept_next}
 use Rattle.online_robust.proofs.slide.meet_kept.Goals.{In-Some}
 use Rattle.online_robust.proofs.slide.meet_kept.Goals as goal
 

@@ -10,7 +10,7 @@ use Rattle.online_robust.specs.Slides.{IsOnWay, IsTakenIn, IsUnder}
 use Rattle.online_robust.proofs.SlideCuts.{reads_none}
 use Rattle.online_robust.proofs.SlideGone.{none_under}
 use Rattle.online_robust.proofs.SlideMeets.{HasReadLine, keeps_line, met_before, reads_line, stands_course, stands_time}
-use Rattle.online_robust.proofs.SlideTaking.{follows_all}
+use Rattle.online_robust.proofs.SlideInput.{follows_all}
 use Rattle.online_robust.proofs.slide.read_under.Goals.{After-pass}
 use Rattle.online_robust.proofs.slide.read_under.Goals as goal
 

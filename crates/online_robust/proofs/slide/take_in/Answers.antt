@@ -15,7 +15,7 @@ use Rattle.online_robust.specs.Held.{fresh_at}
 use Rattle.online_robust.specs.Slides.{Course}
 use Rattle.online_robust.proofs.SlideMeets.{HasReadLine, comes_for, line_refused, met_line, read_fewer, read_first, reads_line}
 use Rattle.online_robust.proofs.SlideCuts.{reads_both, reads_none}
-use Rattle.online_robust.proofs.SlideTaking.{all_of, comes_next, follows_all, high_is}
+use Rattle.online_robust.proofs.SlideInput.{all_of, comes_next, follows_all, high_is}
 use Rattle.online_robust.proofs.slide.take_in.Goals.{After-pass}
 use Rattle.online_robust.proofs.slide.take_in.Goals as goal
 

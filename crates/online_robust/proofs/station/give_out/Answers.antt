@@ -3,7 +3,7 @@ use Rattle.std.specs.Int.{w64}
 use Rattle.rational.proofs.Lists.{on_err_anyway}
 use Rattle.online_robust.specs.Held.{edge_at, with_edge, with_number}
 use Rattle.online_robust.specs.Refusing.{told_by}
-use Rattle.online_robust.proofs.Stationing.{given_out, given_within, swept_fault, swept_turn, turn_edge}
+use Rattle.online_robust.proofs.StationCalls.{given_out, given_within, swept_fault, swept_turn, turn_edge}
 use Rattle.online_robust.proofs.station.give_out.Goals as goal
 
 pub sweep-requires-clause-can : goal.sweep-requires-clause-can

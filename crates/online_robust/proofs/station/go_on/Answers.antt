@@ -5,7 +5,7 @@ use Rattle.std.proofs.lemmas.Bool.{false≢true}
 use Rattle.std.proofs.lemmas.Int.{to_z-of_z}
 use Rattle.online_robust.specs.Held.{edge_at, with_edge, with_number}
 use Rattle.online_robust.specs.Moving.{CanGiveOut, CanGoTo, Move}
-use Rattle.online_robust.proofs.Stationing.{go_below, go_give, go_same}
+use Rattle.online_robust.proofs.StationCalls.{go_below, go_give, go_same}
 use Rattle.online_robust.proofs.station.go_on.Goals.{After-was_shown}
 use Rattle.online_robust.proofs.station.go_on.Goals as goal
 

@@ -1,7 +1,7 @@
 use Rattle.std.proofs.Common.{◌<◌, arith, sym, subst}
 use Rattle.rational.specs.Affine.{IsSteady}
 use Rattle.pieces.proofs.LevelsLemmas.{place_of_shape}
-use Rattle.pieces.proofs.Standing.{is_inside}
+use Rattle.pieces.proofs.ReadUpTo.{is_inside}
 use Rattle.pieces.proofs.levels.are_levels.Goals as goal
 
 pub returns : goal.returns

@@ -1,6 +1,6 @@
 use Rattle.std.proofs.Common.{◌≡◌, ◌-◌, suc, arith, sym, subst}
 use Rattle.pieces.specs.Chains.{begin_at, end}
-use Rattle.pieces.proofs.Standing.{next_begin}
+use Rattle.pieces.proofs.ReadUpTo.{next_begin}
 use Rattle.pieces.proofs.levels.begin_of.Goals as goal
 
 pub returns : goal.returns

@@ -4,7 +4,7 @@ use Rattle.rational.specs.Extended.{◌≈ᵉ◌, value_at}
 use Rattle.pl_signal.proofs.Values.{some_is}
 use Rattle.pieces.specs.Levels.{IsBestOf}
 use Rattle.pieces.proofs.Shifts.{high_from, high_to, room}
-use Rattle.pieces.proofs.Standing.{shape_at}
+use Rattle.pieces.proofs.ReadUpTo.{shape_at}
 use Rattle.pieces.proofs.levels.best_of.Goals as goal
 
 pub at_high-requires-clause-room : goal.at_high-requires-clause-room

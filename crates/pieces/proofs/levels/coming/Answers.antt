@@ -5,7 +5,7 @@ use Rattle.frac128.specs.Cuts.{place}
 use Rattle.frac128.specs.declared.cut.Cut.{Cut}
 use Rattle.pieces.specs.Chains.{begin_at}
 use Rattle.pieces.proofs.LevelsLemmas.{begin_from, begin_to, item_at}
-use Rattle.pieces.proofs.Reaching.{reached_in}
+use Rattle.pieces.proofs.WindowPlaces.{reached_in}
 use Rattle.pieces.proofs.levels.coming.Goals as goal
 
 -- one of two cuts, as places

@@ -1,5 +1,5 @@
 use Rattle.std.proofs.Common.{arith}
-use Rattle.pieces.proofs.Standing.{is_inside}
+use Rattle.pieces.proofs.ReadUpTo.{is_inside}
 use Rattle.pieces.proofs.LevelsLemmas.{end_from, end_to}
 use Rattle.pieces.proofs.levels.going.Goals as goal
 

@@ -1,7 +1,7 @@
 use Rattle.std.proofs.Common.{◌≡◌, arith, sym, subst}
 use Rattle.std.proofs.lemmas.Result.{IfOk-weaker}
 use Rattle.pieces.specs.Levels.{AreTurned}
-use Rattle.pieces.proofs.Standing.{level_at, shape_at}
+use Rattle.pieces.proofs.ReadUpTo.{level_at, shape_at}
 use Rattle.pieces.proofs.levels.range_of.Goals as goal
 
 pub turned-item-requires-clause-steady : goal.turned-item-requires-clause-steady

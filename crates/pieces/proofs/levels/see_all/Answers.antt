@@ -9,7 +9,7 @@ use Rattle.pieces.proofs.ChainLemmas.{to_stop}
 use Rattle.pieces.proofs.Ends.{at_most_itself, at_most_trans, same_place}
 use Rattle.pieces.proofs.LevelsLemmas.{further, place_within}
 use Rattle.pieces.proofs.OverWindow.{best_is_function}
-use Rattle.pieces.proofs.Telling.{tells_none, told}
+use Rattle.pieces.proofs.ChainsTell.{tells_none, told}
 use Rattle.rational.proofs.PlaceLemmas.{same_of_at_most}
 use Rattle.pieces.proofs.levels.see_all.Goals as goal
 

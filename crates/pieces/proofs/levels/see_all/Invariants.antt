@@ -4,7 +4,7 @@ use Rattle.pieces.specs.Chains.{stop}
 use Rattle.pieces.specs.Levels.{AreTurned, Counts}
 use Rattle.pieces.specs.Over.{BasesOver}
 use Rattle.pieces.specs.Windows.{BestOver}
-use Rattle.pieces.proofs.Telling.{TellsSoFar}
+use Rattle.pieces.proofs.ChainsTell.{TellsSoFar}
 use Rattle.pieces.proofs.levels.see_all.Given as goal
 
 abbrev pub invariant-loop-seen : goal.invariant-loop-seen

@@ -2,7 +2,7 @@ use Rattle.std.proofs.Common.{◌≡◌, ◌+◌, ◌<◌, length, set, suc, ref
 use Rattle.std.proofs.lemmas.Option.{slice_get_read}
 use Rattle.pl_signal.proofs.Values.{some_is}
 use Rattle.pieces.specs.declared.piece.Piece.{Piece}
-use Rattle.pieces.proofs.Negating.{AreOppositeTo, opposite_step, opposite_all, opposite_here, opposite_length}
+use Rattle.pieces.proofs.NegatedChains.{AreOppositeTo, opposite_step, opposite_all, opposite_here, opposite_length}
 use Rattle.pieces.proofs.negation.negate_each.Goals as goal
 
 pub neg-negated-requires : goal.neg-negated-requires

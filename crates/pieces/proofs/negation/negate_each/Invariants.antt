@@ -1,4 +1,4 @@
-use Rattle.pieces.proofs.Negating.{AreOppositeTo}
+use Rattle.pieces.proofs.NegatedChains.{AreOppositeTo}
 use Rattle.pieces.proofs.negation.negate_each.Given as goal
 
 abbrev pub invariant-loop-i : goal.invariant-loop-i

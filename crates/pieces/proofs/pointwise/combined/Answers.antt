@@ -14,10 +14,10 @@ use Rattle.pieces.specs.Joining.{IsJoinFault}
 use Rattle.pieces.proofs.Ends.{after_of_lt, upto_of_lt, at_most_itself, at_most_of_before, at_most_trans, same_place}
 use Rattle.pieces.proofs.BuildingLemmas.{chain_of}
 use Rattle.pieces.proofs.ChainLemmas.{to_stop}
-use Rattle.pieces.proofs.Telling.{chosen_is_function, worth_is_function, tells_none, told}
-use Rattle.pieces.proofs.Standing.{StandsAt, stands_first, stands_last, shape_at, level_at}
+use Rattle.pieces.proofs.ChainsTell.{chosen_is_function, worth_is_function, tells_none, told}
+use Rattle.pieces.proofs.ReadUpTo.{StandsAt, stands_first, stands_last, shape_at, level_at}
 use Rattle.pieces.proofs.CombiningLemmas.{JoinsBoth, joined_shapes, tells_joined, fault_of_parts}
-use Rattle.pieces.proofs.Walking.{IsStep, has_other, step_below, step_later, step_left, step_left_on, step_nearer, step_right, step_right_on, step_within}
+use Rattle.pieces.proofs.TwoChains.{IsStep, has_other, step_below, step_later, step_left, step_left_on, step_nearer, step_right, step_right_on, step_within}
 use Rattle.pieces.proofs.pointwise.combined.Given.{Over}
 use Rattle.pieces.proofs.pointwise.combined.Goals.{After-of-next}
 use Rattle.pieces.proofs.pointwise.combined.Goals as goal

@@ -3,8 +3,8 @@ use Rattle.rational.specs.Rational.{IsWithin}
 use Rattle.rational.specs.Places.{AtMost}
 use Rattle.pl_signal.specs.Joining.{ChosenOf}
 use Rattle.pieces.specs.Chains.{IsWorth, HasShape, stop}
-use Rattle.pieces.proofs.Telling.{TellsSoFar}
-use Rattle.pieces.proofs.Standing.{StandsAt}
+use Rattle.pieces.proofs.ChainsTell.{TellsSoFar}
+use Rattle.pieces.proofs.ReadUpTo.{StandsAt}
 use Rattle.pieces.proofs.pointwise.combined.Given as goal
 
 abbrev pub invariant-loop-i : goal.invariant-loop-i

@@ -14,7 +14,7 @@ use Rattle.pieces.specs.Chains.{HasShape, Tells, stop}
 use Rattle.pieces.specs.Knots.{before, after}
 use Rattle.pieces.proofs.Ends.{same_place}
 use Rattle.pieces.proofs.BuildingLemmas.{chain_of}
-use Rattle.pieces.proofs.Telling.{tells_none, told}
+use Rattle.pieces.proofs.ChainsTell.{tells_none, told}
 use Rattle.pieces.proofs.KnotLemmas.{tells_knot, ends_knot, just_later, tells_last}
 use Rattle.pieces.proofs.signals.pieces_of.Given.{Over}
 use Rattle.pieces.proofs.signals.pieces_of.Goals.{After-knot_in_place-end, In_ok-put}

@@ -5,7 +5,7 @@ use Rattle.pl_signal.specs.Knots as knots
 use Rattle.pl_signal.specs.declared.knot.Knot.{Knot}
 use Rattle.pieces.specs.Chains.{HasShape, stop}
 use Rattle.pieces.specs.Knots.{before}
-use Rattle.pieces.proofs.Telling.{TellsSoFar}
+use Rattle.pieces.proofs.ChainsTell.{TellsSoFar}
 use Rattle.pieces.proofs.signals.pieces_of.Given as goal
 
 abbrev pub invariant-loop-i : goal.invariant-loop-i

@@ -3,7 +3,7 @@ use Rattle.rational.specs.Extended.{value_at}
 use Rattle.pl_signal.proofs.Values.{some_is}
 use Rattle.pieces.specs.Chains.{IsWorth, end}
 use Rattle.pieces.proofs.KnotLemmas.{side_after, side_before, own_worth, next_worth, has_next}
-use Rattle.pieces.proofs.Standing.{shape_at}
+use Rattle.pieces.proofs.ReadUpTo.{shape_at}
 use Rattle.pieces.proofs.signals.shape_at_end.Goals as goal
 
 pub piece-requires : goal.piece-requires

@@ -12,8 +12,8 @@ use Rattle.pl_signal.specs.Moves as moves
 use Rattle.pl_signal.proofs.Telling as so_far
 use Rattle.pieces.specs.Chains.{IsWorth, end, stop}
 use Rattle.pieces.proofs.Ends.{at_most_of_before, at_most_trans}
-use Rattle.pieces.proofs.Telling.{worth_is_function}
-use Rattle.pieces.proofs.Standing.{begin_at, begin_most, next_begin, last_begin, rises_at, end_most, shape_at}
+use Rattle.pieces.proofs.ChainsTell.{worth_is_function}
+use Rattle.pieces.proofs.ReadUpTo.{begin_at, begin_most, next_begin, last_begin, rises_at, end_most, shape_at}
 use Rattle.pieces.proofs.KnotLemmas.{signal_first, signal_first_shapes, added_begins, added_ends, added_tells, added_shapes, gap_worth}
 use Rattle.pieces.proofs.signals.signal_of.Goals as goal
 

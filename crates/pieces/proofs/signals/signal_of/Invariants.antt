@@ -6,7 +6,7 @@ use Rattle.frac128.specs.Cuts.{place}
 use Rattle.pl_signal.specs.Knots as knots
 use Rattle.pl_signal.proofs.Telling as so_far
 use Rattle.pieces.specs.Chains.{HasShape, IsWorth}
-use Rattle.pieces.proofs.Standing.{begin_at}
+use Rattle.pieces.proofs.ReadUpTo.{begin_at}
 use Rattle.pieces.proofs.signals.signal_of.Given as goal
 
 abbrev pub invariant-loop-i : goal.invariant-loop-i

@@ -21,9 +21,9 @@ use Rattle.pieces.specs.Sinces.{SinceOf, SinceStep}
 use Rattle.pieces.proofs.Ends.{at_most_itself, at_most_of_before, at_most_trans, same_place}
 use Rattle.pieces.proofs.BuildingLemmas.{chain_of}
 use Rattle.pieces.proofs.ChainLemmas.{to_stop, worth_after}
-use Rattle.pieces.proofs.Telling.{tells_none, told}
-use Rattle.pieces.proofs.Standing.{StandsAt, stands_first, stands_last, shape_at}
-use Rattle.pieces.proofs.Walking.{IsStep, has_other, step_below, step_later, step_left, step_left_on, step_nearer, step_right, step_right_on, step_within}
+use Rattle.pieces.proofs.ChainsTell.{tells_none, told}
+use Rattle.pieces.proofs.ReadUpTo.{StandsAt, stands_first, stands_last, shape_at}
+use Rattle.pieces.proofs.TwoChains.{IsStep, has_other, step_below, step_later, step_left, step_left_on, step_nearer, step_right, step_right_on, step_within}
 use Rattle.pieces.proofs.Breakpoints.{breakpoint_at}
 use Rattle.pieces.proofs.SincePlaces.{since_begins}
 use Rattle.pieces.proofs.SinceSteps.{AreOperands, Breaks, IsPart, SinceAt, bases_of_stand, is_fit, refused, since_is, through}

@@ -2,7 +2,7 @@ use Rattle.std.proofs.Common.{◌≡◌, ◌+◌, ◌-◌, ◌^◌, None, length
 use Rattle.rational.specs.Rational.{IsWithin}
 use Rattle.rational.specs.Places.{AtMost}
 use Rattle.pieces.specs.Chains.{stop}
-use Rattle.pieces.proofs.Standing.{StandsAt}
+use Rattle.pieces.proofs.ReadUpTo.{StandsAt}
 use Rattle.pieces.proofs.SinceSteps.{Breaks, Stands}
 use Rattle.pieces.proofs.since.since_from_start.Given as goal
 

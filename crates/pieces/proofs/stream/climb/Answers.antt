@@ -12,12 +12,12 @@ use Rattle.pieces.specs.Chains.{end, stop}
 use Rattle.pieces.specs.Causes.{IsCauseBelow}
 use Rattle.pieces.specs.Sliding.{IsToldFault}
 use Rattle.pieces.proofs.Bests.{nw_back, nw_same, nw_trans}
-use Rattle.pieces.proofs.Counted.{none_refused, rise_plays}
+use Rattle.pieces.proofs.CountsInPlay.{none_refused, rise_plays}
 use Rattle.pieces.proofs.Hands.{has_climbed}
-use Rattle.pieces.proofs.Holding.{told_within}
-use Rattle.pieces.proofs.Meeting.{moved_level, on_ok_two}
+use Rattle.pieces.proofs.PieceEnds.{told_within}
+use Rattle.pieces.proofs.BestEnd.{moved_level, on_ok_two}
 use Rattle.pieces.proofs.Ones.{no_steps, no_worse_climbed}
-use Rattle.pieces.proofs.Played.{told_cause}
+use Rattle.pieces.proofs.InPlayCauses.{told_cause}
 use Rattle.pieces.proofs.Refusals.{narrow_told, none_of_refused}
 use Rattle.pieces.proofs.Shifts.{high_from, high_to, room}
 use Rattle.pieces.proofs.stream.climb.Goals as goal

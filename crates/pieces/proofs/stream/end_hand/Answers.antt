@@ -4,7 +4,7 @@ use Rattle.frac128.specs.Cuts.{place}
 use Rattle.pieces.specs.Chains.{Chain}
 use Rattle.pieces.specs.Hands.{Leaves}
 use Rattle.pieces.specs.Meeting.{IsHeldFault}
-use Rattle.pieces.proofs.Counted.{none_refused}
+use Rattle.pieces.proofs.CountsInPlay.{none_refused}
 use Rattle.pieces.proofs.Hands.{leaves_ends, leaves_met}
 use Rattle.pieces.proofs.stream.end_hand.Given.{Over}
 use Rattle.pieces.proofs.stream.end_hand.Goals.{In-Some, In-None}

@@ -6,9 +6,9 @@ use Rattle.pieces.specs.Causes.{IsCauseBelow}
 use Rattle.pieces.specs.Chains.{Chain, end}
 use Rattle.pieces.specs.Hands.{EndsHand}
 use Rattle.pieces.specs.Meeting.{IsHeldFault}
-use Rattle.pieces.proofs.Counted.{none_refused}
+use Rattle.pieces.proofs.CountsInPlay.{none_refused}
 use Rattle.pieces.proofs.Hands.{ends_met, ends_rises}
-use Rattle.pieces.proofs.Holding.{piece_first, piece_last}
+use Rattle.pieces.proofs.PieceEnds.{piece_first, piece_last}
 use Rattle.pieces.proofs.Ones.{no_worse_climbed}
 use Rattle.pieces.proofs.stream.end_piece.Given.{Over}
 use Rattle.pieces.proofs.stream.end_piece.Goals.{In-Greater}

@@ -6,8 +6,8 @@ use Rattle.frac128.specs.Cuts.{place}
 use Rattle.value_laws.specs.Members.{ShapeLaws}
 use Rattle.pieces.specs.Chains.{end, stop}
 use Rattle.pieces.proofs.Ends.{at_most_of_same}
-use Rattle.pieces.proofs.Holding.{met_climbed, met_one, piece_first, piece_last, told_within}
-use Rattle.pieces.proofs.Meeting.{on_ok_two}
+use Rattle.pieces.proofs.PieceEnds.{met_climbed, met_one, piece_first, piece_last, told_within}
+use Rattle.pieces.proofs.BestEnd.{on_ok_two}
 use Rattle.pieces.proofs.Ones.{no_steps, stands_one}
 use Rattle.pieces.proofs.Shifts.{high_from, high_to, room}
 use Rattle.pieces.proofs.stream.leave.Goals as goal

@@ -11,8 +11,8 @@ use Rattle.pieces.specs.Hands.{GoesFurther, IsTaken}
 use Rattle.pieces.specs.Steps.{AreSteps, HasSlid}
 use Rattle.pieces.proofs.Bests.{nw_back, nw_same, nw_trans}
 use Rattle.pieces.proofs.Hands.{counts_of, further_base, further_climbs, further_counts}
-use Rattle.pieces.proofs.Holding.{piece_first, piece_last}
-use Rattle.pieces.proofs.Meeting.{moved_level}
+use Rattle.pieces.proofs.PieceEnds.{piece_first, piece_last}
+use Rattle.pieces.proofs.BestEnd.{moved_level}
 use Rattle.pieces.proofs.Shifts.{low_from, low_to, room}
 use Rattle.pieces.proofs.stream.lengthen.Goals as goal
 

@@ -9,9 +9,9 @@ use Rattle.value_laws.specs.Members.{ShapeLaws}
 use Rattle.pieces.specs.Chains.{stop}
 use Rattle.pieces.specs.Sliding.{IsToldFault}
 use Rattle.pieces.proofs.Hands.{has_rested}
-use Rattle.pieces.proofs.Holding.{told_within}
-use Rattle.pieces.proofs.Meeting.{none_last, none_level, none_rises, on_ok_two}
-use Rattle.pieces.proofs.Played.{told_cause_none}
+use Rattle.pieces.proofs.PieceEnds.{told_within}
+use Rattle.pieces.proofs.BestEnd.{none_last, none_level, none_rises, on_ok_two}
+use Rattle.pieces.proofs.InPlayCauses.{told_cause_none}
 use Rattle.pieces.proofs.Refusals.{narrow_told, none_of_refused}
 use Rattle.pieces.proofs.stream.rest.Goals as goal
 

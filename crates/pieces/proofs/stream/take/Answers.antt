@@ -5,7 +5,7 @@ use Rattle.frac128.specs.Cuts.{place}
 use Rattle.pieces.specs.Chains.{end}
 use Rattle.pieces.proofs.Bests.{nw_same}
 use Rattle.pieces.proofs.Hands.{taken_climbs, taken_counts}
-use Rattle.pieces.proofs.Holding.{piece_first, piece_last}
+use Rattle.pieces.proofs.PieceEnds.{piece_first, piece_last}
 use Rattle.pieces.proofs.Trends.{no_better_of, no_worse_of, steady_of}
 use Rattle.pieces.proofs.stream.take.Goals as goal
 

@@ -7,7 +7,7 @@ use Rattle.frac128.specs.Cuts.{place}
 use Rattle.pieces.specs.Streaming.{before_time}
 use Rattle.pieces.proofs.Ends.{earlier_upto}
 use Rattle.pieces.proofs.Hands.{before_here, climbed_best, climbed_past}
-use Rattle.pieces.proofs.Holding.{piece_first, piece_last}
+use Rattle.pieces.proofs.PieceEnds.{piece_first, piece_last}
 use Rattle.pieces.proofs.Shifts.{high_from, high_to, room}
 use Rattle.pieces.proofs.stream.with_climb.Goals as goal
 

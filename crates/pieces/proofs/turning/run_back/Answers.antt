@@ -7,8 +7,8 @@ use Rattle.pieces.specs.Turning.{RunBack, turned}
 use Rattle.rational.proofs.RunningBack.{turned_of}
 use Rattle.pieces.specs.Building.{GoesOn}
 use Rattle.pieces.proofs.BuildingLemmas.{chain_of, goes_on_new}
-use Rattle.pieces.proofs.Telling.{tells_none, told, worth_is_function}
-use Rattle.pieces.proofs.Standing.{last_begin, next_begin, shape_at}
+use Rattle.pieces.proofs.ChainsTell.{tells_none, told, worth_is_function}
+use Rattle.pieces.proofs.ReadUpTo.{last_begin, next_begin, shape_at}
 use Rattle.pieces.proofs.RunningBack.{EndsTurned, back_is_function, base_within, bases_back, begin_within, ends_turned, later_turned, new_turned, none_turned}
 use Rattle.pieces.proofs.RunningBack.{tells_back}
 use Rattle.pieces.proofs.turning.run_back.Given.{Over}

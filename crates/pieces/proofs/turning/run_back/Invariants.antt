@@ -3,7 +3,7 @@ use Rattle.rational.specs.Places.{Same}
 use Rattle.pieces.specs.Chains.{IsWorth, begin_at, stop}
 use Rattle.pieces.specs.Negating.{BasesFrom}
 use Rattle.pieces.specs.Turning.{RunBack, turned}
-use Rattle.pieces.proofs.Telling.{TellsSoFar}
+use Rattle.pieces.proofs.ChainsTell.{TellsSoFar}
 use Rattle.pieces.proofs.RunningBack.{EndsTurned}
 use Rattle.pieces.proofs.turning.run_back.Given as goal
 

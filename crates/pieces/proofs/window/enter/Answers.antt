@@ -7,13 +7,13 @@ use Rattle.frac128.specs.Cuts.{place}
 use Rattle.value_laws.specs.Members.{ShapeLaws}
 use Rattle.pieces.specs.Chains.{stop}
 use Rattle.pieces.proofs.Ends.{at_most_itself, at_most_of_same, at_most_trans}
-use Rattle.pieces.proofs.Holding.{reach_below, reach_within, reached_narrow, told_within}
-use Rattle.pieces.proofs.Meeting.{none_last, none_level, none_rises, on_ok_two}
-use Rattle.pieces.proofs.Moving.{best_with_none, keeps_told, tells_more}
+use Rattle.pieces.proofs.PieceEnds.{reach_below, reach_within, reached_narrow, told_within}
+use Rattle.pieces.proofs.BestEnd.{none_last, none_level, none_rises, on_ok_two}
+use Rattle.pieces.proofs.WindowGoesOn.{best_with_none, keeps_told, tells_more}
 use Rattle.std.proofs.lemmas.Bool.{false≢true}
 use Rattle.std.proofs.lemmas.Option.{IfSome_then}
 use Rattle.std.proofs.lemmas.Result.{on_err_weaker, on_ok_weaker}
-use Rattle.pieces.proofs.Played.{plays_told, told_cause_none}
+use Rattle.pieces.proofs.InPlayCauses.{plays_told, told_cause_none}
 use Rattle.pieces.proofs.Refusals.{narrow_told, none_of_refused}
 use Rattle.pieces.specs.Sliding.{IsToldFault}
 use Rattle.pieces.proofs.window.enter.Goals as goal

@@ -11,14 +11,14 @@ use Rattle.value_laws.specs.Members.{ShapeLaws}
 use Rattle.pieces.specs.Chains.{end, stop}
 use Rattle.pieces.specs.Steps.{AreSteps, HasSlid, steps_end}
 use Rattle.pieces.proofs.Bests.{nw_back, nw_same, nw_trans}
-use Rattle.pieces.proofs.Holding.{holds_first, met_piece}
-use Rattle.pieces.proofs.Meeting.{moved_level}
-use Rattle.pieces.proofs.Moving.{stands_slid}
+use Rattle.pieces.proofs.PieceEnds.{holds_first, met_piece}
+use Rattle.pieces.proofs.BestEnd.{moved_level}
+use Rattle.pieces.proofs.WindowGoesOn.{stands_slid}
 use Rattle.rational.proofs.Lists.{on_err_anyway}
 use Rattle.pieces.specs.Meeting.{IsHeldFault}
 use Rattle.pieces.specs.Sliding.{last_end}
-use Rattle.pieces.proofs.Counted.{fall_plays, low_comes, none_refused}
-use Rattle.pieces.proofs.Played.{plays_slid}
+use Rattle.pieces.proofs.CountsInPlay.{fall_plays, low_comes, none_refused}
+use Rattle.pieces.proofs.InPlayCauses.{plays_slid}
 use Rattle.pieces.proofs.Shifts.{low_from, low_to, room}
 use Rattle.pieces.proofs.window.falling.Goals as goal
 

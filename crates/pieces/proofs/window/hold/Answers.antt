@@ -18,16 +18,16 @@ use Rattle.pieces.specs.Windows.{high_place, low_place}
 use Rattle.pieces.proofs.Bests.{best_value}
 use Rattle.pieces.proofs.Ends.{after_le, upto_le}
 use Rattle.pieces.proofs.StepLemmas.{give_some, hide_upto, to_end}
-use Rattle.pieces.proofs.Holding.{held_after, held_before, held_begins, held_bounded, held_ends, held_falls, held_fault, held_plays, held_within}
-use Rattle.pieces.proofs.Holding.{told_first, told_last, told_within}
-use Rattle.pieces.proofs.Meeting.{best_there, one_end}
-use Rattle.pieces.proofs.Moving.{stands_counted, stands_hidden, stands_left}
+use Rattle.pieces.proofs.PieceEnds.{held_after, held_before, held_begins, held_bounded, held_ends, held_falls, held_fault, held_plays, held_within}
+use Rattle.pieces.proofs.PieceEnds.{told_first, told_last, told_within}
+use Rattle.pieces.proofs.BestEnd.{best_there, one_end}
+use Rattle.pieces.proofs.WindowGoesOn.{stands_counted, stands_hidden, stands_left}
 use Rattle.std.proofs.lemmas.Option.{IfSome_then}
 use Rattle.rational.proofs.Lists.{on_err_anyway}
 use Rattle.pieces.specs.Meeting.{IsHeldFault}
-use Rattle.pieces.proofs.Counted.{moved_over, none_refused}
-use Rattle.pieces.proofs.Playing.{held_in_play}
-use Rattle.pieces.proofs.Played.{plays_counted}
+use Rattle.pieces.proofs.CountsInPlay.{moved_over, none_refused}
+use Rattle.pieces.proofs.TakenInPlay.{held_in_play}
+use Rattle.pieces.proofs.InPlayCauses.{plays_counted}
 use Rattle.pieces.proofs.window.hold.Goals as goal
 
 pub returns-then-not-precedes-clause-stands : goal.returns-then-not-precedes-clause-stands

@@ -2,7 +2,7 @@ use Rattle.std.proofs.Common.{rules, drop, subst}
 use Rattle.std.specs.VecDeque.{deque_len}
 use Rattle.rational.specs.Places.{Before}
 use Rattle.frac128.specs.Cuts.{place}
-use Rattle.pieces.proofs.Lagging.{first_apart}
+use Rattle.pieces.proofs.StepsToTell.{first_apart}
 use Rattle.pieces.proofs.window.is_under.Goals as goal
 
 pub covers-requires-clause-small : goal.covers-requires-clause-small

@@ -1,7 +1,7 @@
 use Rattle.std.proofs.Common.{◌≡◌, ◌⊎◌, inl, inr, ap}
 use Rattle.frac128.specs.Cuts.{place}
 use Rattle.frac128.specs.declared.cut.Cut.{Cut}
-use Rattle.pieces.proofs.Reaching.{left_in}
+use Rattle.pieces.proofs.WindowPlaces.{left_in}
 use Rattle.pieces.proofs.window.left.Goals as goal
 
 -- one of two cuts, as places

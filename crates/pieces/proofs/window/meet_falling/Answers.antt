@@ -13,11 +13,11 @@ use Rattle.pieces.specs.Chains.{end, stop}
 use Rattle.pieces.specs.Causes.{IsCauseBelow}
 use Rattle.pieces.specs.Steps.{AreSteps, HasSlid}
 use Rattle.pieces.proofs.Bests.{nw_back, nw_same, nw_trans}
-use Rattle.pieces.proofs.Counted.{none_refused}
-use Rattle.pieces.proofs.Holding.{ahead_here, below_here, below_sooner, meets_entered, met_next, reaches_past, stop_below, within_here}
-use Rattle.pieces.proofs.Lagging.{falls_lagging, plays_lagging, stands_lagging}
-use Rattle.pieces.proofs.Meeting.{moved_level, on_ok_two}
-use Rattle.pieces.proofs.Moving.{falls_off}
+use Rattle.pieces.proofs.CountsInPlay.{none_refused}
+use Rattle.pieces.proofs.PieceEnds.{ahead_here, below_here, below_sooner, meets_entered, met_next, reaches_past, stop_below, within_here}
+use Rattle.pieces.proofs.StepsToTell.{falls_lagging, plays_lagging, stands_lagging}
+use Rattle.pieces.proofs.BestEnd.{moved_level, on_ok_two}
+use Rattle.pieces.proofs.WindowGoesOn.{falls_off}
 use Rattle.pieces.proofs.Refusals.{held_below}
 use Rattle.pieces.proofs.Shifts.{low_from, low_to, room}
 use Rattle.pieces.proofs.window.meet_falling.Goals as goal

@@ -7,9 +7,9 @@ use Rattle.frac128.specs.Cuts.{place}
 use Rattle.value_laws.specs.Members.{ShapeLaws}
 use Rattle.pieces.specs.Chains.{end, stop}
 use Rattle.pieces.specs.Meeting.{Passes}
-use Rattle.pieces.proofs.Holding.{ahead_here, below_here, met_next, rises_entered, stop_below}
-use Rattle.pieces.proofs.Meeting.{on_ok_two}
-use Rattle.pieces.proofs.Moving.{falls_off}
+use Rattle.pieces.proofs.PieceEnds.{ahead_here, below_here, met_next, rises_entered, stop_below}
+use Rattle.pieces.proofs.BestEnd.{on_ok_two}
+use Rattle.pieces.proofs.WindowGoesOn.{falls_off}
 use Rattle.pieces.proofs.Refusals.{held_below}
 use Rattle.pieces.proofs.window.meet_rising.Goals as goal
 

@@ -4,8 +4,8 @@ use Rattle.rational.proofs.Lists.{on_err_anyway}
 use Rattle.frac128.specs.Cuts.{place}
 use Rattle.pieces.specs.Chains.{stop}
 use Rattle.pieces.specs.Causes.{IsCauseBelow}
-use Rattle.pieces.proofs.Counted.{none_refused}
-use Rattle.pieces.proofs.Holding.{ahead_here, below_here, meets_entered}
+use Rattle.pieces.proofs.CountsInPlay.{none_refused}
+use Rattle.pieces.proofs.PieceEnds.{ahead_here, below_here, meets_entered}
 use Rattle.pieces.proofs.Trends.{no_better_of, no_worse_of, steady_of}
 use Rattle.pieces.proofs.window.pass.Goals as goal
 

@@ -5,7 +5,7 @@ use Rattle.rational.proofs.PlaceLemmas.{after_at_most, at_most_of_not_before}
 use Rattle.frac128.specs.Cuts.{place}
 use Rattle.frac128.specs.declared.cut.Cut.{Cut}
 use Rattle.pieces.proofs.Ends.{at_most_of_before}
-use Rattle.pieces.proofs.Reaching.{reached_in, reached_past}
+use Rattle.pieces.proofs.WindowPlaces.{reached_in, reached_past}
 use Rattle.pieces.proofs.window.reached.Goals as goal
 
 -- one of two cuts, as places

@@ -11,12 +11,12 @@ use Rattle.frac128.specs.Cuts.{place}
 use Rattle.value_laws.specs.Members.{ShapeLaws}
 use Rattle.pieces.specs.Chains.{end, stop}
 use Rattle.pieces.proofs.Bests.{nw_back, nw_same, nw_trans}
-use Rattle.pieces.proofs.Counted.{rise_plays}
+use Rattle.pieces.proofs.CountsInPlay.{rise_plays}
 use Rattle.pieces.proofs.Ends.{at_most_of_same}
-use Rattle.pieces.proofs.Holding.{holds_moved, holds_past, met_climbed, piece_first, piece_last, reach_below, reached_narrow, told_within}
+use Rattle.pieces.proofs.PieceEnds.{holds_moved, holds_past, met_climbed, piece_first, piece_last, reach_below, reached_narrow, told_within}
 use Rattle.pieces.proofs.Refusals.{held_below, narrow_told}
-use Rattle.pieces.proofs.Meeting.{moved_level, on_ok_two}
-use Rattle.pieces.proofs.Played.{told_cause}
+use Rattle.pieces.proofs.BestEnd.{moved_level, on_ok_two}
+use Rattle.pieces.proofs.InPlayCauses.{told_cause}
 use Rattle.pieces.proofs.Shifts.{high_from, high_to, room}
 use Rattle.pieces.proofs.window.rising.Goals as goal
 

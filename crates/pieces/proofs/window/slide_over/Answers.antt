@@ -9,7 +9,7 @@ use Rattle.pieces.specs.Windows.{Best}
 use Rattle.pieces.proofs.Breakpoints.{breaks_at}
 use Rattle.pieces.proofs.Ends.{at_most_itself}
 use Rattle.pieces.proofs.OverWindow.{piece_from}
-use Rattle.pieces.proofs.Standing.{last_begin, next_begin}
+use Rattle.pieces.proofs.ReadUpTo.{last_begin, next_begin}
 use Rattle.rational.proofs.Lists.{on_err_anyway}
 use Rattle.pieces.proofs.window.slide_over.Given.{Over}
 use Rattle.pieces.proofs.window.slide_over.Goals.{After-loop-i, After-piece}

@@ -16,13 +16,13 @@ use Rattle.pieces.specs.Sliding.{last_end}
 use Rattle.pieces.specs.Windows.{low_place}
 use Rattle.pieces.proofs.Bests.{best_value}
 use Rattle.pieces.proofs.Ends.{at_most_of_before}
-use Rattle.pieces.proofs.Holding.{met_piece, told_within}
-use Rattle.pieces.proofs.Lagging.{counted_falls}
+use Rattle.pieces.proofs.PieceEnds.{met_piece, told_within}
+use Rattle.pieces.proofs.StepsToTell.{counted_falls}
 use Rattle.pieces.proofs.StepLemmas.{give_some, to_end}
-use Rattle.pieces.proofs.Seeing.{steady_met}
-use Rattle.pieces.proofs.Moving.{falls_off, stands_counted, stands_left}
-use Rattle.pieces.proofs.Counted.{steady_plays}
-use Rattle.pieces.proofs.Played.{plays_counted}
+use Rattle.pieces.proofs.SeenBest.{steady_met}
+use Rattle.pieces.proofs.WindowGoesOn.{falls_off, stands_counted, stands_left}
+use Rattle.pieces.proofs.CountsInPlay.{steady_plays}
+use Rattle.pieces.proofs.InPlayCauses.{plays_counted}
 use Rattle.pieces.proofs.Shifts.{high_from, high_to, room}
 use Rattle.pieces.proofs.window.steady.Goals as goal
 

@@ -2,9 +2,9 @@ use Rattle.std.proofs.Common.{refl, subst, sym}
 use Rattle.rational.specs.Places.{After}
 use Rattle.frac128.specs.Cuts.{place}
 use Rattle.value_laws.specs.Members.{ShapeLaws}
-use Rattle.pieces.proofs.Holding.{holds_reached, piece_first, piece_last, told_within}
-use Rattle.pieces.proofs.Lagging.{holds_under}
-use Rattle.pieces.proofs.Meeting.{none_last}
+use Rattle.pieces.proofs.PieceEnds.{holds_reached, piece_first, piece_last, told_within}
+use Rattle.pieces.proofs.StepsToTell.{holds_under}
+use Rattle.pieces.proofs.BestEnd.{none_last}
 use Rattle.pieces.proofs.window.tell_under.Goals as goal
 
 pub reached-requires-clause-from : goal.reached-requires-clause-from

@@ -2,7 +2,7 @@ use Rattle.std.proofs.Common.{rules, to_z, of_z, w64, ◌≡◌, subst, pos, ref
 use Rattle.rational.specs.Rational.{whole, ◌≈◌}
 use Rattle.rational.proofs.Order.{same_refl}
 use Rattle.frac128.specs.Value.{value}
-use Rattle.verdict_stream.proofs.Cutting.{room_before}
+use Rattle.verdict_stream.proofs.CutVerdicts.{room_before}
 use Rattle.verdict_stream.proofs.pending.part_before.Goals as goal
 
 pub invariant_of-result : goal.invariant_of-result

@@ -1,7 +1,7 @@
 use Rattle.std.proofs.Common.{◌++◌, refl, subst}
 use Rattle.online_robust.specs.Nets.{IsTaken}
 use Rattle.answer_lines.specs.PartLines.{IsPartLine}
-use Rattle.margin_stream.proofs.Margined.{none_taken, one_taken, all_taken}
+use Rattle.margin_stream.proofs.FollowedMargins.{none_taken, one_taken, all_taken}
 use Rattle.margin_stream.proofs.margins.Margins.take_all.Goals as goal
 
 pub loop-line-init : goal.loop-line-init

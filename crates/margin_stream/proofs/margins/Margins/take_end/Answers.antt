@@ -2,7 +2,7 @@ use Rattle.std.proofs.Common.{false, true, sym, subst}
 use Rattle.margin_stream.specs.Margining.{past_of}
 use Rattle.trace_stream.specs.Following.{IsFollowFault}
 use Rattle.trace_stream.specs.Streams.{margins}
-use Rattle.margin_stream.proofs.Margined.{of_first, fault_so, unwritten, may_end, given_on, end_followed}
+use Rattle.margin_stream.proofs.FollowedMargins.{of_first, fault_so, unwritten, may_end, given_on, end_followed}
 use Rattle.margin_stream.proofs.margins.Margins.take_end.Goals as goal
 
 pub close-requires : goal.close-requires

@@ -3,7 +3,7 @@ use Rattle.trace_stream.specs.Cases.{with_row}
 use Rattle.margin_stream.specs.Margining.{past_of}
 use Rattle.trace_stream.specs.Following.{IsFollowFault}
 use Rattle.trace_stream.specs.Streams.{margins}
-use Rattle.margin_stream.proofs.Margined.{of_first, fault_so, unwritten, fits_width, fits_time, given_on, row_followed}
+use Rattle.margin_stream.proofs.FollowedMargins.{of_first, fault_so, unwritten, fits_width, fits_time, given_on, row_followed}
 use Rattle.margin_stream.proofs.margins.Margins.take_row.Goals as goal
 
 pub feed-requires-clause-width : goal.feed-requires-clause-width

@@ -2,7 +2,7 @@ use Rattle.std.proofs.Common.{[], ◌∷◌, ◌++◌, sym, ap, subst, ◌∙◌
 use Rattle.online_nodes.specs.Network.{close}
 use Rattle.online_net.specs.Nets.{Parts, Stands}
 use Rattle.online_net.proofs.Events.{closed_stands}
-use Rattle.online_net.proofs.Stepping.{close_may}
+use Rattle.online_net.proofs.StillSteps.{close_may}
 use Rattle.online_net.specs.contracts.net.Net.{the_view}
 use Rattle.online_net.proofs.net.Net.close.Goals as goal
 

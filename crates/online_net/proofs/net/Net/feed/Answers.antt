@@ -6,8 +6,8 @@ use Rattle.online_nodes.specs.Network.{Event, row}
 use Rattle.online_nodes.specs.Held.{Held, edge_at}
 use Rattle.online_net.specs.Nets.{Parts, Stands}
 use Rattle.online_net.specs.Atoms.{HasPutAtoms, begun}
-use Rattle.online_net.proofs.Feeding.{fed_stands, put_joins}
-use Rattle.online_net.proofs.Stepping.{atoms_bound, last_width, row_may}
+use Rattle.online_net.proofs.RowInNet.{fed_stands, put_joins}
+use Rattle.online_net.proofs.StillSteps.{atoms_bound, last_width, row_may}
 use Rattle.online_net.specs.contracts.net.Net.{the_view}
 use Rattle.online_net.proofs.net.Net.feed.Goals as goal
 

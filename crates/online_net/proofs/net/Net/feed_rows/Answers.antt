@@ -11,7 +11,7 @@ use Rattle.online_net.specs.Stretches.{HaveRows, rows_between}
 use Rattle.online_net.proofs.BlockRows.{rows_fed}
 use Rattle.online_net.proofs.EdgeRows.{rows_join}
 use Rattle.std.proofs.lemmas.Option.{slice_get_within}
-use Rattle.online_net.proofs.Stepping.{atoms_bound, last_width}
+use Rattle.online_net.proofs.StillSteps.{atoms_bound, last_width}
 use Rattle.online_net.specs.contracts.net.Net.{the_view}
 use Rattle.online_net.proofs.net.Net.feed_rows.Goals as goal
 use Rattle.online_net.proofs.net.Net.feed_rows.Goals.{After-keep_row_of}

@@ -1,8 +1,8 @@
 use Rattle.std.proofs.Common.{ℕ, ◌<◌, Some, length, pos, sym, ap, subst, ◌∙◌, arith}
 use Rattle.std.specs.Prelude.{option_map}
 use Rattle.online_net.specs.Nets.{Parts, Stands}
-use Rattle.online_net.proofs.Saying.{found}
-use Rattle.online_net.proofs.Stepping.{atom_front, no_operator, operator_front}
+use Rattle.online_net.proofs.AtomVerdicts.{found}
+use Rattle.online_net.proofs.StillSteps.{atom_front, no_operator, operator_front}
 use Rattle.online_net.specs.contracts.net.Net.{the_view}
 use Rattle.online_net.proofs.net.Net.front.Goals as goal
 

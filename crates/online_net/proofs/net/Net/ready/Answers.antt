@@ -2,8 +2,8 @@ use Rattle.std.proofs.Common.{◌≡◌, ◌<◌, true, false, Some, length, sym
 use Rattle.std.specs.Prelude.{slice_get, IsTrue}
 use Rattle.online_nodes.specs.Network.{state, IsReady}
 use Rattle.online_net.specs.Nets.{Parts, Stands}
-use Rattle.online_net.proofs.Saying.{found}
-use Rattle.online_net.proofs.Stepping.{atom_unready, belongs_now, kept_operator, no_operator, none_ready}
+use Rattle.online_net.proofs.AtomVerdicts.{found}
+use Rattle.online_net.proofs.StillSteps.{atom_unready, belongs_now, kept_operator, no_operator, none_ready}
 use Rattle.online_net.specs.contracts.net.Net.{the_view}
 use Rattle.online_net.proofs.net.Net.ready.Goals as goal
 

@@ -1,7 +1,7 @@
 use Rattle.std.proofs.Common.{◌≡◌, Some, None, subst}
 use Rattle.std.specs.Prelude.{slice_get}
 use Rattle.online_net.specs.Nets.{Parts}
-use Rattle.online_net.proofs.Stepping.{atoms_bound}
+use Rattle.online_net.proofs.StillSteps.{atoms_bound}
 use Rattle.online_net.specs.contracts.net.Net.{the_view}
 use Rattle.online_net.proofs.net.Net.stays.Goals as goal
 

@@ -8,9 +8,9 @@ use Rattle.online_nodes.specs.Held.{Held, edge_at}
 use Rattle.online_net.specs.Nets.{Parts, Stands}
 use Rattle.std.specs.Prelude.{slice_set}
 use Rattle.std.proofs.lemmas.List.{length-set}
-use Rattle.online_net.proofs.Saying.{found}
-use Rattle.online_net.proofs.Stepping.{atom_unready, belongs_now, idle_stands, kept_operator, moved_stands, no_operator}
-use Rattle.online_net.proofs.Stepping.{none_ready, step_by, unmoved_parts, unready_by}
+use Rattle.online_net.proofs.AtomVerdicts.{found}
+use Rattle.online_net.proofs.StillSteps.{atom_unready, belongs_now, idle_stands, kept_operator, moved_stands, no_operator}
+use Rattle.online_net.proofs.StillSteps.{none_ready, step_by, unmoved_parts, unready_by}
 use Rattle.online_net.specs.contracts.net.Net.{the_view}
 use Rattle.online_net.proofs.net.Net.step.Goals as goal
 

@@ -5,7 +5,7 @@ use Rattle.online_nodes.specs.Held.{edge_at, held_at}
 use Rattle.stl_syntax.specs.declared.items.Verdict.{Verdict}
 use Rattle.online_net.specs.Nets.{Parts, Stands}
 use Rattle.online_net.specs.Nets.{HasPast}
-use Rattle.online_net.proofs.Stepping.{root_place, took_joins, took_stands, none_took, next_is}
+use Rattle.online_net.proofs.StillSteps.{root_place, took_joins, took_stands, none_took, next_is}
 use Rattle.online_net.specs.contracts.net.Net.{the_view}
 use Rattle.online_net.proofs.net.Net.take.Goals as goal
 

@@ -1,6 +1,6 @@
 use Rattle.rational.proofs.Lists.{on_ok_anyway, on_err_anyway}
 use Rattle.online_robust.specs.Steps.{IsStreamedFault}
-use Rattle.online_robust.proofs.Refusing.{memory_told}
+use Rattle.online_robust.proofs.RefusalsBeside.{memory_told}
 use Rattle.online_robust.proofs.operator.Operator.sweep.Goals as goal
 
 pub returns-in-Not-clause-still : goal.returns-in-Not-clause-still

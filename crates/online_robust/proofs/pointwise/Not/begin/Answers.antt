@@ -5,7 +5,7 @@ use Rattle.frac128.specs.Value.{value}
 use Rattle.value_laws.specs.Margins.{margin_function}
 use Rattle.value_laws.specs.declared.margin.Margin.{Margin}
 use Rattle.online_robust.specs.Lines.{end_of, margin_of}
-use Rattle.online_robust.proofs.Choosing.{level_there}
+use Rattle.online_robust.proofs.ChosenMargins.{level_there}
 use Rattle.online_robust.proofs.LinesGone.{took}
 use Rattle.online_robust.proofs.NotLemmas.{IsMinus, first_negated, first_reached, first_there, stood_to}
 use Rattle.online_robust.proofs.pointwise.Not.begin.Goals as goal

@@ -6,7 +6,7 @@ use Rattle.stl_syntax.specs.SupInf.{Robustness}
 use Rattle.online_robust.specs.ReadLines.{IsStretch}
 use Rattle.online_robust.specs.Couples.{CanNegate, Couple, left_of}
 use Rattle.online_robust.proofs.Builts.{built_done, built_first, tick_between}
-use Rattle.online_robust.proofs.Choosing.{turned_is_function}
+use Rattle.online_robust.proofs.ChosenMargins.{turned_is_function}
 use Rattle.online_robust.proofs.LinesGone.{loses_at_both, loses_at_later}
 use Rattle.online_robust.proofs.NotLemmas.{negated_same}
 use Rattle.online_robust.proofs.PointwiseLemmas.{not_less}

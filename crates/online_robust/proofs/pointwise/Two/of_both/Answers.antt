@@ -1,7 +1,7 @@
 use Rattle.frac128.specs.Value.{value}
 use Rattle.stl_syntax.specs.SupInf.{Robustness}
 use Rattle.online_robust.specs.Couples.{left_of, right_of}
-use Rattle.online_robust.proofs.Choosing.{chosen_there, level_there, turned_there}
+use Rattle.online_robust.proofs.ChosenMargins.{chosen_there, level_there, turned_there}
 use Rattle.online_robust.proofs.Robustly.{robust_is_function}
 use Rattle.online_robust.proofs.pointwise.Two.of_both.Goals as goal
 

@@ -5,7 +5,7 @@ use Rattle.rational.proofs.Lists.{on_err_anyway}
 use Rattle.frac128.specs.Value.{value}
 use Rattle.online_robust.specs.ReadLines.{IsStretch}
 use Rattle.online_robust.specs.Couples.{CanJoin, Couple, IsCoupleFault, both_of}
-use Rattle.online_robust.proofs.Refusing.{memory_told}
+use Rattle.online_robust.proofs.RefusalsBeside.{memory_told}
 use Rattle.online_robust.proofs.Builts.{built_done, built_first, tick_between}
 use Rattle.online_robust.proofs.LinesGone.{both_both, both_later}
 use Rattle.online_robust.proofs.TwoLemmas.{both_is, joined_same_time}

@@ -19,7 +19,7 @@ use Rattle.online_robust.specs.Told.{IsTick}
 use Rattle.online_robust.specs.ReadLines.{IsAhead, IsThere, value_turned}
 use Rattle.online_robust.specs.Couples.{Couple, IsCoupleFault, IsJoinedTo, IsReadTo}
 use Rattle.pl_signal.specs.declared.faults.OpFault.TheVariants as F
-use Rattle.online_robust.proofs.Refusing.{each_told}
+use Rattle.online_robust.proofs.RefusalsBeside.{each_told}
 use Rattle.online_robust.proofs.Builts.{tick_between, tick_within}
 use Rattle.online_robust.proofs.LinesGone.{both_of as lost_both}
 use Rattle.online_robust.proofs.TwoLemmas.{IsEarlier, IsStop, built_joined, counted_level, joined_fault, left_later}

@@ -11,8 +11,8 @@ use Rattle.online_robust.specs.Steps.{Belongs, IsStreamedFault, Step, StandsNow,
 use Rattle.online_robust.specs.declared.operator.Operator.TheVariants as Op
 use Rattle.online_robust.specs.declared.slide.Slide.{Slide}
 use Rattle.online_robust.specs.declared.slide.Window.{Window}
-use Rattle.online_robust.proofs.Refusing.{each_told}
-use Rattle.online_robust.proofs.SlideBridging.{course_of, slide_cause, slide_told, small}
+use Rattle.online_robust.proofs.RefusalsBeside.{each_told}
+use Rattle.online_robust.proofs.SlideBodies.{course_of, slide_cause, slide_told, small}
 use Rattle.online_robust.proofs.SlideSweeps.{Slides, may_slide, slide_edges, slide_stands}
 use Rattle.online_robust.proofs.slide.Slide.sweep.Goals.{After-of-end}
 use Rattle.online_robust.proofs.slide.Slide.sweep.Goals as goal

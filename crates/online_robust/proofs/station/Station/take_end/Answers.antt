@@ -1,6 +1,6 @@
 use Rattle.std.proofs.Common.{subst, sym}
 use Rattle.online_robust.specs.Moving.{HasMoved}
-use Rattle.online_robust.proofs.Stationing.{end_atom, end_const}
+use Rattle.online_robust.proofs.StationCalls.{end_atom, end_const}
 use Rattle.online_robust.proofs.station.Station.take_end.Goals as goal
 
 pub returns-in-Const-clause-moved : goal.returns-in-Const-clause-moved

@@ -4,9 +4,9 @@ use Rattle.std.proofs.lemmas.Int.{to_z-of_z}
 use Rattle.rational.proofs.Lists.{on_err_anyway}
 use Rattle.online_robust.specs.Held.{edge_at, with_edge, with_number}
 use Rattle.online_robust.specs.Moving.{CanGoTo, HasMoved, IsFaultOf}
-use Rattle.online_robust.proofs.Refusing.{memory_told}
+use Rattle.online_robust.proofs.RefusalsBeside.{memory_told}
 use Rattle.online_robust.proofs.LinesPut.{put_within}
-use Rattle.online_robust.proofs.Stationing.{row_atom, row_bound, row_const, row_edge, row_go, row_last}
+use Rattle.online_robust.proofs.StationCalls.{row_atom, row_bound, row_const, row_edge, row_go, row_last}
 use Rattle.online_robust.proofs.station.Station.take_row.Goals as goal
 
 pub put_atom-requires-clause-atom : goal.put_atom-requires-clause-atom

@@ -2,7 +2,7 @@ use Rattle.std.proofs.Common.{◌≡◌, ◌-◌, ◌<◌, length, suc, refl, sy
 use Rattle.std.proofs.lemmas.Option.{slice_get_read}
 use Rattle.frac128.specs.Cuts.{place}
 use Rattle.pieces.specs.Chains.{begin_at}
-use Rattle.pieces.proofs.Standing.{next_begin}
+use Rattle.pieces.proofs.ReadUpTo.{next_begin}
 use Rattle.pieces.proofs.pieces.Pieces.begin.Goals as goal
 
 pub returns-then-i-eq0 : goal.returns-then-i-eq0

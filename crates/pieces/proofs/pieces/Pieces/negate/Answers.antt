@@ -3,7 +3,7 @@ use Rattle.frac128.specs.Cuts.{place}
 use Rattle.pieces.specs.Chains.{IsLimited, IsWorth, Tells, stop}
 use Rattle.pieces.specs.Negating.{BasesFrom, Negated}
 use Rattle.pieces.proofs.BuildingLemmas.{chain_of}
-use Rattle.pieces.proofs.Negating.{bases_opposite, levels_of, negated_normal, negated_tells}
+use Rattle.pieces.proofs.NegatedChains.{bases_opposite, levels_of, negated_normal, negated_tells}
 use Rattle.pieces.proofs.pieces.Pieces.negate.Goals as goal
 
 pub negate_each-requires : goal.negate_each-requires

@@ -10,7 +10,7 @@ use Rattle.pieces.specs.Chains.{stop}
 use Rattle.pieces.specs.Steps.{step_end}
 use Rattle.pieces.proofs.Ends.{at_most_of_before, same_place}
 use Rattle.pieces.proofs.JoiningLemmas.{joins_alone, taken_of_nw, whole_first}
-use Rattle.pieces.proofs.Lagging.{first_apart}
+use Rattle.pieces.proofs.StepsToTell.{first_apart}
 use Rattle.pieces.proofs.SlidingLemmas.{told_none, told_part, written_alone}
 use Rattle.pieces.proofs.sliding.Sliding.tell_first.Goals as goal
 

@@ -1,5 +1,5 @@
 use Rattle.std.proofs.Common.{refl}
-use Rattle.pieces.proofs.Following.{follows_first}
+use Rattle.pieces.proofs.FollowedWindows.{follows_first}
 use Rattle.pieces.proofs.stream.Stream.begin.Goals as goal
 
 pub returns-clause-follows : goal.returns-clause-follows

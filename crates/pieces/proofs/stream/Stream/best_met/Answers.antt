@@ -6,7 +6,7 @@ use Rattle.pieces.specs.Chains.{Chain, stop}
 use Rattle.pieces.specs.Hands.{FirstGives}
 use Rattle.pieces.specs.Over.{IsMovedTo}
 use Rattle.pieces.specs.Streaming.{IsAt}
-use Rattle.pieces.proofs.Following.{at_moved, at_steps, at_within, best_counts, best_none, climbs_at}
+use Rattle.pieces.proofs.FollowedWindows.{at_moved, at_steps, at_within, best_counts, best_none, climbs_at}
 use Rattle.pieces.proofs.stream.Stream.best_met.Given.{Over}
 use Rattle.pieces.proofs.stream.Stream.best_met.Goals.{After-first_step-first}
 use Rattle.pieces.proofs.stream.Stream.best_met.Goals as goal

@@ -9,8 +9,8 @@ use Rattle.pieces.specs.Chains.{Chain, stop}
 use Rattle.pieces.specs.Hands.{TurnsTo}
 use Rattle.pieces.specs.Meeting.{IsHeldFault}
 use Rattle.pieces.specs.Streaming.{ComesNext, Follows}
-use Rattle.pieces.proofs.Counted.{none_refused}
-use Rattle.pieces.proofs.Following.{follows_blind, follows_further, follows_longer, follows_turns, follows_within, next_below, next_narrow, told_below}
+use Rattle.pieces.proofs.CountsInPlay.{none_refused}
+use Rattle.pieces.proofs.FollowedWindows.{follows_blind, follows_further, follows_longer, follows_turns, follows_within, next_below, next_narrow, told_below}
 use Rattle.pieces.proofs.OverWindow.{empty_or_some, sees_nothing}
 use Rattle.pieces.proofs.Refusals.{held_first, held_never, none_of_refused}
 use Rattle.pieces.proofs.stream.Stream.meet.Given.{Over}

@@ -6,7 +6,7 @@ use Rattle.frac128.specs.Cuts.{place}
 use Rattle.pieces.specs.Over.{IsMovedTo}
 use Rattle.pieces.specs.Streaming.{IsLastSeen, IsNextSeen}
 use Rattle.pieces.proofs.Bests.{better_alike}
-use Rattle.pieces.proofs.Following.{at_within, best_all, best_blind}
+use Rattle.pieces.proofs.FollowedWindows.{at_within, best_all, best_blind}
 use Rattle.pieces.proofs.Hands.{last_best}
 use Rattle.pieces.proofs.OverWindow.{sees_nothing}
 use Rattle.pieces.proofs.Shifts.{high_from, high_to, room}

@@ -1,4 +1,4 @@
-use Rattle.pieces.proofs.Following.{follows_restarted}
+use Rattle.pieces.proofs.FollowedWindows.{follows_restarted}
 use Rattle.pieces.proofs.stream.Stream.restart.Goals as goal
 
 pub returns-clause-follows : goal.returns-clause-follows

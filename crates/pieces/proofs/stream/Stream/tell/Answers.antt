@@ -12,11 +12,11 @@ use Rattle.pieces.specs.Chains.{Chain, stop}
 use Rattle.pieces.specs.Hands.{TellsRest, far_place}
 use Rattle.pieces.specs.Meeting.{HasMet, IsHeldFault}
 use Rattle.pieces.specs.Streaming.{Follows, HasAll, before_time}
-use Rattle.pieces.proofs.Following.{at_climb, at_counts, at_ended, at_none, ends_hand, follows_on, next_narrow, rests_counts, rests_ended, rests_none}
-use Rattle.pieces.proofs.Following.{tells_climb, to_narrow, to_within, told_below}
-use Rattle.pieces.proofs.Following.{on_ok_three}
+use Rattle.pieces.proofs.FollowedWindows.{at_climb, at_counts, at_ended, at_none, ends_hand, follows_on, next_narrow, rests_counts, rests_ended, rests_none}
+use Rattle.pieces.proofs.FollowedWindows.{tells_climb, to_narrow, to_within, told_below}
+use Rattle.pieces.proofs.FollowedWindows.{on_ok_three}
 use Rattle.pieces.proofs.Hands.{tells_from}
-use Rattle.pieces.proofs.Meeting.{on_ok_two}
+use Rattle.pieces.proofs.BestEnd.{on_ok_two}
 use Rattle.pieces.proofs.Refusals.{held_never, none_of_refused}
 use Rattle.pieces.proofs.stream.Stream.tell.Given.{Over}
 use Rattle.pieces.proofs.stream.Stream.tell.Goals.{In_ok-end_piece}

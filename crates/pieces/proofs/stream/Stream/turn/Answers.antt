@@ -6,7 +6,7 @@ use Rattle.frac128.specs.Cuts.{place}
 use Rattle.pieces.specs.Chains.{Chain, stop}
 use Rattle.pieces.specs.Hands.{TurnsTo}
 use Rattle.pieces.specs.Meeting.{Meets}
-use Rattle.pieces.proofs.Following.{turn_follows, turn_leaves, turn_meets}
+use Rattle.pieces.proofs.FollowedWindows.{turn_follows, turn_leaves, turn_meets}
 use Rattle.pieces.proofs.Refusals.{held_below}
 use Rattle.pieces.proofs.stream.Stream.turn.Given.{Over}
 use Rattle.pieces.proofs.stream.Stream.turn.Goals.{In_ok-end_hand}

@@ -6,7 +6,7 @@ use Rattle.frac128.specs.Cuts.{place}
 use Rattle.value_laws.specs.Members.{ShapeLaws}
 use Rattle.pieces.specs.Chains.{stop}
 use Rattle.pieces.proofs.ChainLemmas.{to_stop}
-use Rattle.pieces.proofs.Lagging.{none_falls}
+use Rattle.pieces.proofs.StepsToTell.{none_falls}
 use Rattle.pieces.proofs.OverWindow.{empty_or_some, met_none}
 use Rattle.pieces.proofs.window.Window.begin.Goals as goal
 

@@ -10,10 +10,10 @@ use Rattle.frac128.specs.Cuts.{place}
 use Rattle.value_laws.specs.Members.{ShapeLaws}
 use Rattle.pieces.specs.Chains.{HasShape, stop}
 use Rattle.pieces.specs.Over.{IsMovedTo}
-use Rattle.pieces.proofs.Holding.{told_within}
-use Rattle.pieces.proofs.Meeting.{none_last, none_level, none_rises, on_ok_two}
+use Rattle.pieces.proofs.PieceEnds.{told_within}
+use Rattle.pieces.proofs.BestEnd.{none_last, none_level, none_rises, on_ok_two}
 use Rattle.pieces.proofs.OverWindow.{tells_all}
-use Rattle.pieces.proofs.Played.{plays_told, told_cause_none}
+use Rattle.pieces.proofs.InPlayCauses.{plays_told, told_cause_none}
 use Rattle.pieces.proofs.Refusals.{cause_over}
 use Rattle.pieces.proofs.window.Window.end.Goals as goal
 

@@ -2,7 +2,7 @@ use Rattle.std.proofs.Common.{◌∙◌}
 use Rattle.std.proofs.lemmas.Option.{IfSome_then}
 use Rattle.rational.proofs.Lists.{on_err_anyway}
 use Rattle.value_laws.specs.Members.{ShapeLaws}
-use Rattle.pieces.proofs.Holding.{piece_first, piece_last}
+use Rattle.pieces.proofs.PieceEnds.{piece_first, piece_last}
 use Rattle.pieces.proofs.OverWindow.{empty_or_some, passes_next, met_blind, sees_nothing}
 use Rattle.pieces.specs.Chains.{stop}
 use Rattle.pieces.proofs.Refusals.{cause_over}

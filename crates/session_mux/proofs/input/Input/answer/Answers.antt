@@ -2,7 +2,7 @@ use Rattle.std.proofs.Common.{length, ◌+◌, subst}
 use Rattle.std.proofs.lemmas.Result.{err_from_is_err_and}
 use Rattle.session_mux.specs.Muxes.{Past}
 use Rattle.session_mux.specs.Taking.{IsSized, IsUnsized, IsHanded, IsNotHanded}
-use Rattle.session_mux.proofs.Inputting.{line_unsized, line_refused, line_answered}
+use Rattle.session_mux.proofs.InputBytes.{line_unsized, line_refused, line_answered}
 use Rattle.session_mux.proofs.input.Input.answer.Goals as goal
 
 pub returns-in_err-sized-clause-lines : goal.returns-in_err-sized-clause-lines

@@ -1,5 +1,5 @@
 use Rattle.std.proofs.lemmas.Result.{err_from_is_err_and}
-use Rattle.session_mux.proofs.Inputting.{all_taken}
+use Rattle.session_mux.proofs.InputBytes.{all_taken}
 use Rattle.session_mux.proofs.input.Input.finish.Goals as goal
 
 pub returns-in_err-last : goal.returns-in_err-last

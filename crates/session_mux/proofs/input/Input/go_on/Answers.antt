@@ -1,7 +1,7 @@
 use Rattle.std.proofs.Common.{length, ◌+◌, subst}
 use Rattle.std.proofs.lemmas.Result.{err_from_is_err_and}
 use Rattle.session_mux.specs.Taking.{IsUnsized}
-use Rattle.session_mux.proofs.Inputting.{part_unsized, some_of}
+use Rattle.session_mux.proofs.InputBytes.{part_unsized, some_of}
 use Rattle.session_mux.proofs.input.Input.go_on.Goals as goal
 
 pub returns-in_err-sized : goal.returns-in_err-sized

@@ -1,6 +1,6 @@
 use Rattle.std.proofs.Common.{◌≡◌, false, List, ℕ, length, subst}
 use Rattle.std.specs.Prelude.{◌==◌}
-use Rattle.session_mux.proofs.Inputting.{last_some, not_none}
+use Rattle.session_mux.proofs.InputBytes.{last_some, not_none}
 use Rattle.session_mux.proofs.input.Input.last.Goals as goal
 
 pub returns : goal.returns

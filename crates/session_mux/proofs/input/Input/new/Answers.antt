@@ -1,5 +1,5 @@
 use Rattle.std.proofs.Common.{refl}
-use Rattle.session_mux.proofs.Inputting.{taking_none}
+use Rattle.session_mux.proofs.InputBytes.{taking_none}
 use Rattle.session_mux.proofs.input.Input.new.Goals as goal
 
 pub returns-clause-live : goal.returns-clause-live

@@ -2,7 +2,7 @@ use Rattle.std.proofs.Common.{false, [], ◌∷◌, ◌++◌, ◌+◌, take, dro
 use Rattle.std.proofs.lemmas.Result.{err_from_is_err_and}
 use Rattle.trace_reader.proofs.FeedLemmas.{none-free, at-taken}
 use Rattle.session_mux.specs.Taking.{IsTaking, IsInputStop}
-use Rattle.session_mux.proofs.Inputting.{with_feed, fed_stop, piece_parts, piece_front}
+use Rattle.session_mux.proofs.InputBytes.{with_feed, fed_stop, piece_parts, piece_front}
 use Rattle.session_mux.proofs.input.Input.take_line.Goals as goal
 
 pub returns-in_err-go_on-in-Some-clause-taken : goal.returns-in_err-go_on-in-Some-clause-taken

@@ -1,7 +1,7 @@
 use Rattle.std.proofs.Common.{◌<◌, length, refl, subst, Some}
 use Rattle.std.specs.Prelude.{slice_set}
 use Rattle.verdict_stream.specs.Pendings.{IsCut}
-use Rattle.verdict_stream.proofs.Cutting.{cut_is}
+use Rattle.verdict_stream.proofs.CutVerdicts.{cut_is}
 use Rattle.verdict_stream.proofs.pending.Pending.cut.Goals as goal
 
 pub returns : goal.returns

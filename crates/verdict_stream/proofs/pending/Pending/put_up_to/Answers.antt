@@ -1,7 +1,7 @@
 use Rattle.std.proofs.Common.{[], ◌∷◌, ◌++◌, length, refl, sym, ap, ◌∙◌, subst, append-nil, append_assoc, Some, None, arith}
 use Rattle.std.proofs.lemmas.Result.{IfOk-weaker}
 use Rattle.verdict_stream.specs.Pendings.{AreUpTo, GoesBeyond, IsNextUpTo, one_whole}
-use Rattle.verdict_stream.proofs.Cutting.{cut_parts, lines_more}
+use Rattle.verdict_stream.proofs.CutVerdicts.{cut_parts, lines_more}
 use Rattle.verdict_stream.proofs.pending.Pending.put_up_to.Goals as goal
 
 pub loop-verdict-init : goal.loop-verdict-init

@@ -1,5 +1,5 @@
 use Rattle.std.proofs.Common.{arith}
-use Rattle.verdict_stream.proofs.Opening.{alone_of}
+use Rattle.verdict_stream.proofs.FollowedCases.{alone_of}
 use Rattle.verdict_stream.proofs.verdicts.Verdicts.came_alone.Goals as goal
 
 pub returns-then-saturating_sub-eq2 : goal.returns-then-saturating_sub-eq2

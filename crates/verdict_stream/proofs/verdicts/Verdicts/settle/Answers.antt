@@ -4,7 +4,7 @@ use Rattle.trace_stream.specs.Streams.{verdicts}
 use Rattle.trace_stream.specs.declared.case.Case.{Case}
 use Rattle.verdict_stream.specs.Watching.{IsWatched, KeepsLast}
 use Rattle.verdict_stream.specs.declared.quiet.Quiet.{Quiet}
-use Rattle.verdict_stream.proofs.Opening.{waiting, knows, knows_same, with_none}
+use Rattle.verdict_stream.proofs.FollowedCases.{waiting, knows, knows_same, with_none}
 use Rattle.verdict_stream.proofs.verdicts.Verdicts.settle.Goals as goal
 
 pub returns-then-self-gt0-clause-rows : goal.returns-then-self-gt0-clause-rows

@@ -5,7 +5,7 @@ use Rattle.verdict_stream.specs.Watching.{IsLastAt, last_alone}
 use Rattle.verdict_stream.specs.declared.quiet.Quiet.{Quiet}
 use Rattle.verdict_stream.specs.declared.verdicts.Verdicts.{Verdicts}
 use Rattle.verdict_stream.proofs.Blocks.{first_is_last, rest_is, kept_on}
-use Rattle.verdict_stream.proofs.Opening.{IsOpened, knows_none, keeps_made, keeps_open, behind_of, together_of}
+use Rattle.verdict_stream.proofs.FollowedCases.{IsOpened, knows_none, keeps_made, keeps_open, behind_of, together_of}
 use Rattle.verdict_stream.proofs.verdicts.Verdicts.take_together.Goals as goal
 
 pub returns-then-self-gt0 : goal.returns-then-self-gt0

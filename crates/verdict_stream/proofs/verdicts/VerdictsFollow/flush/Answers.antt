@@ -4,7 +4,7 @@ use Rattle.trace_stream.specs.Following.{Follows}
 use Rattle.trace_stream.specs.Streams.{verdicts}
 use Rattle.verdict_stream.specs.Watching.{WatchesRows}
 use Rattle.verdict_stream.specs.declared.verdicts.Verdicts.{Verdicts}
-use Rattle.verdict_stream.proofs.Opening.{knows, settled, followed_waiting, keeps_made}
+use Rattle.verdict_stream.proofs.FollowedCases.{knows, settled, followed_waiting, keeps_made}
 use Rattle.verdict_stream.proofs.verdicts.VerdictsFollow.flush.Goals as goal
 
 pub returns-then-self-gt0 : goal.returns-then-self-gt0

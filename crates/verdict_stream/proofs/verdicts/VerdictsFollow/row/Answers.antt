@@ -1,7 +1,7 @@
 use Rattle.std.proofs.Common.{None, ◌++◌, refl, ap, ◌∙◌, subst, append_assoc}
 use Rattle.trace_stream.specs.Cases.{with_row}
 use Rattle.verdict_stream.specs.declared.verdicts.Verdicts.{Verdicts}
-use Rattle.verdict_stream.proofs.Opening.{IsOpened, open_settled, knows_none, keeps_open}
+use Rattle.verdict_stream.proofs.FollowedCases.{IsOpened, open_settled, knows_none, keeps_open}
 use Rattle.verdict_stream.proofs.verdicts.VerdictsFollow.row.Goals as goal
 
 pub settle-requires : goal.settle-requires

@@ -6,7 +6,7 @@ use Rattle.trace_stream.specs.Following.{IsOpenOn}
 use Rattle.trace_stream.specs.Kept.{with_rows}
 use Rattle.trace_stream.proofs.OpenRows.{open_by_none}
 use Rattle.verdict_stream.specs.Watching.{WatchesRows, WatchesOwing}
-use Rattle.verdict_stream.proofs.Opening.{knows, more_read, read_so_far}
+use Rattle.verdict_stream.proofs.FollowedCases.{knows, more_read, read_so_far}
 use Rattle.verdict_stream.proofs.verdicts.VerdictsFollow.take_rows.Goals as goal
 
 pub returns-then-rows-eq0-clause-taken : goal.returns-then-rows-eq0-clause-taken

@@ -4,7 +4,7 @@ use Rattle.online_nodes.specs.Driven.{takes}
 use Rattle.online_nodes.specs.Held.{held_at}
 use Rattle.online_net.specs.Nets.{Parts, Stands, IsNext}
 use Rattle.verdict_stream.specs.Watching.{HasGiven}
-use Rattle.verdict_stream.proofs.Taking.{none_given, gives_one, all_given, measure_falls}
+use Rattle.verdict_stream.proofs.TakenVerdicts.{none_given, gives_one, all_given, measure_falls}
 use Rattle.verdict_stream.proofs.watcher.Network.give_all.Goals as goal
 
 pub loop-verdict-init : goal.loop-verdict-init

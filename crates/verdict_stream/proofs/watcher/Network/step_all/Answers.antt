@@ -1,6 +1,6 @@
 use Rattle.std.proofs.Common.{◌++◌, ap, sym, ◌∙◌, subst, arith, append-nil}
 use Rattle.online_net.specs.Nets.{Stands}
-use Rattle.verdict_stream.proofs.Taking.{no_steps}
+use Rattle.verdict_stream.proofs.TakenVerdicts.{no_steps}
 use Rattle.verdict_stream.proofs.watcher.Network.step_all.Goals as goal
 
 pub returns-then-is_atom-clause-stands : goal.returns-then-is_atom-clause-stands

@@ -1,7 +1,7 @@
 use Rattle.std.proofs.Common.{◌<◌, ◌++◌, length, refl, sym, subst, ◌∙◌, arith, append-nil, take, take_all}
 use Rattle.online_nodes.specs.Driven.{steps_of}
 use Rattle.online_net.specs.Nets.{Stands}
-use Rattle.verdict_stream.proofs.Taking.{steps_on}
+use Rattle.verdict_stream.proofs.TakenVerdicts.{steps_on}
 use Rattle.verdict_stream.proofs.watcher.Network.step_each.Goals as goal
 
 pub loop-node-init : goal.loop-node-init

@@ -4,7 +4,7 @@ use Rattle.online_nodes.specs.Driven.{takes}
 use Rattle.online_nodes.specs.Held.{held_at}
 use Rattle.online_net.specs.Nets.{Parts, Stands, IsNext}
 use Rattle.verdict_stream.specs.Watching.{HasTaken}
-use Rattle.verdict_stream.proofs.Taking.{none_yet, takes_one, all_taken, measure_falls}
+use Rattle.verdict_stream.proofs.TakenVerdicts.{none_yet, takes_one, all_taken, measure_falls}
 use Rattle.verdict_stream.proofs.watcher.Network.take_all.Goals as goal
 
 pub loop-verdict-init : goal.loop-verdict-init

@@ -5,8 +5,8 @@ use Rattle.trace_stream.specs.Following.{Follows}
 use Rattle.trace_stream.specs.Streams.{verdicts}
 use Rattle.verdict_stream.specs.Watching.{IsWatched}
 use Rattle.verdict_stream.specs.declared.watcher.Watcher.{Watcher}
-use Rattle.verdict_stream.proofs.Owing.{OwesNoMore, owing_places, owing_steps, owing_passing, owing_can, owing_followed, owing_taken, Before}
-use Rattle.verdict_stream.proofs.Opening.{empty_of, none_owed, some_owed}
+use Rattle.verdict_stream.proofs.OwedRows.{OwesNoMore, owing_places, owing_steps, owing_passing, owing_can, owing_followed, owing_taken, Before}
+use Rattle.verdict_stream.proofs.FollowedCases.{empty_of, none_owed, some_owed}
 use Rattle.verdict_stream.proofs.watcher.Watcher.make_owed.Goals as goal
 
 pub returns-then-is_empty : goal.returns-then-is_empty

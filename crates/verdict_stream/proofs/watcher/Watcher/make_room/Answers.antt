@@ -1,6 +1,6 @@
 use Rattle.std.proofs.Common.{[], length, sym, ap, subst, append-nil, inl, arith}
 use Rattle.std.proofs.lemmas.Result.{IfOk-weaker}
-use Rattle.verdict_stream.proofs.Opening.{IsOpened}
+use Rattle.verdict_stream.proofs.FollowedCases.{IsOpened}
 use Rattle.verdict_stream.proofs.watcher.Watcher.make_room.Goals as goal
 
 pub returns-then-len-lt-MOST_ROWS-clause-open : goal.returns-then-len-lt-MOST_ROWS-clause-open

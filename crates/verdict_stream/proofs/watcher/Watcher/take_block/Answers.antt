@@ -6,7 +6,7 @@ use Rattle.trace_stream.specs.Streams.{verdicts}
 use Rattle.trace_stream.specs.Kept.{with_rows}
 use Rattle.trace_stream.specs.Following.{IsOpenOn}
 use Rattle.verdict_stream.specs.Watching.{Watches, IsOwing}
-use Rattle.verdict_stream.proofs.Opening.{IsOpened}
+use Rattle.verdict_stream.proofs.FollowedCases.{IsOpened}
 use Rattle.verdict_stream.proofs.Blocks.{between_both, between_all, last_on}
 use Rattle.verdict_stream.proofs.watcher.Watcher.take_block.Goals as goal
 

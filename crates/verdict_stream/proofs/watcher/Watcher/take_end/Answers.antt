@@ -1,6 +1,6 @@
 use Rattle.std.proofs.Common.{[], ◌∷◌, ◌++◌, ◌∙◌}
 use Rattle.online_nodes.specs.Network.{close}
-use Rattle.verdict_stream.proofs.Watched.{one_other, pass_before}
+use Rattle.verdict_stream.proofs.WatchedRoot.{one_other, pass_before}
 use Rattle.verdict_stream.proofs.WatchedRows.{may_end, places, steps_stand, passing, can_take, is_out, start_kept, end_followed}
 use Rattle.verdict_stream.proofs.watcher.Watcher.take_end.Goals as goal
 

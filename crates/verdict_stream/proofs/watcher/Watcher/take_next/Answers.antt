@@ -1,7 +1,7 @@
 use Rattle.std.proofs.Common.{◌++◌, ap, ◌∙◌, subst, append_assoc}
 use Rattle.std.proofs.lemmas.Result.{IfOk-weaker}
 use Rattle.trace_stream.specs.Cases.{with_row}
-use Rattle.verdict_stream.proofs.Opening.{IsOpened}
+use Rattle.verdict_stream.proofs.FollowedCases.{IsOpened}
 use Rattle.verdict_stream.proofs.watcher.Watcher.take_next.Goals as goal
 
 pub make_room-requires : goal.make_room-requires

@@ -3,9 +3,9 @@ use Rattle.online_nodes.specs.Driven.{rows_of, most_rows}
 use Rattle.trace_stream.specs.Cases.{with_row}
 use Rattle.verdict_stream.specs.Watching.{IsOwing}
 use Rattle.verdict_stream.specs.declared.watcher.Watcher.{Watcher}
-use Rattle.verdict_stream.proofs.Watched.{rows_others, pass_before}
+use Rattle.verdict_stream.proofs.WatchedRoot.{rows_others, pass_before}
 use Rattle.verdict_stream.proofs.WatchedRows.{atom_here, steps_stand, passing, can_take, rows_followed}
-use Rattle.verdict_stream.proofs.Opening.{open_width, open_time, open_places, atom_owes_none, owes_on}
+use Rattle.verdict_stream.proofs.FollowedCases.{open_width, open_time, open_places, atom_owes_none, owes_on}
 use Rattle.verdict_stream.proofs.watcher.Watcher.take_row.Goals as goal
 
 pub feed-requires-clause-width : goal.feed-requires-clause-width

@@ -7,9 +7,9 @@ use Rattle.online_net.specs.Stretches.{rows_between}
 use Rattle.trace_stream.specs.Kept.{with_rows}
 use Rattle.verdict_stream.specs.Watching.{IsOwing}
 use Rattle.verdict_stream.specs.declared.watcher.Watcher.{Watcher}
-use Rattle.verdict_stream.proofs.Watched.{rows_others, pass_before}
+use Rattle.verdict_stream.proofs.WatchedRoot.{rows_others, pass_before}
 use Rattle.verdict_stream.proofs.WatchedRows.{atom_here, steps_stand, passing, can_take, rows_followed}
-use Rattle.verdict_stream.proofs.Opening.{open_last, atom_owes_none, owes_on}
+use Rattle.verdict_stream.proofs.FollowedCases.{open_last, atom_owes_none, owes_on}
 use Rattle.verdict_stream.proofs.Blocks.{count_between, last_pushed}
 use Rattle.verdict_stream.proofs.watcher.Watcher.take_slice.Goals as goal
 

@@ -24,10 +24,10 @@ use Rattle.implicants.specs.Signs.{sign_at}
 use Rattle.implicants.specs.Upward.{AddsShort, AreAmong, AreLost, AreLostEach, AreLostFrom, AreShortEach, HasBest}
 use Rattle.implicants.specs.Upward.{PutsRun, Settles, SettlesRun}
 use Rattle.implicants.specs.declared.runs.Run.{Run}
-use Rattle.implicants.proofs.Covering.{IsOver, from_remaining, to_covered}
+use Rattle.implicants.proofs.MarkedCover.{IsOver, from_remaining, to_covered}
 use Rattle.implicants.proofs.Uncertain.{on_not_false, off_not_true}
 use Rattle.implicants.proofs.MarkedAreKept.{marked_set, stays_one}
-use Rattle.implicants.proofs.Running.{no_run, pushed_at}
+use Rattle.implicants.proofs.AddedRuns.{no_run, pushed_at}
 use Rattle.implicants.proofs.Wholes.{set_there}
 
 -- an element of a list without one stands in the list

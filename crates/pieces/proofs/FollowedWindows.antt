@@ -35,12 +35,12 @@ use Rattle.pieces.proofs.BuildingLemmas.{chain_of}
 use Rattle.pieces.proofs.ChainLemmas.{to_stop, worth_same}
 use Rattle.pieces.proofs.Ends.{at_most_itself, at_most_of_before, only_time}
 use Rattle.pieces.proofs.Hands.{breaks_between, counts_of, first_best, rests_on, stands_counts}
-use Rattle.pieces.proofs.Holding.{high_upto, lt_of_moved, piece_begun}
+use Rattle.pieces.proofs.PieceEnds.{high_upto, lt_of_moved, piece_begun}
 use Rattle.pieces.proofs.Bests.{best_alike, best_over}
-use Rattle.pieces.proofs.Moving.{keeps_further, to_best}
+use Rattle.pieces.proofs.WindowGoesOn.{keeps_further, to_best}
 use Rattle.pieces.proofs.OverWindow.{all_met, stands_blind, stands_none}
-use Rattle.pieces.proofs.Seeing.{all_seen}
-use Rattle.pieces.proofs.Played.{plays_none}
+use Rattle.pieces.proofs.SeenBest.{all_seen}
+use Rattle.pieces.proofs.InPlayCauses.{plays_none}
 
 -- what follows from three things holds where a result is good, if all do
 pub on_ok_three : {T E A B C D : Type 0} (r : Result T E) → (A → B → C → D) → OnOk r A → OnOk r B → OnOk r C → OnOk r D

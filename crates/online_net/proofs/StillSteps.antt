@@ -31,7 +31,7 @@ use Rattle.online_nodes.proofs.StretchLaw.{joined_stays}
 use Rattle.online_net.specs.Nets.{Parts, Stands, IsNext, first_row, last_row_of, last_row_after}
 use Rattle.online_net.specs.Steps.{IsStep}
 use Rattle.online_net.proofs.Events.{stand, keep, operator_stays, input_same, read_place, root_here, stepped_stands, taken_stands}
-use Rattle.online_net.proofs.Feeding.{last_time_is, no_last, leaf_of, start_by_last}
+use Rattle.online_net.proofs.RowInNet.{last_time_is, no_last, leaf_of, start_by_last}
 
 -- what is there already, written once more
 pub set_same : {X : Type 0} (xs : List X) (i : ℕ) (x : X) → slice_get xs i ≡ Some x → slice_set xs i x ≡ xs

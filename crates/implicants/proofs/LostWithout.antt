@@ -25,7 +25,7 @@ use Rattle.implicants.specs.Upward.{AreGone, AreLost, IsGone, PutsNeeded}
 use Rattle.implicants.specs.declared.runs.Run.{Run}
 use Rattle.implicants.proofs.Strips.{one_cell}
 use Rattle.implicants.proofs.Certain.{in_run}
-use Rattle.implicants.proofs.Needing.{certain_covered}
+use Rattle.implicants.proofs.NeededCells.{certain_covered}
 use Rattle.implicants.proofs.MarkedAreKept.{set_marked, marked_set, stays_one}
 
 -- what was so from the next place on is so from this one on

@@ -16,12 +16,12 @@ use Rattle.value_laws.specs.Kinds.{kleene_shape}
 use Rattle.value_laws.specs.declared.kleene.Kleene.{Kleene}
 use Rattle.pieces.specs.declared.piece.Piece.{Piece}
 use Rattle.pieces.specs.Chains.{Chain, IsWorth, end}
-use Rattle.pieces.proofs.Standing.{begin_at, worth_place}
+use Rattle.pieces.proofs.ReadUpTo.{begin_at, worth_place}
 use Rattle.implicants.specs.Needs.{IsOn, IsOff}
 use Rattle.implicants.specs.Upward.{AddsRun, AddsShort, AreShort, AreShortEach, IsShortOver, IsShortPiece}
 use Rattle.implicants.specs.Signs.{sign_at}
 use Rattle.implicants.specs.declared.runs.Run.{Run}
-use Rattle.implicants.proofs.Needing.{shape_off, shape_on}
+use Rattle.implicants.proofs.NeededCells.{shape_off, shape_on}
 
 -- both spans have each time of one that begins with the first, where the second goes on, and ends with it
 pub in_either : (a b : Span) (t : Rational) → value a.to ≈ value b.from → IsTrue (a.to_in || b.from_in) → Precedes a.from_in (value a.from) t

@@ -14,7 +14,7 @@ use Rattle.stl_syntax.specs.declared.items.Item.{Item}
 use Rattle.stl_syntax.specs.declared.node.Node.{Node}
 use Rattle.stl_syntax.specs.declared.node.Node.TheVariants.{Atom as Leaf}
 use Rattle.implicants.specs.Runs.{IsRun, begins, AreAllCells, AreCellsBelow, AddsNode}
-use Rattle.implicants.proofs.Growing.{covered_in}
+use Rattle.implicants.proofs.MoreItems.{covered_in}
 
 module _ (nodes : List Node) (tr : Trace) where
   -- the items of a node cover no other

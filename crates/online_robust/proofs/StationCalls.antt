@@ -23,7 +23,7 @@ use Rattle.online_robust.specs.declared.station.Station.{Station}
 use Rattle.online_robust.specs.declared.station.Work.{Work}
 use Rattle.online_robust.specs.declared.station.Work.TheVariants as W
 use Rattle.online_robust.proofs.OperatorGoesOn.{belongs, belongs_now, has_moved}
-use Rattle.online_robust.proofs.Idling.{both_hidden, idle_moved, idle_noted, idle_there, same_number}
+use Rattle.online_robust.proofs.NothingNew.{both_hidden, idle_moved, idle_noted, idle_there, same_number}
 use Rattle.online_robust.proofs.Leaves.{IsLeafAt}
 use Rattle.online_robust.proofs.LinesPut.{put_within}
 use Rattle.online_robust.proofs.LeafMoved.{atom_leaf, constant_leaf, leaf_moved}

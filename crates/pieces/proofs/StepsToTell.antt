@@ -25,12 +25,12 @@ use Rattle.pieces.specs.Steps.{AreSteps, FallOff, Gives, HasCounted, HasSlid, Hi
 use Rattle.pieces.specs.Windows.{BestTo, HasEntered, IsLeft, IsReached, Keeps, Stands, high_place, low_place}
 use Rattle.pieces.proofs.Bests.{nw_back, nw_same, nw_trans}
 use Rattle.pieces.proofs.Ends.{after_le, at_most_itself, at_most_of_before, at_most_of_same, at_most_trans, upto_le}
-use Rattle.pieces.proofs.Holding.{reach_within, reaches_past}
-use Rattle.pieces.proofs.Moving.{best_on, best_with_none, keeps_told, stands_hidden, stands_slid, tells_more}
-use Rattle.pieces.proofs.Counted.{fall_plays, low_comes}
-use Rattle.pieces.proofs.Played.{plays_slid, plays_told}
+use Rattle.pieces.proofs.PieceEnds.{reach_within, reaches_past}
+use Rattle.pieces.proofs.WindowGoesOn.{best_on, best_with_none, keeps_told, stands_hidden, stands_slid, tells_more}
+use Rattle.pieces.proofs.CountsInPlay.{fall_plays, low_comes}
+use Rattle.pieces.proofs.InPlayCauses.{plays_slid, plays_told}
 use Rattle.pieces.proofs.WindowEnds.{room_in}
-use Rattle.pieces.proofs.Seeing.{falling_before, rising_within}
+use Rattle.pieces.proofs.SeenBest.{falling_before, rising_within}
 use Rattle.pieces.proofs.StepLemmas.{all_above, give_after, give_upto, hide_upto, to_end}
 
 module _ {P : Type 0} (shape : ShapeOf P) (side : Side) (b : Place) (old new : List (Step P)) (p : P) (e : Place) (is : AreSteps shape side b old)

@@ -21,7 +21,7 @@ use Rattle.pieces.specs.Chains.{Chain, end, IsWorth, Rise}
 use Rattle.pieces.specs.Windows.{low_place, high_place, Sees, IsNonEmpty, IsPieceFrom, Best, BestTo, MayClimb}
 use Rattle.pieces.proofs.Bests.{IsBest, Values, nw_same, best_alike, best_value, best_union, best_at_end, best_at_begin, best_none, best_over, over_best}
 use Rattle.pieces.proofs.Ones.{one_clash, sees_one}
-use Rattle.pieces.proofs.Telling.{rising_is_function}
+use Rattle.pieces.proofs.ChainsTell.{rising_is_function}
 
 -- the later of two places
 pub record IsLaterOf (c d b : Place) : Type 0 where

@@ -22,7 +22,7 @@ use Rattle.verdict_stream.specs.declared.verdicts.Verdicts.{Verdicts}
 use Rattle.trace_reader.specs.Reader.{Reader, StandsFor}
 use Rattle.trace_reader.specs.Taken.{HasTraceSoFar}
 use Rattle.verdict_stream.proofs.Blocks.{has_one, kept_header, kept_so_far}
-use Rattle.verdict_stream.proofs.Owing.{KeepsTimes, owes_first, owes_more, owing_places, owing_rows}
+use Rattle.verdict_stream.proofs.OwedRows.{KeepsTimes, owes_first, owes_more, owing_places, owing_rows}
 use Rattle.verdict_stream.proofs.WatchedRows.{fits_width, last_is, places, later_row}
 
 -- what has no length is empty

@@ -24,7 +24,7 @@ use Rattle.pieces.proofs.Bests.{Values, nw_trans, nw_back, better_is_first, bett
 use Rattle.pieces.proofs.Bests.{best_none, best_over, over_best}
 use Rattle.pieces.proofs.Ends.{at_most_trans}
 use Rattle.pieces.proofs.StepLemmas.{all_above, give_after, give_upto, hide_upto, to_end}
-use Rattle.pieces.proofs.Seeing.{low, high, none, BestOf, floor, OfPiece, falling_within, met_more, all_seen, none_seen}
+use Rattle.pieces.proofs.SeenBest.{low, high, none, BestOf, floor, OfPiece, falling_within, met_more, all_seen, none_seen}
 
 module _ {P : Type 0} (shape : ShapeOf P) (laws : ShapeLaws shape) (chain : Chain P) (way : Way) (rising : Rise chain.from chain.pieces) where
   -- what is seen from a time up to a place

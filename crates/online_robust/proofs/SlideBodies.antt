@@ -34,7 +34,7 @@ use Rattle.online_robust.specs.Told.{IsTick}
 use Rattle.online_robust.specs.declared.operator.Operator.TheVariants as Op
 use Rattle.online_robust.specs.declared.slide.Slide.{Slide}
 use Rattle.online_robust.specs.declared.slide.Window.{Window}
-use Rattle.online_robust.proofs.Bridging.{last_to, span_from, swept_of, tick_of, tree}
+use Rattle.online_robust.proofs.OperatorBodies.{last_to, span_from, swept_of, tick_of, tree}
 use Rattle.online_robust.proofs.Builts.{built_done}
 use Rattle.online_robust.proofs.NodeLooks.{front_by_stop, told_as_far}
 use Rattle.online_robust.proofs.Robustly.{robust_is_function}

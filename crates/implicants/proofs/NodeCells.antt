@@ -39,9 +39,9 @@ use Rattle.stl_syntax.specs.declared.node.Node.{Node}
 use Rattle.implicants.specs.Cuts.{times_of}
 use Rattle.implicants.specs.Runs.{IsPlaceOf, IsUpTo}
 use Rattle.implicants.proofs.TruthSignals.{truth_of}
-use Rattle.implicants.proofs.Cutting.{knot_is_cut, root_cut_start}
+use Rattle.implicants.proofs.CutTimes.{knot_is_cut, root_cut_start}
 use Rattle.implicants.proofs.Certain.{rising_first, first_cut, start_cut, cut_at, cut_within}
-use Rattle.implicants.proofs.Counting.{rising_rest}
+use Rattle.implicants.proofs.NodeCounts.{rising_rest}
 
 -- the cells up to the next cut time
 cells_on : (ts : List Rational) (t u : Rational) → cells (ts ++ t ∷ u ∷ []) ≡ cells (ts ++ t ∷ []) ++ gap t u ∷ closed u u ∷ []

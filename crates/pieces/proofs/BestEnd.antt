@@ -31,9 +31,9 @@ use Rattle.pieces.specs.Sliding.{IsBestWith}
 use Rattle.pieces.specs.Windows.{low_place, high_place, BestTo, HasEntered, IsBestEnd, IsNonEmpty, IsPieceFrom, IsSmall, Keeps, MayClimb}
 use Rattle.pieces.proofs.Bests.{best_value, better_alike, better_is_second, nw_back, nw_same, nw_trans}
 use Rattle.pieces.proofs.Ends.{after_of_lt, at_most_itself, at_most_of_before, here_after, here_upto, upto_le, upto_of_lt, upto_time_same}
-use Rattle.pieces.proofs.Seeing.{BestOf, OfPiece, falling_before, floor, high, low, met_more, none, none_seen, rising_past, rising_within}
+use Rattle.pieces.proofs.SeenBest.{BestOf, OfPiece, falling_before, floor, high, low, met_more, none, none_seen, rising_past, rising_within}
 use Rattle.pieces.proofs.SinceSteps.{bounded_ends}
-use Rattle.pieces.proofs.Moving.{of_best, to_best}
+use Rattle.pieces.proofs.WindowGoesOn.{of_best, to_best}
 
 -- what follows from two things holds where a result is good, if both do
 pub on_ok_two : {T E A B C : Type 0} (r : Result T E) → (A → B → C) → OnOk r A → OnOk r B → OnOk r C

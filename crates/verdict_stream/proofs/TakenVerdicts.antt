@@ -25,7 +25,7 @@ use Rattle.online_net.specs.Nets.{Parts, Stands, IsNext, IsStepped}
 use Rattle.answer_lines.specs.Appended.{Grew}
 use Rattle.verdict_stream.specs.Watching.{first_truth, kept_truth, Pass, CanTake, HasTaken, HasGiven}
 use Rattle.verdict_stream.specs.declared.watcher.Network.{Network}
-use Rattle.verdict_stream.proofs.Cutting.{lines_more}
+use Rattle.verdict_stream.proofs.CutVerdicts.{lines_more}
 use Rattle.verdict_stream.proofs.Passes.{steps_append, emitted_alike, taken_once, lines_alike}
 
 -- ---- lists

@@ -29,9 +29,9 @@ use Rattle.implicants.specs.Needs.{IsOn}
 use Rattle.implicants.specs.Nearby.{CountsFor, GoesUpTo, IsBest, IsBestAt, IsBestChain, IsBestSoFar}
 use Rattle.implicants.specs.declared.runs.Run.{Run}
 use Rattle.implicants.specs.declared.nearby.View.{View}
-use Rattle.implicants.proofs.Failing.{first_worth}
-use Rattle.implicants.proofs.Needing.{shape_on}
-use Rattle.implicants.proofs.Running.{of_places}
+use Rattle.implicants.proofs.RootAtStart.{first_worth}
+use Rattle.implicants.proofs.NeededCells.{shape_on}
+use Rattle.implicants.proofs.AddedRuns.{of_places}
 use Rattle.implicants.proofs.Wholes.{input_over}
 
 -- the best value, also written otherwise

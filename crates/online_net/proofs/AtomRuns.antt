@@ -36,7 +36,7 @@ use Rattle.online_nodes.proofs.ToldSoFar.{joined, told_same, same_itself, lead_o
 use Rattle.online_net.specs.Stretches.{after_time, before_time, HasMoreAt, HasPutRun, HasRun, HasTurned, HasPassed, HasGone, HasCome, HasPutStretch, HasPutTwo, StaysOver, StaysFrom, CanGoAlong}
 use Rattle.online_net.specs.declared.stretch.Run.{Run}
 use Rattle.online_net.specs.declared.stretch.Along.{Along}
-use Rattle.online_net.proofs.Saying.{is_test}
+use Rattle.online_net.proofs.AtomVerdicts.{is_test}
 
 -- ---- an edge that got verdicts
 

@@ -27,12 +27,12 @@ use Rattle.pieces.specs.Over.{IsMovedTo, Plays}
 use Rattle.pieces.specs.Sliding.{HasTold}
 use Rattle.pieces.specs.Steps.{FallOff}
 use Rattle.pieces.specs.Windows.{CanSlide, HasEntered, IsLeft, IsNonEmpty, IsPieceFrom, IsReached, Keeps, MayClimb, Stands, high_place, low_place}
-use Rattle.pieces.proofs.Counted.{best_plays}
+use Rattle.pieces.proofs.CountsInPlay.{best_plays}
 use Rattle.pieces.proofs.Ends.{at_most_of_before, at_most_of_same, at_most_trans, upto_of_lt}
-use Rattle.pieces.proofs.Meeting.{best_begins, best_bounded, best_ends, best_with_rise, best_within, limit_before}
-use Rattle.pieces.proofs.Moving.{falls_off, keeps_further, keeps_told, tells_more}
+use Rattle.pieces.proofs.BestEnd.{best_begins, best_bounded, best_ends, best_with_rise, best_within, limit_before}
+use Rattle.pieces.proofs.WindowGoesOn.{falls_off, keeps_further, keeps_told, tells_more}
 use Rattle.pieces.proofs.Ones.{no_steps, stands_one}
-use Rattle.pieces.proofs.Played.{plays_told}
+use Rattle.pieces.proofs.InPlayCauses.{plays_told}
 
 -- what is earlier once both are moved is earlier
 pub lt_of_moved : (a b : Rational) (k : ℤ) → add a (whole k) <ʳ add b (whole k) → a <ʳ b

@@ -7,7 +7,7 @@ use Rattle.stl_syntax.specs.Cells.{IsCut, AreCuts, AreRisingTimes, IsAmong}
 use Rattle.stl_syntax.specs.Kept.{CellCount, none, more, IsTooMany}
 use Rattle.stl_syntax.specs.declared.node.Node.{Node}
 use Rattle.implicants.proofs.Certain.{rising_first}
-use Rattle.implicants.proofs.Cutting.{among_cut, cut_same}
+use Rattle.implicants.proofs.CutTimes.{among_cut, cut_same}
 
 -- what is behind the first of rising times is later
 rising_after : (x : Rational) (xs : List Rational) (t : Rational) → AreRisingTimes (x ∷ xs) → IsAmong xs t → x <ʳ t

@@ -19,7 +19,7 @@ use Rattle.pieces.specs.Chains.{end, stop_from, HasShapeIn, Each, Rise, IsWorth,
 use Rattle.pieces.specs.Negating.{AreLevel, AreOpposite, IsOppositePiece, Negated}
 use Rattle.pieces.proofs.Ends.{same_place}
 use Rattle.pieces.proofs.ChainLemmas.{worth_after, worth_upto}
-use Rattle.pieces.proofs.Standing.{shape_at}
+use Rattle.pieces.proofs.ReadUpTo.{shape_at}
 
 from_opposites : (v w : Extended) → opposite v ≈ᵉ opposite w → v ≈ᵉ w
 from_opposites v w h = let e = opposite_back (opposite v) w h in symᵉ (rw opposite_twice at e)

@@ -22,7 +22,7 @@ use Rattle.online_robust.specs.Moving.{Move, AreMore, CanMove, HasMoved}
 use Rattle.online_robust.specs.declared.line.MarginLine.{MarginLine}
 use Rattle.online_robust.specs.declared.station.Work.{Work}
 use Rattle.online_robust.specs.declared.station.Work.TheVariants as W
-use Rattle.online_robust.proofs.Growing.{goes_on_from}
+use Rattle.online_robust.proofs.GivenOutGrows.{goes_on_from}
 use Rattle.online_robust.proofs.OperatorGoesOn.{edge_other, edge_same, int_not_below, length-set-edges}
 use Rattle.online_robust.proofs.Readers.{reader_above, seen_same}
 use Rattle.online_robust.proofs.RowFacts.{number_here, number_hidden, number_rises, number_shown, shown_is}

@@ -22,7 +22,7 @@ use Rattle.stl_syntax.proofs.PostOrderLemmas.{placed, child_below}
 use Rattle.stl_syntax.proofs.RowsLemmas.{first_to_last}
 use Rattle.implicants.specs.Cuts.{times_of, cuts_at, list_times, Adds, AreNear, IsNearTime, IsNearList, AreCutsFrom, IsHandedDown, IsMovedBy}
 use Rattle.implicants.specs.Explaining.{AreFewCells}
-use Rattle.implicants.proofs.Moving.{adds_none, adds_same, adds_then}
+use Rattle.implicants.proofs.MovedCuts.{adds_none, adds_same, adds_then}
 use Rattle.implicants.proofs.Certain.{cut_within, start_cut}
 
 module _ (nodes : List Node) (from to : Rational) (cuts : ℕ → List Rational) (i : ℕ) where

@@ -38,7 +38,7 @@ use Rattle.implicants.specs.Signs.{sign_at, AreSigned, AreSigns}
 use Rattle.implicants.specs.Upward.{AreLost, AreWhole, HasBest, AreOperands, HasBestIn, IsBestOf}
 use Rattle.implicants.specs.declared.nearby.View.{View}
 use Rattle.implicants.specs.declared.runs.Run.{Run}
-use Rattle.implicants.proofs.Helping.{tree_helps}
+use Rattle.implicants.proofs.BestAtoms.{tree_helps}
 use Rattle.implicants.proofs.Wholes.{set_here}
 
 -- an atom, whichever

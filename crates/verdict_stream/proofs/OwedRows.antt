@@ -41,12 +41,12 @@ use Rattle.trace_stream.specs.declared.case.Case.{Case}
 use Rattle.verdict_stream.specs.declared.watcher.Network.{Network}
 use Rattle.verdict_stream.specs.declared.watcher.Watcher.{Watcher}
 use Rattle.verdict_stream.proofs.Passes.{state_after, parted, emitted_alike, Gives, AreQuiet, quiet_shown, quiet_gives, pass_gives, text_of_given}
-use Rattle.verdict_stream.proofs.Taking.{first_alike, emitted_takes}
-use Rattle.verdict_stream.proofs.Watched.{no_row, shown_by, rows_others, taken_on, rows_at}
-use Rattle.verdict_stream.proofs.Watched.{driven_at, driven_emptied, none_driven, after_pass, Passing}
-use Rattle.verdict_stream.proofs.Watched.{passing_of, passed_of, pass_before, front_after, front_is, front_push, shown_after, rows_told}
+use Rattle.verdict_stream.proofs.TakenVerdicts.{first_alike, emitted_takes}
+use Rattle.verdict_stream.proofs.WatchedRoot.{no_row, shown_by, rows_others, taken_on, rows_at}
+use Rattle.verdict_stream.proofs.WatchedRoot.{driven_at, driven_emptied, none_driven, after_pass, Passing}
+use Rattle.verdict_stream.proofs.WatchedRoot.{passing_of, passed_of, pass_before, front_after, front_is, front_push, shown_after, rows_told}
 use Rattle.verdict_stream.proofs.RowsTogether.{HasLast, last_of, rows_of_both, rows_of_more}
-use Rattle.verdict_stream.proofs.Cutting.{Leads, describes_leads, leads_alike}
+use Rattle.verdict_stream.proofs.CutVerdicts.{Leads, describes_leads, leads_alike}
 use Rattle.verdict_stream.proofs.CutRows.{LeftTo, rows_cut}
 
 module _ (nodes : List Node) (header : Header) where

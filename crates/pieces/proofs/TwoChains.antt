@@ -13,7 +13,7 @@ use Rattle.pieces.specs.declared.next.Next.{Next}
 use Rattle.pieces.specs.declared.piece.Piece.{Piece}
 use Rattle.pieces.specs.Chains.{Chain, IsLimited, IsNormal, IsWorth, end, stop}
 use Rattle.pieces.proofs.Ends.{at_most_of_before, at_most_trans, same_place}
-use Rattle.pieces.proofs.Standing.{StandsAt, stands_next, stands_inside, stands_before, is_inside, end_within, end_most, worth_on}
+use Rattle.pieces.proofs.ReadUpTo.{StandsAt, stands_next, stands_inside, stands_before, is_inside, end_within, end_most, worth_on}
 use Rattle.pieces.proofs.CombiningLemmas.{nearer}
 
 -- the walk stands at a place: p and q go on there, and `next` is the earlier of their ends

@@ -22,7 +22,7 @@ use Rattle.pieces.specs.Causes.{IsHeldAt}
 use Rattle.pieces.specs.Windows.{IsNonEmpty, IsPieceFrom, IsSmall, high_place, low_place}
 use Rattle.pieces.proofs.AheadOver.{in_domain}
 use Rattle.pieces.proofs.Ends.{after_of_lt, after_time_same, here_after, here_upto, upto_of_lt, upto_time_same}
-use Rattle.pieces.proofs.Seeing.{earlier_place, later_place}
+use Rattle.pieces.proofs.SeenBest.{earlier_place, later_place}
 use Rattle.pieces.proofs.WindowEnds.{room_in}
 
 module _ (over : Reach) where

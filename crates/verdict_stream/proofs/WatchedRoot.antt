@@ -42,7 +42,7 @@ use Rattle.answer_lines.specs.Appended.{Grew}
 use Rattle.verdict_stream.specs.Watching.{first_truth, Pass, HasTakenAll}
 use Rattle.verdict_stream.specs.declared.watcher.Network.{Network}
 use Rattle.verdict_stream.proofs.Passes.{state_after, parted, rows_stay, emitted_alike, Gives, pass_gives, text_of_given}
-use Rattle.verdict_stream.proofs.Taking.{first_alike, emitted_takes}
+use Rattle.verdict_stream.proofs.TakenVerdicts.{first_alike, emitted_takes}
 
 -- events that are no take
 abbrev pub AreOthers : List Event → Type 0

@@ -31,7 +31,7 @@ use Rattle.pieces.specs.Over.{InPlay, IsMovedTo}
 use Rattle.pieces.specs.Causes.{IsHeldAt}
 use Rattle.pieces.specs.Windows.{IsAtEnd, IsBestEnd, IsNonEmpty, IsPieceFrom, IsSmall, high_place, low_place}
 use Rattle.pieces.proofs.Ends.{after_of_lt, upto_le, upto_of_lt}
-use Rattle.pieces.proofs.Playing.{first_held, high_in_play, last_held, low_in_play, past_high, past_low, short_high, short_low, steady_in_play}
+use Rattle.pieces.proofs.TakenInPlay.{first_held, high_in_play, last_held, low_in_play, past_high, past_low, short_high, short_low, steady_in_play}
 
 module _ {P : Type 0} (shape : ShapeOf P) (chain : Chain P) (over : Reach) (rising : Rise chain.from chain.pieces) (small : IsSmall over)
     (some : IsNonEmpty over) (c : Place) (p : Piece P) (is : IsPieceFrom shape chain c p) (at until : Place) where
