@@ -1,5 +1,5 @@
 //! Rows that come alone and at which no atom turns: what is known of the rows before, so that such a row is answered without a step.
-ghost use Rattle.std.specs.Prelude.{◌≡◌, ◌+◌, ◌*◌, ◌<◌, ◌≤◌, Bool, Some, None};
+ghost use Rattle.std.specs.Prelude.{◌≡◌, ◌⊎◌, ◌+◌, ◌*◌, ◌<◌, ◌≤◌, Bool, Some, None, length};
 ghost use Rattle.stl_syntax.specs.Formula.{horizon, root};
 ghost use Rattle.bounds.specs.Turns.{far as far_of, looks_back};
 ghost use Rattle.verdict_stream.specs.Quieting.{own_back as back_of_node, IsLastTruth, HasLearned};
@@ -62,7 +62,8 @@ fn back_of(formula: &Formula) -> u64
 
 /// The truth of the last of some lines of verdicts, where there is one: the letter before the last of its word.
 fn last_truth(lines: &[u8]) -> Option<bool>
-    ensures { (holds : Bool) → result ≡ Some holds → IsLastTruth lines.now holds }
+    ensures some { (holds : Bool) → result ≡ Some holds → IsLastTruth lines.now holds }
+    ensures none { result ≡ None → length lines.now < 3 }
 {
     if lines.len() < 3 {
         return None;
@@ -93,8 +94,12 @@ impl Quiet {
         ensures told { (holds : Bool) → result ≡ Some holds → self.now.told ≡ Some holds }
         ensures calm { (holds : Bool) → result ≡ Some holds → self.now.calm + self.now.reach < last }
         ensures few { (holds : Bool) → result ≡ Some holds → self.now.rows < 64 }
+        ensures none { result ≡ None → (63 ≤ self.now.rows) ⊎ (last ≤ self.now.calm + self.now.reach) ⊎ (self.now.told ≡ None) }
     {
-        if self.rows >= MOST_QUIET || u64::from(last.saturating_sub(self.calm)) <= self.reach {
+        if self.rows >= MOST_QUIET {
+            return None;
+        }
+        if u64::from(last.saturating_sub(self.calm)) <= self.reach {
             return None;
         }
         self.told
