@@ -11,6 +11,7 @@ ghost use Rattle.node_edges.specs.Queues.{edges_from, AreTracks, Block};
 ghost use Rattle.node_edges.specs.Held.{edge_at, fresh_at, held_at, joining, no_edge, number_at, with_edge, with_more, with_number};
 ghost use Rattle.node_edges.specs.Held.{with_read, without, HasMore, IsDroppedBy};
 ghost use Rattle.node_edges.specs.Lengthening.{CanLengthen};
+ghost use Rattle.std.specs.Option.{option_copied};
 
 use crate::far::{Far, Track, drop_far, first_far, make_way, next_far, pass_far, skip_one};
 use crate::part::Part;
@@ -276,6 +277,48 @@ impl<T: Part> Edges<T> {
             };
         }
         track.near.next()
+    }
+
+    /// The first part of an edge that its reader has not read, where it stands.
+    #[inline(always)]
+    pub fn unread(&self, edge: u32) -> Option<&T>
+        requires { edge < length self.now.edges }
+        ensures { option_copied result ≡ slice_get (fresh_at self.now edge) 0 }
+    {
+        let track = &self.tracks[edge as usize];
+        if track.far.waits() {
+            return next_far(&self.pool, edge, &track.far);
+        }
+        track.near.unread()
+    }
+
+    /// The first part of an edge, read or not, where it stands.
+    #[inline(always)]
+    pub fn ahead(&self, edge: u32) -> Option<&T>
+        requires { edge < length self.now.edges }
+        ensures { option_copied result ≡ slice_get (held_at self.now edge) 0 }
+    {
+        let track = &self.tracks[edge as usize];
+        if track.far.is_some() {
+            return first_far(&self.pool, edge, &track.far);
+        }
+        track.near.ahead()
+    }
+
+    /// Drops the first part of an edge, if there is one.
+    #[inline(always)]
+    pub fn skip(&mut self, edge: u32)
+        requires { edge < length self.old.edges }
+        ensures taken { self.new.edges ≡ with_edge self.old edge (without 1 (edge_at self.old edge)) }
+        ensures start { self.new.start ≡ self.old.start }
+        ensures spare { self.old.spare ≤ self.new.spare }
+    {
+        let track = &mut self.tracks[edge as usize];
+        if track.far.is_some() {
+            skip_one(&mut self.pool, edge, &mut track.far);
+            return;
+        }
+        let _ = track.near.take();
     }
 
     /// Reads the first part of an edge that was not read, and gives it. It takes no memory.

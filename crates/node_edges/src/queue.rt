@@ -2,6 +2,7 @@
 //! read a part moves nothing. A queue that joins lengthens its last part, as long as that was not read, by one that goes on from it.
 
 ghost use Rattle.std.specs.Prelude.{◌≡◌, ◌+◌, ◌-◌, ◌<◌, ◌≤◌, ◌^◌, ◌∷◌, [], ℕ, true, false, length, slice_get, ◌↔◌, IsOk, IsTrue, OnOk};
+ghost use Rattle.std.specs.Option.{option_copied};
 ghost use Rattle.std.specs.VecDeque.{deque_capacity};
 ghost use Rattle.rational.specs.Rational.{◌≤ʳ◌};
 ghost use Rattle.frac128.specs.Value.{value};
@@ -166,6 +167,22 @@ impl<T: Part> Queue<T> {
         let v = self.items[self.read];
         self.read += 1;
         v
+    }
+
+    /// The first part that was not read, where it stands.
+    #[inline(always)]
+    pub(crate) fn unread(&self) -> Option<&T>
+        ensures { option_copied result ≡ slice_get (edge_of self.now).fresh 0 }
+    {
+        self.items.get(self.read)
+    }
+
+    /// The first part, where it stands.
+    #[inline(always)]
+    pub(crate) fn ahead(&self) -> Option<&T>
+        ensures { option_copied result ≡ slice_get (held_of (edge_of self.now)) 0 }
+    {
+        self.items.front()
     }
 
     /// The first part.

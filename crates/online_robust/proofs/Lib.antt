@@ -1,5 +1,3 @@
-mod EdgesLemmas
-pub mod DroppingLemmas
 mod RefusalsBeside
 mod GivenOut
 mod GivenOutGrows

@@ -12,17 +12,7 @@ use Rattle.online_robust.specs.Lines.{end_of}
 use Rattle.online_robust.specs.Held.{Edge, Held, edge_at, held_at, held_of, no_edge, with_edge, without}
 use Rattle.online_robust.specs.ReadLines.{Loses, LosesAt, LosesAtBoth}
 use Rattle.online_robust.specs.declared.line.MarginLine.{MarginLine}
-use Rattle.node_edges.proofs.DroppingLemmas.{drop-drop}
-use Rattle.online_robust.proofs.DroppingLemmas.{held_of-without, without-none}
-
--- lines are dropped in two turns
-pub without-both : (a b : ℕ) (x : Edge) → without a (without b x) ≡ without (b + a) x
-without-both a b x =
-    let count : (b - length x.seen) + (a - length (drop b x.seen)) ≡ b + a - length x.seen = omega (arith, length-drop b x.seen) in
-    ap (λ s. record { seen = s; fresh = drop (a - length (drop b x.seen)) (drop (b - length x.seen) x.fresh); number = x.number })
-    (drop-drop a b x.seen)
-    ∙ ap (λ f. record { seen = drop (b + a) x.seen; fresh = f; number = x.number })
-    (drop-drop (a - length (drop b x.seen)) (b - length x.seen) x.fresh ∙ ap (λ k. drop k x.fresh) count)
+use Rattle.node_edges.proofs.DroppingLemmas.{held_of-without, without-more, without-none}
 
 -- nothing is lost
 pub loses_none : (limit : Rational) (x : Edge) → Loses limit x x
@@ -41,7 +31,7 @@ loses_later {x = x} le h = record { count = h.count; is = h.is; ended = λ k bel
 pub loses_both : {limit : Rational} {x y z : Edge} → Loses limit x y → Loses limit y z → Loses limit x z
 loses_both {limit} {x} {y} {z} h k = record {
   count = h.count + k.count;
-  is = k.is ∙ ap (without k.count) h.is ∙ without-both k.count h.count x;
+  is = k.is ∙ ap (without k.count) h.is ∙ without-more k.count h.count x;
   ended = ended;
 }
   where

@@ -12,7 +12,7 @@ use Rattle.online_robust.specs.declared.line.MarginLine.{MarginLine}
 use Rattle.online_robust.specs.declared.line.MarginLine.TheVariants.{Point, Gap}
 
 more_more : (x : Edge) (a b : List MarginLine) → with_more (with_more x a) b ≡ with_more x (a ++ b)
-more_more x a b = ap (λ l. record { seen = x.seen; fresh = l; number = x.number }) (append_assoc x.fresh a b)
+more_more x a b = ap (λ l. record { seen = x.seen; fresh = l; number = x.number; joins = x.joins }) (append_assoc x.fresh a b)
 
 -- no lines
 pub put_nothing : (node : ℕ) (e : Held) → HasPut node [] e e
@@ -22,7 +22,7 @@ put_nothing node e = record {
 }
   where
     no_more : (x : Edge) → with_more x [] ≡ x
-    no_more x = ap (λ l. record { seen = x.seen; fresh = l; number = x.number }) (append-nil x.fresh)
+    no_more x = ap (λ l. record { seen = x.seen; fresh = l; number = x.number; joins = x.joins }) (append-nil x.fresh)
 
 -- lines, and then others
 pub put_both : (node : ℕ) (a b : List MarginLine) (e f g : Held) → node < length e.edges → HasPut node a e f → HasPut node b f g → HasPut node (a ++ b) e g

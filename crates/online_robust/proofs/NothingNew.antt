@@ -62,12 +62,12 @@ pub idle_there : (e : Held) (place : ℕ) (number : ℤ) → number_at e place �
 idle_there e place number is = record { here = numbered (edge_at e place) is; others = λ j apart. refl; edges = refl; start = refl }
   where
     numbered : (x : Edge) → x.number ≡ Some number → x ≡ with_number x number
-    numbered x e = ap (λ n. record { seen = x.seen; fresh = x.fresh; number = n }) e
+    numbered x e = ap (λ n. record { seen = x.seen; fresh = x.fresh; number = n; joins = x.joins }) e
 
 module _ (m : Move) (w : Work) (e e' : Held) (can : CanMove m w e) (number : ℤ) (is : number_of m.nodes m.new m.place ≡ Some number)
     (same : shown_of m.nodes m.new m.place ≡ shown_of m.nodes m.old m.place) (idle : IsIdle m.place number e e') where
   more_of_none : (x : Edge) → with_number (with_more x []) number ≡ with_number x number
-  more_of_none x = ap (λ l. record { seen = x.seen; fresh = l; number = Some number }) (append-nil x.fresh)
+  more_of_none x = ap (λ l. record { seen = x.seen; fresh = l; number = Some number; joins = x.joins }) (append-nil x.fresh)
 
   work_on : (n : Node) → slice_get m.nodes m.place ≡ Some n → (w : Work) → IsWork m.nodes m.header m.old m.place n (seen_by n e) w
       → IsWork m.nodes m.header m.new m.place n (seen_by n e') w

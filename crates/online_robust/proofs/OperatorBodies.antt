@@ -52,7 +52,7 @@ use Rattle.online_robust.specs.declared.operator.Operator.{Operator}
 use Rattle.online_robust.specs.declared.operator.Operator.TheVariants as Op
 use Rattle.online_robust.specs.declared.pointwise.Not as Negated
 use Rattle.online_robust.specs.declared.pointwise.Two.{Two}
-use Rattle.online_robust.proofs.DroppingLemmas.{held_of-without}
+use Rattle.node_edges.proofs.DroppingLemmas.{held_of-without}
 use Rattle.online_robust.proofs.Readers.{reader_above, tree_at_node}
 use Rattle.online_robust.proofs.Robustly.{robust_is_function}
 

@@ -24,7 +24,7 @@ use Rattle.online_robust.specs.Nets.{Shows, AreRowsSoFar, IsTimely}
 use Rattle.online_robust.specs.declared.line.MarginLine.{MarginLine}
 use Rattle.online_robust.specs.declared.line.MarginLine.TheVariants.{Point, Gap}
 use Rattle.online_robust.specs.declared.station.Station.{Station}
-use Rattle.online_robust.proofs.DroppingLemmas.{held_of-without}
+use Rattle.node_edges.proofs.DroppingLemmas.{held_of-without}
 use Rattle.online_robust.proofs.GivenOutGrows.{itself}
 use Rattle.online_robust.proofs.Readers.{seen_same}
 
@@ -33,8 +33,8 @@ pub first_and_rest : (xs : List MarginLine) (line : MarginLine) → slice_get xs
 first_and_rest [] line h = absurd (let f = h in cc)
 first_and_rest (x ∷ xs) line h = let same : x ≡ line = same_Some _ _ h in ap (λ y. y ∷ xs) (sym same)
 
-abbrev edge_of_parts : List MarginLine → List MarginLine → Option ℤ → Edge
-edge_of_parts seen fresh number = record { seen = seen; fresh = fresh; number = number }
+abbrev edge_of_parts : List MarginLine → List MarginLine → Edge → Edge
+edge_of_parts seen fresh x = record { seen = seen; fresh = fresh; number = x.number; joins = x.joins }
 
 -- ---- what the nodes show, where only what was taken of the root has changed
 
@@ -102,7 +102,7 @@ module _ (nodes : List Node) (header : Header) (streamed : AreStreamed nodes) (a
       empty x h = by_parts x.seen x.fresh h
         where
           by_parts : (seen fresh : List MarginLine) → slice_get (seen ++ fresh) 0 ≡ None
-              → edge_of_parts (drop 1 seen) (drop (1 - length seen) fresh) x.number ≡ edge_of_parts seen fresh x.number
+              → edge_of_parts (drop 1 seen) (drop (1 - length seen) fresh) x ≡ edge_of_parts seen fresh x
           by_parts [] [] h = refl
           by_parts [] (y ∷ fresh) h = absurd (let f = h in cc)
           by_parts (y ∷ seen) fresh h = absurd (let f = h in cc)

@@ -13,7 +13,7 @@ use Rattle.online_robust.specs.Lines.{end_of}
 use Rattle.online_robust.specs.Slides.{DropsBy, HasRead, ReadsOn, Sheds}
 use Rattle.online_robust.specs.Steps.{AreInputs, AreLeft, IsCut, back_of}
 use Rattle.online_robust.specs.declared.line.MarginLine.{MarginLine}
-use Rattle.online_robust.proofs.DroppingLemmas.{held_of-without}
+use Rattle.node_edges.proofs.DroppingLemmas.{held_of-without}
 use Rattle.online_robust.proofs.SlideAgain.{moved_whole}
 
 -- where an end of a window comes to an offset from the turn's number, what ends by then is gone from the edge, but nothing before the start

@@ -40,12 +40,16 @@ use Rattle.online_robust.proofs.RootTaken.{first_and_rest, held_none, line_timel
 
 -- ---- a new network
 
-edge_of_new : (n j : ℕ) → get_or (replicate n no_edge) j no_edge ≡ no_edge
+-- an edge of margins in a new network
+abbrev none_yet : Edge
+none_yet = no_edge
+
+edge_of_new : (n j : ℕ) → get_or (replicate n none_yet) j none_yet ≡ none_yet
 edge_of_new zero j = refl
 edge_of_new (suc n) zero = refl
 edge_of_new (suc n) (suc j) = edge_of_new n j
 
-length_of_new : (n : ℕ) → length (replicate n no_edge) ≡ n
+length_of_new : (n : ℕ) → length (replicate n none_yet) ≡ n
 length_of_new zero = refl
 length_of_new (suc n) = ap suc (length_of_new n)
 

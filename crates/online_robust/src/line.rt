@@ -1,10 +1,13 @@
 //! The parts of a margin over time: points, and the open gaps between them.
 ghost use Rattle.std.specs.Prelude.{◌≡◌, ◌^◌};
+ghost use Rattle.frac128.specs.Value.{value};
 ghost use Rattle.rational.specs.Affine.{HasBoundedLevel};
 ghost use Rattle.value_laws.specs.Margins.{margin_function};
 ghost use Rattle.online_robust.specs.Lines.{end_of, margin_of, IsNegated};
 
 use frac128::Frac;
+use node_edges::Part;
+use std::cmp::Ordering;
 use value_laws::{Margin, Shape};
 
 /// A point with its value, or an open gap with its margin.
@@ -69,4 +72,30 @@ impl MarginLine {
             },
         }
     }
+}
+
+/// No margin goes on from another: the edges of margins join nothing.
+impl Part for MarginLine {
+    ghost end = { λ x. value (end_of x) };
+
+    ghost follows = { λ _ _. ⊥ };
+
+    ghost joined = { λ _ _ _. ⊥ };
+
+    #[inline(always)]
+    fn ends_by(&self, time: &Frac) -> bool {
+        match self.end().cmp(time) {
+            Ordering::Less => true,
+            Ordering::Equal => true,
+            Ordering::Greater => false,
+        }
+    }
+
+    #[inline(always)]
+    fn goes_on(&self, _next: &MarginLine) -> bool {
+        false
+    }
+
+    #[inline(always)]
+    fn lengthen(&mut self, _next: &MarginLine) {}
 }

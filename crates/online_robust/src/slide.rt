@@ -135,7 +135,7 @@ fn take_in(
             return Ok(());
         };
         let piece = piece_of(line);
-        edges.pass(of);
+        let _ = edges.pass(of);
         stream.meet(&piece, fault)?;
     }
     Ok(())
@@ -158,7 +158,7 @@ fn read_under(
         return None;
     }
     let piece = piece_of(line);
-    edges.pass(of);
+    let _ = edges.pass(of);
     Some(piece)
 }
 

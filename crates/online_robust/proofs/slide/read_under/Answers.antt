@@ -1,11 +1,12 @@
-use Rattle.std.proofs.Common.{◌≡◌, ◌<◌, inl, sym, subst, Some, [], length, slice_get}
+use Rattle.std.proofs.Common.{◌≡◌, ◌<◌, inl, sym, subst, ◌∙◌, Some, [], length, slice_get}
 use Rattle.rational.specs.Rational.{add, whole}
 use Rattle.rational.specs.Time.{◌≤ʳ◌}
 use Rattle.rational.proofs.Lists.{empty_of_none}
 use Rattle.rational.proofs.Order.{ge_of_same}
 use Rattle.frac128.specs.Value.{value}
 use Rattle.frac128.specs.Cuts.{place}
-use Rattle.online_robust.specs.Held.{fresh_at}
+use Rattle.std.proofs.lemmas.Option.{same_Some, slice_get_within}
+use Rattle.online_robust.specs.Held.{edge_at, fresh_at, with_edge, with_read}
 use Rattle.online_robust.specs.Slides.{IsOnWay, IsTakenIn, IsUnder}
 use Rattle.online_robust.proofs.SlideCuts.{reads_none}
 use Rattle.online_robust.proofs.SlideGone.{none_under}
@@ -19,10 +20,13 @@ unread-requires c =
     let (x, on, taken, of, to) = c.requires.can in
     subst (λ n. n < length c.args.edges.now.edges) of on.within
 
-pub pass-requires : goal.pass-requires
-pass-requires c =
+pub pass-requires-clause-edge : goal.pass-requires-clause-edge
+pass-requires-clause-edge c =
     let (x, on, taken, of, to) = c.requires.can in
     subst (λ n. n < length c.args.edges.now.edges) of on.within
+
+pub pass-requires-clause-some : goal.pass-requires-clause-some
+pass-requires-clause-some c = slice_get_within (fresh_at c.args.edges.now c.args.of) 0 c.in_ok-line.line.now (sym c.in_ok-line.ensures)
 
 pub stands-requires-clause-follows : goal.stands-requires-clause-follows
 stands-requires-clause-follows c =
@@ -65,7 +69,8 @@ has_read c =
     record {
       within = subst (λ n. n < length c.args.edges.now.edges) of on.within;
       first = first;
-      read = c.pass.ensures.read c.in_ok-line.line.now first;
+      read = subst (λ v. c.pass.new.self.edges ≡ with_edge c.args.edges.now c.args.of (with_read (edge_at c.args.edges.now c.args.of) v))
+          (same_Some c.pass.result c.in_ok-line.line.now (sym c.pass.ensures.first ∙ first)) c.pass.ensures.read;
       start = c.pass.ensures.start;
     }
 

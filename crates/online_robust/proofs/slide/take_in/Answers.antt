@@ -11,7 +11,8 @@ use Rattle.value_laws.specs.Kinds.{margin_shape}
 use Rattle.value_laws.specs.declared.margin.Margin.{Margin}
 use Rattle.pieces.specs.Chains.{Chain, end, stop}
 use Rattle.pieces.specs.Streaming.{ComesNext, Follows, IsCauseBelow, IsHeldCause, before_time}
-use Rattle.online_robust.specs.Held.{fresh_at}
+use Rattle.std.proofs.lemmas.Option.{same_Some, slice_get_within}
+use Rattle.online_robust.specs.Held.{edge_at, fresh_at, with_edge, with_read}
 use Rattle.online_robust.specs.Slides.{Course}
 use Rattle.online_robust.proofs.SlideMeets.{HasReadLine, comes_for, line_refused, met_line, read_fewer, read_first, reads_line}
 use Rattle.online_robust.proofs.SlideCuts.{reads_both, reads_none}
@@ -38,10 +39,13 @@ unread-requires c =
     let (x, on, of, to) = c.requires.can in
     subst (λ n. n < length c.loop-edges.edges.edges) of (c.loop-edges.invariant.on x on of to).within
 
-pub pass-requires : goal.pass-requires
-pass-requires c =
+pub pass-requires-clause-edge : goal.pass-requires-clause-edge
+pass-requires-clause-edge c =
     let (x, on, of, to) = c.requires.can in
     subst (λ n. n < length c.loop-edges.edges.edges) of (c.loop-edges.invariant.on x on of to).within
+
+pub pass-requires-clause-some : goal.pass-requires-clause-some
+pass-requires-clause-some c = slice_get_within (fresh_at c.loop-edges.edges c.args.of) 0 c.in-Some.line.now (sym (rw c.in-Some.is at c.unread.ensures))
 
 -- the line that was read
 has_read : (c : After-pass) → HasReadLine c.args.of c.loop-edges.edges c.pass.new.self c.in-Some.line.now
@@ -51,7 +55,8 @@ has_read c =
     record {
       within = subst (λ n. n < length c.loop-edges.edges.edges) of (c.loop-edges.invariant.on x on of to).within;
       first = first;
-      read = c.pass.ensures.read c.in-Some.line.now first;
+      read = subst (λ v. c.pass.new.self.edges ≡ with_edge c.loop-edges.edges c.args.of (with_read (edge_at c.loop-edges.edges c.args.of) v))
+          (same_Some c.pass.result c.in-Some.line.now (sym c.pass.ensures.first ∙ first)) c.pass.ensures.read;
       start = c.pass.ensures.start;
     }
 
