@@ -1,12 +1,12 @@
 -- An atom's truth along a block, run by run.
-use Rattle.std.proofs.Common.{◌≡◌, ◌⊎◌, inl, inr, refl, sym, ap, subst, ◌∙◌, ℕ, ◌-◌, ◌<◌, ◌≤◌, Bool, true, false, not, Some, None}
+use Rattle.std.proofs.Common.{◌≡◌, ◌⊎◌, inl, inr, refl, sym, ap, subst, ◌∙◌, ℕ, ◌-◌, ◌<◌, ◌≤◌, Bool, true, false, not, Option, Some, None, MatchOption}
 use Rattle.std.proofs.Common.{List, [], ◌∷◌, ◌++◌, length, get_or, set, ℤ, pos, ◌<ℤ◌, ◌≤ℤ◌, arith, append_assoc}
 use Rattle.std.proofs.lemmas.Bool.{cases_order}
 use Rattle.std.proofs.lemmas.Int.{ints}
 use Rattle.std.specs.Bool.{beq}
 use Rattle.std.proofs.lemmas.Option.{same_Some}
 use Rattle.std.proofs.lemmas.List.{append-nil, get_or-set_same, length-set, set-get_or, set-set}
-use Rattle.rational.specs.Rational.{Rational, ◌<ʳ◌, ◌≤ʳ◌, whole}
+use Rattle.rational.specs.Rational.{Rational, ◌<ʳ◌, ◌≤ʳ◌, ◌≈◌, whole}
 use Rattle.rational.specs.Places.{Place, begins, ends, AtMost, Before, Same}
 use Rattle.rational.proofs.Order.{same_refl, same_of_le, le_or_lt, le_of_lt, le_refl, le_trans, not_lt_of_le}
 use Rattle.rational.proofs.Shift.{lt_whole, le_whole}
@@ -21,10 +21,13 @@ use Rattle.stl_syntax.specs.declared.atom.Atom.{Atom}
 use Rattle.stl_syntax.specs.declared.items.Verdict.{Verdict}
 use Rattle.atom_lines.specs.Binding.{Binding, IsFor}
 use Rattle.atom_lines.specs.Growing.{IsReachAt}
+use Rattle.atom_lines.specs.Legs.{IsLeg, TurnsOver, BendsSo, bent, jumped, turning_place}
 use Rattle.atom_lines.specs.Passages.{HasBlock, IsWay, TellsPassage, TurnsInside, crossing_time}
 use Rattle.atom_lines.specs.Rows.{row_of}
+use Rattle.atom_lines.specs.declared.passage.Leg.{Leg}
 use Rattle.atom_lines.specs.declared.passage.Passage.{Passage}
 use Rattle.atom_lines.specs.declared.passage.Passage.TheVariants.{Steady, Turns}
+use Rattle.atom_lines.specs.declared.passage.Turning.{Turning}
 use Rattle.atom_lines.specs.declared.passage.Way.{Way}
 use Rattle.online_nodes.specs.Held.{Edge, Held, HasMore, Stand, edge_at, no_edge, with_edge, with_more}
 use Rattle.online_nodes.specs.Truths.{AllAre}
@@ -33,7 +36,7 @@ use Rattle.node_edges.specs.Kinds.{verdict_part}
 use Rattle.node_edges.proofs.Stretches.{more_given}
 use Rattle.online_nodes.proofs.Stretches.{some_verdict, stand_again, stand_given, stand_more}
 use Rattle.online_nodes.proofs.ToldSoFar.{joined, told_same, same_itself, lead_on, lead_to}
-use Rattle.online_net.specs.Stretches.{after_time, before_time, HasMoreAt, HasPutRun, HasRun, HasTurned, HasPassed, HasGone, HasCome, HasPutStretch, HasPutTwo, StaysOver, StaysFrom, CanGoAlong}
+use Rattle.online_net.specs.Stretches.{after_time, before_time, HasMoreAt, HasPutRun, HasRun, HasTurned, HasPassed, HasBent, HasGone, HasCome, HasPutStretch, HasPutTwo, StaysOver, StaysFrom, CanGoAlong}
 use Rattle.online_net.specs.declared.stretch.Run.{Run}
 use Rattle.online_net.specs.declared.stretch.Along.{Along}
 use Rattle.online_net.proofs.AtomVerdicts.{is_test}
@@ -223,6 +226,80 @@ gone i first second later e0 e1 e2 before mid after (Turns holds x side) last p 
       (after_time second) (λ u low high. is_test a tr u last (there u (same_of_le high low))));
 }
 
+-- ---- a leg
+
+-- what tells a run up to a place, tells it up to a later one
+run_on : (n : Subformula) (tr : Trace) (begin : Place) (written : List Verdict) (run : Run) (c d : Place) → HasRun n tr begin written run c
+    → AllAre run.holds (Truth n tr) c d → HasRun n tr begin written run d
+run_on n tr begin written run c d h all = record {
+  last = h.last;
+  lead = h.lead;
+  other = h.other;
+  all = joined run.holds (Truth n tr) (place run.from) c d h.all all;
+}
+
+-- behind the gap of a leg there are as many edges as before
+pub bent_count : (i : ℕ) (old new : Held) (before after : Run) (turn : Option Turning) → HasBent old new i before turn after
+    → length new.edges ≡ length old.edges
+bent_count i old new before after None p = ap (λ (e : Held). length e.edges) p.0
+bent_count i old new before after (Some x) p = more_count p.got
+
+-- and the run began before the row at its end
+pub bent_before : (i first second : ℕ) → first < second → (old new : Held) (before after : Run) (turn : Option Turning)
+    → Before (place before.from) (after_time first) → TurnsOver (whole (pos first)) (whole (pos second)) turn → HasBent old new i before turn after
+    → Before (place after.from) (before_time second)
+bent_before i first second later old new before after None some over p =
+    subst (λ (r : Run). Before (place r.from) (before_time second)) (sym p.1)
+    (before_trans (place before.from) (after_time first) (before_time second) some (time_order first second later))
+bent_before i first second later old new before after (Some x) some over p = p.order (before_time second) (inl over.ends)
+
+-- the atom went over the gap and to the row at its end
+pub record HasGoneOver (old new : Held) (i : ℕ) (before : Run) (first second : ℕ) (turn : Option Turning) (jumps : Bool) (after : Run) : Type 0 where
+  pub more : List Verdict
+  pub got : HasMoreAt old new i more
+  pub truth : after.holds ≡ jumped jumps (bent turn before.holds)
+  pub some : Before (place after.from) (after_time second)
+  pub told : (a : Atom) (tr : Trace) (begin : Place) (written : List Verdict) → HasRun (atom i a) tr begin written before (after_time first)
+      → BendsSo (whole (pos first)) (whole (pos second)) (holds_at a tr) before.holds turn
+      → ((t : Rational) → t ≈ whole (pos second) → holds_at a tr t ≡ jumped jumps (bent turn before.holds))
+      → HasRun (atom i a) tr begin (written ++ more) after (after_time second)
+
+pub gone_over : (i first second : ℕ) (e0 e1 e2 : Held) (before mid after : Run) (turn : Option Turning) (jumps : Bool)
+    → HasBent e0 e1 i before turn mid → HasTurned e1 e2 i mid (before_time second) (jumped jumps mid.holds) after
+    → HasGoneOver e0 e2 i before first second turn jumps after
+gone_over i first second e0 e1 e2 before mid after None jumps p t = record {
+  more = u.more;
+  got = u.got;
+  truth = u.truth;
+  some = u.order (after_time second) (own_order second);
+  told = λ a tr begin written h bends there.
+      u.told (atom i a) tr begin written
+      (run_on (atom i a) tr begin written before (after_time first) (before_time second) h
+      (λ x low high. is_test a tr x before.holds (bends x low high)))
+      (after_time second) (λ x low high. is_test a tr x (jumped jumps before.holds) (there x (same_of_le high low)));
+}
+  where
+    u : HasTurned e0 e2 i before (before_time second) (jumped jumps before.holds) after
+    u = subst (λ e. HasTurned e e2 i before (before_time second) (jumped jumps before.holds) after) p.0
+        (subst (λ (r : Run). HasTurned e1 e2 i r (before_time second) (jumped jumps r.holds) after) p.1 t)
+gone_over i first second e0 e1 e2 before mid after (Some x) jumps p t = record {
+  more = p.more ++ u.more;
+  got = more_both p.got u.got;
+  truth = u.truth;
+  some = u.order (after_time second) (own_order second);
+  told = λ a tr begin written h bends there.
+      subst (λ l. HasRun (atom i a) tr begin l after (after_time second)) (append_assoc written p.more u.more)
+      (u.told (atom i a) tr begin (written ++ p.more)
+      (p.told (atom i a) tr begin written
+      (run_on (atom i a) tr begin written before (after_time first) (turning_place x) h
+      (λ y low high. is_test a tr y before.holds (bends.until_then y low high)))
+      (before_time second) (λ y low high. is_test a tr y (not before.holds) (bends.from_then y low high)))
+      (after_time second) (λ y low high. is_test a tr y (jumped jumps (not before.holds)) (there y (same_of_le high low))));
+}
+  where
+    u : HasTurned e1 e2 i mid (before_time second) (jumped jumps (not before.holds)) after
+    u = subst (λ h. HasTurned e1 e2 i mid (before_time second) (jumped jumps h) after) p.truth t
+
 -- ---- along the block
 
 module _ (b : Binding) (block : Trace) (from to i : ℕ) where
@@ -294,6 +371,34 @@ module _ (b : Binding) (block : Trace) (from to i : ℕ) where
         );
   }
 
+  -- one leg more
+  pub come_over : {e0 e1 e2 : Held} (along : Along) (after : Run) (w : Leg) (sum : ℤ) → HasCome b block from to i e0 e1 along → IsLeg b i block along.at w
+      → w.row ≤ to → IsReachAt b i block w.row sum
+      → HasGoneOver e1 e2 i along.run (time_at (w.row - 1)) (time_at w.row) w.turn w.jumps after
+      → HasCome b block from to i e0 e2 (record { at = w.row; sum = sum; run = after })
+  come_over along after w sum c leg within reaches g = record {
+    more = c.more ++ g.more;
+    got = more_both c.got g.got;
+    later = let l = c.later in let m = leg.later in omega (arith, l, m);
+    within = within;
+    sum = reaches;
+    some = g.some;
+    told = λ a tr for has.
+        let v = leg.tells a tr for has in
+        let old = c.told a tr for has in
+        let begin = after_time (time_at from) in
+        let up = after_time (time_at along.at) in
+        let before = row_time (row_of block (w.row - 1)) in
+        let there = row_time (row_of block w.row) in
+        let same = ap (λ h. jumped w.jumps (bent w.turn h)) old.1 in (
+          g.told a tr begin c.more
+              (run_on (atom i a) tr begin c.more along.run up (after_time (time_at (w.row - 1))) old.0
+              (λ t low high. is_test a tr t along.run.holds (v.stays t (le_of_lt low) high ∙ old.1)))
+              (subst (λ h. BendsSo before there (holds_at a tr) h w.turn) old.1 v.bends) (λ t e. v.there t e ∙ same),
+          (v.there there (same_refl there) ∙ same) ∙ sym g.truth,
+        );
+  }
+
   -- the last gap of a way is a way by itself
   pub last_gap : (r : ℕ) (w : Way) → IsWay b i block r w → IsWay b i block (w.row - 1) w
   last_gap r w way = record {
@@ -315,10 +420,26 @@ module _ (b : Binding) (block : Trace) (from to i : ℕ) where
   }
 
   -- what a way more needs
-  pub goes_some : {e0 e1 : Held} (along : Along) (w : Way) → HasCome b block from to i e0 e1 along → IsWay b i block along.at w
+  pub way_some : {e0 e1 : Held} (along : Along) (w : Way) → HasCome b block from to i e0 e1 along → IsWay b i block along.at w
       → Before (place along.run.from) (after_time (time_at (w.row - 1)))
-  goes_some along w c way = before_at_most (place along.run.from) (after_time (time_at along.at)) (after_time (time_at (w.row - 1))) c.some
+  way_some along w c way = before_at_most (place along.run.from) (after_time (time_at along.at)) (after_time (time_at (w.row - 1))) c.some
       (at_most_order (time_at along.at) (time_at (w.row - 1)) way.order)
+
+  -- what a leg more needs
+  pub goes_some : {e0 e1 : Held} (along : Along) (w : Leg) → HasCome b block from to i e0 e1 along → IsLeg b i block along.at w
+      → Before (place along.run.from) (after_time (time_at (w.row - 1)))
+  goes_some along w c leg = before_at_most (place along.run.from) (after_time (time_at along.at)) (after_time (time_at (w.row - 1))) c.some
+      (at_most_order (time_at along.at) (time_at (w.row - 1)) leg.order)
+
+  pub bends_some : {e0 e1 : Held} (along : Along) (w : Leg) → HasCome b block from to i e0 e1 along → IsLeg b i block along.at w
+      → MatchOption w.turn (Unit {0}) (λ x. Before (place along.run.from) (turning_place x))
+  bends_some along w c leg = by_turn w.turn leg.inside
+    where
+      by_turn : (turn : Option Turning) → TurnsOver (row_time (row_of block (w.row - 1))) (row_time (row_of block w.row)) turn
+          → MatchOption turn (Unit {0}) (λ x. Before (place along.run.from) (turning_place x))
+      by_turn None over = over
+      by_turn (Some x) over =
+          before_at_most (place along.run.from) (after_time (time_at (w.row - 1))) (turning_place x) (goes_some along w c leg) over.begins
 
   -- what a first way needs
   pub first_order : (run : Run) (w : Way) → IsWay b i block from w → Same (place run.from) (after_time (time_at from)) → (d : Place)

@@ -14,9 +14,11 @@ use Rattle.stl_syntax.specs.declared.atom.Atom.{Atom}
 use Rattle.stl_syntax.specs.declared.items.Verdict.{Verdict}
 use Rattle.atom_lines.specs.Binding.{Binding, IsAtomNode, IsFor}
 use Rattle.atom_lines.specs.Growing.{IsReachAt}
+use Rattle.atom_lines.specs.Legs.{turning_place}
 use Rattle.atom_lines.specs.Passages.{HasBlock, IsWay, TellsPassage, crossing_time}
 use Rattle.atom_lines.specs.Rows.{row_of}
 use Rattle.atom_lines.specs.declared.passage.Passage.{Passage}
+use Rattle.atom_lines.specs.declared.passage.Turning.{Turning}
 use Rattle.atom_lines.specs.declared.passage.Way.{Way}
 use Rattle.atom_lines.specs.declared.passage.Passage.TheVariants.{Steady, Turns}
 use Rattle.online_nodes.specs.Held.{Edge, Held, HasMore, Stand, edge_at, with_edge}
@@ -75,6 +77,11 @@ HasPassed old new i before first (Steady holds) after = HasTurned old new i befo
 HasPassed old new i before first (Turns holds x side) after =
     (mid : Held) × (run : Run) × HasTurned old mid i before (after_time first) holds run
     × HasTurned mid new i run (record { at = crossing_time x; after = side }) (not holds) after
+
+-- the atom goes over the gap of a leg: where there is a turning, it turns over there
+abbrev pub HasBent : Held → Held → ℕ → Run → Option Turning → Run → Type 0
+HasBent old new i before None after = (new ≡ old) × (after ≡ before)
+HasBent old new i before (Some x) after = HasTurned old new i before (turning_place x) (not before.holds) after
 
 -- and to the row at the end of the gap
 pub record HasGone (old new : Held) (i : ℕ) (before : Run) (first second : ℕ) (passage : Passage) (last : Bool) (after : Run) : Type 0 where

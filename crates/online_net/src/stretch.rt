@@ -1,15 +1,16 @@
 //! What the rows of a block put onto the edges of the atoms, a stretch of one truth at a time.
 
-ghost use Rattle.std.specs.Prelude.{◌≡◌, ◌≢◌, ◌+◌, ◌-◌, ◌<◌, ◌≤◌, ℕ, length, slice_get, not, IfOk, IfSome, IsTrue, OnOk, Some, None, pos};
+ghost use Rattle.std.specs.Prelude.{◌≡◌, ◌≢◌, ◌+◌, ◌-◌, ◌<◌, ◌≤◌, ℕ, length, slice_get, not, IfOk, IfSome, IsTrue, MatchOption, OnOk, Some, None, pos};
 ghost use Rattle.rational.specs.Rational.{whole};
 ghost use Rattle.rational.specs.Places.{Place, Before, Same, begins, ends};
 ghost use Rattle.frac128.specs.Cuts.{place};
 ghost use Rattle.frac128.specs.Spans.{interval};
 ghost use Rattle.online_nodes.specs.Held.{Held, edge_at};
 ghost use Rattle.atom_lines.specs.Binding.{IsAtomNode};
+ghost use Rattle.atom_lines.specs.Legs.{jumped, turning_place};
 ghost use Rattle.atom_lines.specs.Passages.{TurnsInside, crossing_time};
 ghost use Rattle.atom_lines.specs.Rows.{row_of};
-ghost use Rattle.online_net.specs.Stretches.{after_time, first_truth, HasPutRun, HasTurned, HasPassed, HasGone, HasCome};
+ghost use Rattle.online_net.specs.Stretches.{after_time, before_time, first_truth, HasPutRun, HasTurned, HasPassed, HasBent, HasGone, HasCome};
 ghost use Rattle.online_net.specs.Stretches.{HasPutStretch, HasPutRows, HaveRows, HasPutTwo, StaysOver, StaysFrom, CanGoAlong, CanPutInside, HasComeTo};
 ghost use Rattle.atom_lines.specs.Binding.{Binding};
 ghost use Rattle.atom_lines.specs.Passages.{IsWay};
@@ -17,7 +18,7 @@ ghost use Rattle.atom_lines.specs.declared.passage.Passage.TheVariants.{Steady};
 ghost use Rattle.stl_syntax.specs.Trace.{IsTrace};
 
 use crate::atom::{note, span_after, span_at, span_between};
-use atom_lines::{Bound, Crossing, Passage, Way, standing, way_from};
+use atom_lines::{Bound, Crossing, Passage, Turning, Way, leg_from, standing, way_from};
 use frac128::{Cut, Frac, Memory, Span};
 use online_nodes::{Edges, Operator};
 use stl_syntax::Verdict;
@@ -40,19 +41,19 @@ pub(crate) struct Along {
     run: Run,
 }
 
-/// The verdict of a run that ends at a place.
+/// The verdict of a run that ends at a place, which is told in its parts: so they are stored where they belong, with no copy between.
 #[inline(always)]
-fn verdict_of(run: &Run, to: &Cut) -> Verdict
-    requires { Before (place run.now.from) (place to.now) }
+fn verdict_of(run: &Run, time: Frac, side: u64) -> Verdict
+    requires { Before (place run.now.from) (place (record { time = time; side = side })) }
     ensures begin { Same (place run.now.from) (begins (interval result.on)) }
-    ensures end { Same (place to.now) (ends (interval result.on)) }
+    ensures end { Same (place (record { time = time; side = side })) (ends (interval result.on)) }
     ensures holds { result.holds ≡ run.now.holds }
 {
     let on = Span {
         from: run.from.time,
         from_in: run.from.side == 0,
-        to: to.time,
-        to_in: to.side != 0,
+        to: time,
+        to_in: side != 0,
     };
     let holds = run.holds;
     Verdict { on, holds }
@@ -65,7 +66,7 @@ fn put_first(edges: &mut Edges, node: u32, run: &Run, to: &Cut) -> Result<(), Me
     requires some { Before (place run.now.from) (place to.now) }
     ensures { OnOk result (HasPutRun edges.old edges.new node run.now (place to.now)) }
 {
-    edges.extend(node, verdict_of(run, to))?;
+    edges.extend(node, verdict_of(run, to.time, to.side))?;
     Ok(())
 }
 
@@ -79,7 +80,7 @@ fn put_run(edges: &mut Edges, node: u32, run: &Run, to: &Cut) -> Result<(), Memo
     if run.first {
         return put_first(edges, node, run, to);
     }
-    edges.put(node, verdict_of(run, to))?;
+    edges.put(node, verdict_of(run, to.time, to.side))?;
     Ok(())
 }
 
@@ -244,9 +245,8 @@ fn begin_along(
     })
 }
 
-/// Goes along a block by one way more.
-#[inline(always)]
-fn go_on(
+/// Goes along a block by one way more, as long as none of it was put.
+fn go_first(
     edges: &mut Edges,
     bound: &Bound,
     node: u32,
@@ -278,6 +278,112 @@ fn go_on(
     )?;
     along.at = way.row;
     along.sum = way.sum;
+    Ok(())
+}
+
+/// Goes along a block from where an atom has come, until some of it was put or row `to` is reached.
+#[inline(never)]
+fn go_to_put(
+    edges: &mut Edges,
+    bound: &Bound,
+    node: u32,
+    block: &Trace,
+    to: usize,
+    begun: Along,
+) -> Result<Along, Memory>
+    requires edge { node < length edges.old.edges }
+    requires atom { IsAtomNode bound.now node }
+    requires columns { length block.now.header.columns ≡ bound.now.width }
+    requires within { to < length block.now.rows }
+    requires come { (from : ℕ) × (e : Held) × HasCome bound.now block.now from to node e edges.old begun }
+    ensures { (from : ℕ) (e : Held) → HasCome bound.now block.now from to node e edges.old begun
+        → IfOk result (HasCome bound.now block.now from to node e edges.new) }
+{
+    let mut along = begun;
+    while along.run.first && along.at < to {
+        go_first(edges, bound, node, block, to, &mut along)?;
+    }
+    Ok(along)
+}
+
+/// As `turn_over`, in the place of the call, once some of the block was put: so the run before joins none.
+#[inline(always)]
+fn turn_next(
+    edges: &mut Edges,
+    node: u32,
+    run: &mut Run,
+    time: Frac,
+    side: u64,
+) -> Result<(), Memory>
+    requires edge { node < length edges.old.edges }
+    requires some { Before (place run.old.from) (place (record { time = time; side = side })) }
+    ensures { (c : Place) → Same (place (record { time = time; side = side })) c
+        → OnOk result (HasTurned edges.old edges.new node run.old c (not run.old.holds) run.new) }
+{
+    edges.put(node, verdict_of(run, time, side))?;
+    run.from = Cut { time, side };
+    run.holds = !run.holds;
+    run.first = false;
+    Ok(())
+}
+
+/// Goes on over the gap of a leg, on which the truth may turn over once.
+#[inline(always)]
+fn bend(edges: &mut Edges, node: u32, run: &mut Run, turn: &Option<Turning>) -> Result<(), Memory>
+    requires edge { node < length edges.old.edges }
+    requires some { MatchOption turn.now (Unit {0}) (λ x. Before (place run.old.from) (turning_place x)) }
+    ensures { OnOk result (HasBent edges.old edges.new node run.old turn.now run.new) }
+{
+    match turn {
+        None => Ok(()),
+        Some(x) => {
+            let cut = crossing_cut(&x.at, x.after);
+            turn_next(edges, node, run, cut.time, cut.side)?;
+            Ok(())
+        }
+    }
+}
+
+/// Goes on to the row at `second`, just before which the truth may turn over.
+#[inline(always)]
+fn jump(edges: &mut Edges, node: u32, run: &mut Run, second: u32, jumps: bool) -> Result<(), Memory>
+    requires edge { node < length edges.old.edges }
+    requires some { Before (place run.old.from) (before_time second) }
+    ensures { OnOk result (HasTurned edges.old edges.new node run.old (before_time second) (jumped jumps run.old.holds) run.new) }
+{
+    if !jumps {
+        return Ok(());
+    }
+    let cut = tick_cut(second, false);
+    turn_next(edges, node, run, cut.time, cut.side)?;
+    Ok(())
+}
+
+/// Goes along a block by one leg more, once some of it was put.
+#[inline(always)]
+fn go_on(
+    edges: &mut Edges,
+    bound: &Bound,
+    node: u32,
+    block: &Trace,
+    to: usize,
+    along: &mut Along,
+) -> Result<(), Memory>
+    requires edge { node < length edges.old.edges }
+    requires atom { IsAtomNode bound.now node }
+    requires columns { length block.now.header.columns ≡ bound.now.width }
+    requires within { to < length block.now.rows }
+    requires before { along.old.at < to }
+    requires come { (from : ℕ) × (e : Held) × HasCome bound.now block.now from to node e edges.old along.old }
+    ensures on { OnOk result (along.old.at < along.new.at) }
+    ensures come { (from : ℕ) (e : Held) → HasCome bound.now block.now from to node e edges.old along.old
+        → OnOk result (HasCome bound.now block.now from to node e edges.new along.new) }
+{
+    let leg = leg_from(bound, node, block, along.at, to, along.sum);
+    bend(edges, node, &mut along.run, &leg.turn)?;
+    jump(edges, node, &mut along.run, block.time(leg.row), leg.jumps)?;
+    along.at = leg.row;
+    along.sum = leg.sum;
     Ok(())
 }
 
@@ -318,6 +424,53 @@ fn put_even(
     Ok(())
 }
 
+/// Puts the last run of a block, which ends behind row `to`.
+#[inline(always)]
+fn put_last(
+    edges: &mut Edges,
+    node: u32,
+    block: &Trace,
+    to: usize,
+    along: &Along,
+) -> Result<(), Memory>
+    requires edge { node < length edges.old.edges }
+    requires within { to < length block.now.rows }
+    requires here { along.now.at ≡ to }
+    requires come { (b : Binding) × (from : ℕ) × (e : Held) × HasCome b block.now from to node e edges.old along.now }
+    ensures { (b : Binding) (from : ℕ) (e : Held) → HasCome b block.now from to node e edges.old along.now
+        → OnOk result (HasPutStretch b block.now from to node e edges.new) }
+{
+    let end = tick_cut(block.time(to), true);
+    put_run(edges, node, &along.run, &end)?;
+    Ok(())
+}
+
+/// Puts the verdicts of an atom from where it has come, up to row `to`.
+#[inline(never)]
+fn put_legs(
+    edges: &mut Edges,
+    bound: &Bound,
+    node: u32,
+    block: &Trace,
+    to: usize,
+    begun: Along,
+) -> Result<(), Memory>
+    requires edge { node < length edges.old.edges }
+    requires atom { IsAtomNode bound.now node }
+    requires columns { length block.now.header.columns ≡ bound.now.width }
+    requires within { to < length block.now.rows }
+    requires come { (from : ℕ) × (e : Held) × HasCome bound.now block.now from to node e edges.old begun }
+    ensures { (from : ℕ) (e : Held) → HasCome bound.now block.now from to node e edges.old begun
+        → OnOk result (HasPutStretch bound.now block.now from to node e edges.new) }
+{
+    let mut along = go_to_put(edges, bound, node, block, to, begun)?;
+    while along.at < to {
+        go_on(edges, bound, node, block, to, &mut along)?;
+    }
+    let last = along;
+    put_last(edges, node, block, to, &last)
+}
+
 /// Puts the verdicts of an atom behind row `from` of a block, where it is `holds`, up to row `to`, onto its edge, from its first way on.
 #[inline(never)]
 fn put_ways(
@@ -338,13 +491,11 @@ fn put_ways(
     requires can { CanGoAlong bound.now block.now from to node holds way }
     ensures { OnOk result (HasPutStretch bound.now block.now from to node edges.old edges.new) }
 {
-    let mut along = begin_along(edges, node, block, from, holds, &way)?;
-    while along.at < to {
-        go_on(edges, bound, node, block, to, &mut along)?;
+    let along = begin_along(edges, node, block, from, holds, &way)?;
+    if along.at < to {
+        return put_legs(edges, bound, node, block, to, along);
     }
-    let end = tick_cut(block.time(to), true);
-    put_run(edges, node, &along.run, &end)?;
-    Ok(())
+    put_last(edges, node, block, to, &along)
 }
 
 /// Puts the verdicts of an atom behind row `from` of a block, up to row `to`, onto its edge.

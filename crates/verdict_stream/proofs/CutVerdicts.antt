@@ -21,6 +21,7 @@ use Rattle.online_nodes.specs.Laws.{AreTiles, AreTold}
 use Rattle.rational.proofs.PlaceLemmas.{not_both, place_order, upto_of_before, after_of_before}
 use Rattle.rational.proofs.PlaceLemmas.{same_places, upto_same, after_same, between, same_before}
 use Rattle.rational.proofs.PlaceLemmas.{before_same, before_trans, same_trans_places, room_of_before}
+use Rattle.rational.proofs.TimeLemmas.{precedes_of_lt, room_of_precedes}
 use Rattle.online_nodes.proofs.ToldSoFar.{in_after, in_upto, some_in}
 use Rattle.online_nodes.proofs.HeldLaw.{is_in}
 use Rattle.online_nodes.proofs.MeetingLaw.{tiled_upto}
@@ -96,11 +97,13 @@ room_before f v to same h =
     (before_same (begins (interval v.on)) (just_after f) (record { at = value to; after = true }) h (same_sym same, refl)))
 
 -- and in what of it lies after a time beyond which it goes on
-pub room_after : (f : ℕ) (v : Verdict) (from : Frac) → value from ≈ whole (pos f) → Before (just_after f) (ends (interval v.on))
-    → HasTimeBetween (value from) (value v.on.to) (false && v.on.to_in)
-room_after f v from same h =
-    room_of_before (record { at = value from; after = true }) (ends (interval v.on))
-    (same_before (record { at = value from; after = true }) (just_after f) (ends (interval v.on)) (same, refl) h)
+pub room_after : (f : ℕ) (v : Verdict) (from : Frac) → value from ≈ whole (pos f) → Before (just_after f) (ends (interval v.on)) → (both_in : Bool)
+    → HasTimeBetween (value from) (value v.on.to) both_in
+room_after f v from same h both_in =
+    elim (same_before (record { at = value from; after = true }) (just_after f) (ends (interval v.on)) (same, refl) h) [
+      | inl l ↦ room_of_precedes both_in (value from) (value v.on.to) (precedes_of_lt both_in (value from) (value v.on.to) l)
+      | inr x ↦ absurd (let e : true ≡ false = x.1 in cc)
+    ]
 
 -- ---- verdicts that lead from one place to another
 

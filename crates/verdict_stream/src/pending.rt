@@ -44,6 +44,7 @@ fn goes_beyond(verdict: &Verdict, front: u32) -> bool
 }
 
 /// What of a verdict lies up to the time `front`.
+#[inline(always)]
 fn part_before(verdict: &Verdict, front: u32) -> Verdict
     requires { Before (begins (interval verdict.now.on)) (just_after front) }
     ensures { IsPartBefore front verdict.now result }
@@ -59,20 +60,14 @@ fn part_before(verdict: &Verdict, front: u32) -> Verdict
     }
 }
 
-/// What of a verdict lies after the time `front`.
-fn part_after(verdict: &Verdict, front: u32) -> Verdict
-    requires { Before (just_after front) (ends (interval verdict.now.on)) }
-    ensures { IsPartAfter front verdict.now result }
+/// Leaves of a verdict what lies after the time `front`.
+#[inline(always)]
+fn leave_after(verdict: &mut Verdict, front: u32)
+    requires { Before (just_after front) (ends (interval verdict.old.on)) }
+    ensures { IsPartAfter front verdict.old verdict.new }
 {
-    Verdict {
-        on: Span {
-            from: Frac::of(i64::from(front)),
-            from_in: false,
-            to: verdict.on.to,
-            to_in: verdict.on.to_in,
-        },
-        holds: verdict.holds,
-    }
+    verdict.on.from = Frac::of(i64::from(front));
+    verdict.on.from_in = false;
 }
 
 impl Pending {
@@ -124,15 +119,16 @@ impl Pending {
         requires { GoesBeyond front self.old }
         ensures { IsCut front self.old result self.new }
     {
-        let Some(first) = self.verdicts.front() else {
+        let Some(_) = self.verdicts.front() else {
             return None;
         };
-        let verdict = *first;
-        if !begins_by(&verdict, front) {
+        let first = &mut self.verdicts[0];
+        if !begins_by(first, front) {
             return None;
         }
-        self.verdicts[0] = part_after(&verdict, front);
-        Some(part_before(&verdict, front))
+        let part = part_before(first, front);
+        leave_after(first, front);
+        Some(part)
     }
 
     /// Adds the lines of what lies up to the time `front`. What lies after it is left.
