@@ -9,7 +9,8 @@ use Rattle.rational.specs.Time.{Rational, ◌≤ʳ◌, ◌<ʳ◌, later, left_op
 use Rattle.rational.specs.Places.{begins, ends, Same}
 use Rattle.frac128.specs.Spans.{interval}
 use Rattle.rational.specs.Windows.{Ahead, Behind}
-use Rattle.rational.proofs.Order.{le_refl, le_of_lt, lt_of_lt_of_le, lt_of_le_of_lt, le_trans, lt_trans, le_or_lt, not_lt_of_le, left_of_middle, right_of_middle}
+use Rattle.rational.proofs.Order.{le_refl, le_of_lt, lt_of_lt_of_le, lt_of_le_of_lt, le_trans, lt_trans, le_or_lt, not_lt_of_le, left_of_middle}
+use Rattle.rational.proofs.Order.{right_of_middle}
 use Rattle.rational.proofs.TimeLemmas.{precedes_of_lt, precedes_le, later_from, later_more, later_le}
 use Rattle.stl_syntax.specs.Trace.{Trace, start, stop}
 use Rattle.stl_syntax.specs.Formula.{Subformula, horizon, constant, atom, negation, conjunction, disjunction}

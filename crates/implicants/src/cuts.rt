@@ -94,7 +94,7 @@ fn knot_times(alloc: Global, signal: &Signal<Truth>) -> Result<Vec<Frac>, Memory
 }
 
 /// Appends how far a time of a node is moved from one of its atom, in ticks.
-#[tactic(auto, using(crate::proofs::Moving::near_more))]
+#[tactic(auto, using(crate::proofs::MovedCuts::near_more))]
 fn push_move(moves: &mut Vec<i64>, by: i64) -> Result<(), Memory>
     requires bound { IsNearMove by }
     requires before { AreNearMoves moves.old.items }

@@ -36,7 +36,8 @@ use Rattle.node_edges.specs.Kinds.{verdict_part}
 use Rattle.node_edges.proofs.Stretches.{more_given}
 use Rattle.online_nodes.proofs.Stretches.{some_verdict, stand_again, stand_given, stand_more}
 use Rattle.online_nodes.proofs.ToldSoFar.{joined, told_same, same_itself, lead_on, lead_to}
-use Rattle.online_net.specs.Stretches.{after_time, before_time, HasMoreAt, HasPutRun, HasRun, HasTurned, HasPassed, HasBent, HasGone, HasCome, HasPutStretch, HasPutTwo, StaysOver, StaysFrom, CanGoAlong}
+use Rattle.online_net.specs.Stretches.{after_time, before_time, HasMoreAt, HasPutRun, HasRun, HasTurned, HasPassed, HasBent, HasGone, HasCome}
+use Rattle.online_net.specs.Stretches.{HasPutStretch, HasPutTwo, StaysOver, StaysFrom, CanGoAlong}
 use Rattle.online_net.specs.declared.stretch.Run.{Run}
 use Rattle.online_net.specs.declared.stretch.Along.{Along}
 use Rattle.online_net.proofs.AtomVerdicts.{is_test}

@@ -6,14 +6,12 @@ ghost use Rattle.rational.specs.Places.{Place, Before, Same, begins, ends};
 ghost use Rattle.frac128.specs.Cuts.{place};
 ghost use Rattle.frac128.specs.Spans.{interval};
 ghost use Rattle.online_nodes.specs.Held.{Held, edge_at};
-ghost use Rattle.atom_lines.specs.Binding.{IsAtomNode};
+ghost use Rattle.atom_lines.specs.Binding.{Binding, IsAtomNode};
 ghost use Rattle.atom_lines.specs.Legs.{jumped, turning_place};
-ghost use Rattle.atom_lines.specs.Passages.{TurnsInside, crossing_time};
+ghost use Rattle.atom_lines.specs.Passages.{IsWay, TurnsInside, crossing_time};
 ghost use Rattle.atom_lines.specs.Rows.{row_of};
 ghost use Rattle.online_net.specs.Stretches.{after_time, before_time, first_truth, HasPutRun, HasTurned, HasPassed, HasBent, HasGone, HasCome};
 ghost use Rattle.online_net.specs.Stretches.{HasPutStretch, HasPutRows, HaveRows, HasPutTwo, StaysOver, StaysFrom, CanGoAlong, CanPutInside, HasComeTo};
-ghost use Rattle.atom_lines.specs.Binding.{Binding};
-ghost use Rattle.atom_lines.specs.Passages.{IsWay};
 ghost use Rattle.atom_lines.specs.declared.passage.Passage.TheVariants.{Steady};
 ghost use Rattle.stl_syntax.specs.Trace.{IsTrace};
 

@@ -1,6 +1,8 @@
 -- The parts of a margin over time.
 use Rattle.std.specs.Prelude.{◌≡◌, IsTrue}
 use Rattle.rational.specs.Rational.{Rational}
+use Rattle.rational.specs.Time.{◌≈◌}
+use Rattle.frac128.specs.Value.{value}
 use Rattle.rational.specs.Extended.{value_at, opposite, ◌≈ᵉ◌}
 use Rattle.frac128.specs.declared.frac.Frac.{Frac}
 use Rattle.value_laws.specs.Margins.{is_ramp, margin_base, margin_function}
@@ -23,6 +25,11 @@ abbrev pub AreAtOnce : MarginLine → MarginLine → Type 0
 AreAtOnce (Point s v) (Point t w) = s ≡ t
 AreAtOnce (Gap a b p) (Gap c d q) = (a ≡ c) × (b ≡ d)
 AreAtOnce _ _ = ⊥
+
+-- a point, and a point at its time again
+abbrev pub IsPointAgain : MarginLine → MarginLine → Type 0
+IsPointAgain (Point s v) (Point t w) = value s ≈ value t
+IsPointAgain _ _ = ⊥
 
 -- the part with the negated margin
 pub record IsNegated (old new : MarginLine) : Type 0 where

@@ -3,7 +3,7 @@ ghost use Rattle.std.specs.Prelude.{◌≡◌, ◌^◌};
 ghost use Rattle.frac128.specs.Value.{value};
 ghost use Rattle.rational.specs.Affine.{HasBoundedLevel};
 ghost use Rattle.value_laws.specs.Margins.{margin_function};
-ghost use Rattle.online_robust.specs.Lines.{end_of, margin_of, IsNegated};
+ghost use Rattle.online_robust.specs.Lines.{end_of, margin_of, IsNegated, IsPointAgain};
 
 use frac128::Frac;
 use node_edges::Part;
@@ -74,13 +74,13 @@ impl MarginLine {
     }
 }
 
-/// No margin goes on from another: the edges of margins join nothing.
+/// A point that is told again goes on from the first, and stands for both. No edge of margins joins, so none is.
 impl Part for MarginLine {
     ghost end = { λ x. value (end_of x) };
 
-    ghost follows = { λ _ _. ⊥ };
+    ghost follows = { IsPointAgain };
 
-    ghost joined = { λ _ _ _. ⊥ };
+    ghost joined = { λ _ second both. both ≡ second };
 
     #[inline(always)]
     fn ends_by(&self, time: &Frac) -> bool {
@@ -92,10 +92,21 @@ impl Part for MarginLine {
     }
 
     #[inline(always)]
-    fn goes_on(&self, _next: &MarginLine) -> bool {
-        false
+    fn goes_on(&self, next: &MarginLine) -> bool {
+        match (self, next) {
+            (
+                MarginLine::Point { at, value: _ },
+                MarginLine::Point {
+                    at: again,
+                    value: _,
+                },
+            ) => at == again,
+            _ => false,
+        }
     }
 
     #[inline(always)]
-    fn lengthen(&mut self, _next: &MarginLine) {}
+    fn lengthen(&mut self, next: &MarginLine) {
+        *self = *next;
+    }
 }

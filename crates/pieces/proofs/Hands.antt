@@ -38,7 +38,8 @@ use Rattle.pieces.specs.Causes.{HasPassed}
 use Rattle.pieces.specs.Streaming.{Climbs, Counts, Rests, StandsBy, before_time}
 use Rattle.pieces.specs.Windows.{Best, BestOver, BestTo, IsLeft, IsNonEmpty, IsPieceFrom, Keeps, MayClimb, Sees, Stands, high_place, low_place}
 use Rattle.pieces.proofs.Bests.{IsBest, Values, best_alike, best_over, best_union, best_value, better_alike, better_is_first, nw_same, nw_trans}
-use Rattle.pieces.proofs.Ends.{after_le, after_of_lt, after_time_same, at_most_itself, at_most_of_before, at_most_of_same, at_most_trans, here_after, here_upto, upto_le}
+use Rattle.pieces.proofs.Ends.{after_le, after_of_lt, after_time_same, at_most_itself, at_most_of_before, at_most_of_same, at_most_trans, here_after}
+use Rattle.pieces.proofs.Ends.{here_upto, upto_le}
 use Rattle.pieces.proofs.Ends.{earlier_upto, same_place, upto_of_lt, upto_time_same}
 use Rattle.pieces.proofs.CountsInPlay.{fall_plays, low_comes}
 use Rattle.pieces.proofs.PieceEnds.{keeps_climbed}

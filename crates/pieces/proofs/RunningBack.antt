@@ -1,5 +1,6 @@
 -- Chains with time running back, and an until as a since that runs back.
-use Rattle.std.proofs.Common.{◌≡◌, ◌⊎◌, inl, inr, ℕ, zero, suc, List, [], ◌∷◌, ◌++◌, ◌^◌, ◌≤◌, Some, Bool, true, false, not, IsTrue, ℤ, pos, ◌-ℤ◌, arith, ap, refl, sym, subst}
+use Rattle.std.proofs.Common.{◌≡◌, ◌⊎◌, inl, inr, ℕ, zero, suc, List, [], ◌∷◌, ◌++◌, ◌^◌, ◌≤◌, Some, Bool, true, false, not, IsTrue, ℤ, pos, ◌-ℤ◌}
+use Rattle.std.proofs.Common.{arith, ap, refl, sym, subst}
 use Rattle.std.specs.Prelude.{slice_get, MatchBool}
 use Rattle.std.proofs.lemmas.Int.{ints}
 use Rattle.std.specs.Int.RustNames.{unsigned_abs}

@@ -52,7 +52,7 @@ up_to n (v ∷ vs) = by_order (up_to n vs) (place_order (begins (interval v.on))
         from_in = false;
         to = v.on.to;
         to_in = v.on.to_in;
-        not_empty = room_after n v (whole_frac (pos n)) (tick_value n) e;
+        not_empty = room_after n v (whole_frac (pos n)) (tick_value n) e _;
       };
       holds = v.holds;
     }

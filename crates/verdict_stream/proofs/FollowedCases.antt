@@ -1,5 +1,6 @@
 -- A network of verdicts that follows a case, whose text is made for all rows or is owed for some.
-use Rattle.std.proofs.Common.{◌≡◌, ◌⊎◌, suc, Some, None, append-nil, append_assoc, length-append, inl, inr, ℕ, ◌+◌, ◌-◌, ◌<◌, ◌≤◌, true, false, List, [], ◌∷◌, ◌++◌, length, map, refl, sym, ap, ◌∙◌, subst, arith}
+use Rattle.std.proofs.Common.{◌≡◌, ◌⊎◌, suc, Some, None, append-nil, append_assoc, length-append, inl, inr, ℕ, ◌+◌, ◌-◌, ◌<◌, ◌≤◌, true, false, List}
+use Rattle.std.proofs.Common.{[], ◌∷◌, ◌++◌, length, map, refl, sym, ap, ◌∙◌, subst, arith}
 use Rattle.std.specs.Prelude.{IfSome, ◌==◌}
 use Rattle.std.proofs.lemmas.Bool.{cases_lt, false≢true}
 use Rattle.stl_syntax.specs.Formula.{Formula, horizon, root}
