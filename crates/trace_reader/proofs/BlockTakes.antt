@@ -1,5 +1,5 @@
 -- Rows of plain numbers that stand one after another are rows that the reader takes.
-use Rattle.std.proofs.Common.{◌≡◌, ℕ, ◌+◌, ◌<◌, ◌≤◌, List, [], ◌∷◌, ◌++◌, length, take, length-append, refl, sym, ap, ◌∙◌, subst, arith}
+use Rattle.std.proofs.Common.{◌≡◌, ℕ, ◌+◌, ◌<◌, ◌≤◌, List, [], ◌∷◌, ◌++◌, length, take, drop, length-append, take-add, refl, sym, ap, ◌∙◌, subst, arith}
 use Rattle.std.proofs.Common.{append_assoc, append-nil, Option, Some, Ok}
 use Rattle.std.specs.Prelude.{option_map}
 use Rattle.std.proofs.lemmas.List.{same_from_push, nil_from_length}
@@ -22,6 +22,26 @@ use Rattle.trace_reader.specs.declared.line_reader.LineReader.{LineReader}
 use Rattle.trace_reader.proofs.ReadLemmas.{row_taken, row_line_read, fields_are}
 use Rattle.trace_reader.proofs.TraceLemmas.{last_row, last_behind}
 use Rattle.trace_reader.proofs.RowTakes.{row_stands, row_within}
+
+-- rows behind rows
+rows_behind : {h : Scaled} {from mid next : ℕ} {front back : List ℕ} {rows more_rows : List Row} → ArePlainRows h from front rows mid
+    → ArePlainRows h mid back more_rows next → ArePlainRows h from (front ++ back) (rows ++ more_rows) next
+rows_behind {front = front} {rows = rows} p none = rw (append-nil front, append-nil rows) p
+rows_behind {h = h} {from = from} {front = front} {rows = rows} p (more {bytes = bytes} {rows = before} piece n r q read up) =
+    subst (λ b. ArePlainRows h from b (rows ++ (before ++ r ∷ [])) (r.time + 1)) (append_assoc front bytes (take n piece))
+    (subst (λ rs. ArePlainRows h from ((front ++ bytes) ++ take n piece) rs (r.time + 1)) (append_assoc rows before (r ∷ []))
+    (more piece n r (rows_behind p q) read up))
+
+-- a block behind a block
+pub blocks_joined : (h : Scaled) (from mid next : ℕ) (t u v : Trace) (m n : ℕ) (piece : List ℕ) (a b : ℕ)
+    → AreRowsAdded h from mid t u m (take a piece) → AreRowsAdded h mid next u v n (take b (drop a piece)) → AreRowsAdded h from next t v (m + n) (take (a + b) piece)
+blocks_joined h from mid next t u v m n piece a b p q = record {
+  rows = p.rows ++ q.rows;
+  count = omega (arith, p.count, q.count, length-append p.rows q.rows);
+  added = q.added ∙ (ap (λ (x : Trace). record x { rows = x.rows ++ q.rows }) p.added
+      ∙ ap (λ rs. record t { rows = rs }) (append_assoc t.rows p.rows q.rows));
+  read = subst (λ bytes. ArePlainRows h from bytes (p.rows ++ q.rows) next) (sym (take-add a b piece)) (rows_behind p.read q.read);
+}
 
 abbrev pub cut : ℕ → List ℕ → Cut
 cut n line = record { begun = n; line = line }

@@ -48,3 +48,12 @@ eight_of P f (a ∷ b ∷ c ∷ d ∷ []) n = absurd (omega (arith, n))
 eight_of P f (a ∷ b ∷ c ∷ d ∷ e ∷ []) n = absurd (omega (arith, n))
 eight_of P f (a ∷ b ∷ c ∷ d ∷ e ∷ f1 ∷ []) n = absurd (omega (arith, n))
 eight_of P f (a ∷ b ∷ c ∷ d ∷ e ∷ f1 ∷ g ∷ []) n = absurd (omega (arith, n))
+
+-- and of each four
+pub four_of : (P : List ℕ → Type 0) → ((a b c d : ℕ) → P (a ∷ b ∷ c ∷ d ∷ [])) → (xs : List ℕ) → length xs ≡ 4 → P xs
+four_of P f (a ∷ b ∷ c ∷ d ∷ []) n = f a b c d
+four_of P f (a ∷ b ∷ c ∷ d ∷ e ∷ more) n = absurd (omega (arith, n))
+four_of P f [] n = absurd (omega (arith, n))
+four_of P f (a ∷ []) n = absurd (omega (arith, n))
+four_of P f (a ∷ b ∷ []) n = absurd (omega (arith, n))
+four_of P f (a ∷ b ∷ c ∷ []) n = absurd (omega (arith, n))

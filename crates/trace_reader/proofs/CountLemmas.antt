@@ -43,6 +43,23 @@ bits_of marks = bit_and (count_trailing_zeros 64 marks) 120
 whole_bytes : (t : ℕ) → t ≤ 64 → bit_and t 120 ≡ t / 8 * 8
 whole_bytes t l = let h : bit_and t 120 ≡ (t / 8 % 16) * 8 = and_high t 4 3 in omega (arith, h)
 
+-- below a mark there are so many bits
+bits_below : (marks n r : ℕ) → n < 8 → marks ≡ (2 * r + 1) * 2 ^ (8 * n + 7) → marks < 2 ^ 64 → bits_of marks ≡ 8 * n
+bits_below marks n r l is fits =
+    let p : 0 < 2 ^ (8 * n + 7) = pow_pos (8 * n + 7) in
+    let q : (2 * r + 1) * 2 ^ (8 * n + 7) ≡ 2 * r * 2 ^ (8 * n + 7) + 2 ^ (8 * n + 7) = omega arith in
+    let some : 0 < marks = omega (arith, is, p, q) in
+    let t : count_trailing_zeros 64 marks ≡ 8 * n + 7 = lowest marks (8 * n + 7) r is some fits in
+    ap (λ x. bit_and x 120) t ∙ whole_bytes (8 * n + 7) (omega (arith, l)) ∙ omega arith
+
+-- the bytes before the lowest mark are the digits that the text begins with
+count_of : (text : List ℕ) (marks n : ℕ) → Below 256 text → IsMarked (map bare text) marks n → IsCount text n
+count_of text marks n b m = record {
+  within = omega (arith, m.within, length-map text bare);
+  digits = sym (all_told n text b) ∙ m.worths;
+  stops = stops_told n text b m.stops;
+}
+
 -- of eight bytes, so many are digits before the first that is none
 pub record IsRun (text : List ℕ) (bits : ℕ) : Type 0 where
   pub n : ℕ
@@ -54,11 +71,7 @@ pub run_of : (text : List ℕ) (marks n : ℕ) → length text ≡ 8 → Below 2
 run_of text marks n l b m fits = record {
   n = n;
   bytes = place_bits m.place;
-  count = record {
-    within = omega (arith, m.within, length-map text bare);
-    digits = sym (all_told n text b) ∙ m.worths;
-    stops = stops_told n text b m.stops;
-  };
+  count = count_of text marks n b m;
   short = omega (arith, m.within, length-map text bare, l);
 }
   where
@@ -68,10 +81,23 @@ run_of text marks n l b m fits = record {
         let t : count_trailing_zeros 64 marks ≡ 64 = ap (count_trailing_zeros 64) h.1 ∙ trailing_of_zero 64 in
         let w : bit_and 64 120 ≡ 64 = refl in
         ap (λ x. bit_and x 120) t ∙ omega (arith, w, h.0, l, length-map text bare)
-    place_bits (inr h) =
-        let r = h.1.0 in
-        let p : 0 < 2 ^ (8 * n + 7) = pow_pos (8 * n + 7) in
-        let q : (2 * r + 1) * 2 ^ (8 * n + 7) ≡ 2 * r * 2 ^ (8 * n + 7) + 2 ^ (8 * n + 7) = omega arith in
-        let some : 0 < marks = omega (arith, h.1.1, p, q) in
-        let t : count_trailing_zeros 64 marks ≡ 8 * n + 7 = lowest marks (8 * n + 7) r h.1.1 some fits in
-        ap (λ x. bit_and x 120) t ∙ whole_bytes (8 * n + 7) (omega (arith, h.0, l, length-map text bare)) ∙ omega arith
+    place_bits (inr h) = bits_below marks n h.1.0 (omega (arith, h.0, l, length-map text bare)) h.1.1 fits
+
+-- of four bytes, so many are digits before one that is none
+pub record IsShortRun (text : List ℕ) (bits : ℕ) : Type 0 where
+  pub n : ℕ
+  pub bytes : bits ≡ 8 * n
+  pub count : IsCount text n
+  pub short : n < 4
+
+-- which the bits before the lowest mark count
+pub short_run_of : (text : List ℕ) (marks n : ℕ) → length text ≡ 4 → Below 256 text → IsMarked (map bare text) marks n → (marks ≡ 0 → ⊥) → marks < 2 ^ 64
+    → IsShortRun text (bits_of marks)
+short_run_of text marks n l b m some fits = by_place m.place
+  where
+    by_place : ((n ≡ length (map bare text)) × (marks ≡ 0)) ⊎ ((n < length (map bare text)) × ((r : ℕ) × (marks ≡ (2 * r + 1) * 2 ^ (8 * n + 7))))
+        → IsShortRun text (bits_of marks)
+    by_place (inl h) = absurd (some h.1)
+    by_place (inr h) =
+        let few : n < 4 = omega (arith, h.0, l, length-map text bare) in
+        record { n = n; bytes = bits_below marks n h.1.0 (omega (arith, few)) h.1.1 fits; count = count_of text marks n b m; short = few }

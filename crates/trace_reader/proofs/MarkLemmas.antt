@@ -130,3 +130,12 @@ marks_are word bytes n l is =
     let e : bit_and (bit_or word ((word + 8536140394893047414) % 18446744073709551616)) 9259542123273814144 ≡ marks_of bytes
     = wrapped word 8536140394893047414 9259542123273814144 (omega arith) ∙ rw (is, p, q) refl in
     rw e (marked bytes l)
+
+-- a word of four bytes leaves room for the carries
+pub marks_of_four_are : (word : ℕ) (bytes : List ℕ) → length bytes ≡ 4 → Below 256 bytes → word ≡ word_of bytes
+    → (n : ℕ) × IsMarked bytes (bit_and (bit_or word (word + 1987475062)) 2155905152) n
+marks_of_four_are word bytes n l is =
+    let p : 1987475062 ≡ all_118 (length bytes) = rw n refl in
+    let q : 2155905152 ≡ all_128 (length bytes) = rw n refl in
+    let e : bit_and (bit_or word (word + 1987475062)) 2155905152 ≡ marks_of bytes = rw (is, p, q) refl in
+    rw e (marked bytes l)

@@ -3,7 +3,7 @@ use Rattle.std.proofs.Common.{◌≡◌, ℕ, ◌+◌, ◌*◌, ◌/◌, ◌%◌
 use Rattle.std.proofs.Common.{refl, arith, ◌∙◌, ap}
 use Rattle.std.specs.Int.Bits.{bit_and, and_zero_r, and_mask, and_block}
 use Rattle.trace_reader.specs.Words.{word_of, Below, spelled}
-use Rattle.trace_reader.proofs.ByteLemmas.{and_bytes, eight_of}
+use Rattle.trace_reader.proofs.ByteLemmas.{and_bytes, eight_of, four_of}
 
 -- each byte with the tenfold of the one before it; the tenfold of the last is lost
 pairs_are : (a b c d e f g h : ℕ) → Below 10 (a ∷ b ∷ c ∷ d ∷ e ∷ f ∷ g ∷ h ∷ [])
@@ -74,3 +74,40 @@ value_of_eight word a b c d e f g h l is =
 
 pub value_is : (word : ℕ) (digits : List ℕ) → length digits ≡ 8 → Valued word digits
 value_is word = eight_of (Valued word) (value_of_eight word)
+
+-- each of four bytes with the tenfold of the one before it; the tenfold of the last is lost
+pairs_of_four : (a b c d : ℕ) → Below 10 (a ∷ b ∷ c ∷ d ∷ [])
+    → word_of (a ∷ b ∷ c ∷ d ∷ []) * 2561 % 4294967296 / 256 ≡ word_of ((10 * a + b) ∷ (10 * b + c) ∷ (10 * c + d) ∷ [])
+pairs_of_four a b c d l = omega (arith, l)
+
+-- the middle one of three bytes is dropped
+middle_dropped : (x y z : ℕ) → Below 256 (x ∷ y ∷ z ∷ []) → bit_and (word_of (x ∷ y ∷ z ∷ [])) 16711935 ≡ x + 65536 * z
+middle_dropped x y z l =
+    let few : Below 256 (255 ∷ 0 ∷ 255 ∷ []) = (omega arith, (omega arith, (omega arith, tt))) in
+    let s : bit_and (word_of (x ∷ y ∷ z ∷ [])) 16711935 ≡ word_of (bit_and x 255 ∷ bit_and y 0 ∷ bit_and z 255 ∷ [])
+    = and_bytes (x ∷ y ∷ z ∷ []) (255 ∷ 0 ∷ 255 ∷ []) refl l few in
+    let first : bit_and x 255 ≡ x % 256 = and_mask x 8 in
+    let third : bit_and z 255 ≡ z % 256 = and_mask z 8 in
+    omega (arith, s, first, third, and_zero_r y, l.0, l.1.1.0)
+
+-- the second pair with the hundredfold of the first
+two_joined : (p q : ℕ) → p < 100 → q < 100 → (p + 65536 * q) * 6553601 % 4294967296 / 65536 ≡ 100 * p + q
+two_joined p q a b = omega arith
+
+-- what two products make of half a word is the number that its digits spell
+abbrev pub ValuedFour : ℕ → List ℕ → Type 0
+ValuedFour word digits = Below 10 digits → word ≡ word_of digits
+    → bit_and (word * 2561 % 4294967296 / 256) 16711935 * 6553601 % 4294967296 / 65536 ≡ spelled 0 digits
+
+-- of four digits
+value_of_four : (word a b c d : ℕ) → ValuedFour word (a ∷ b ∷ c ∷ d ∷ [])
+value_of_four word a b c d l is =
+    let pairs : word * 2561 % 4294967296 / 256 ≡ word_of ((10 * a + b) ∷ (10 * b + c) ∷ (10 * c + d) ∷ []) = rw is (pairs_of_four a b c d l) in
+    let small : Below 256 ((10 * a + b) ∷ (10 * b + c) ∷ (10 * c + d) ∷ []) = (omega (arith, l), (omega (arith, l), (omega (arith, l), tt))) in
+    let m = middle_dropped (10 * a + b) (10 * b + c) (10 * c + d) small in
+    let two = two_joined (10 * a + b) (10 * c + d) (omega (arith, l)) (omega (arith, l)) in
+    rw (pairs, m, two) (omega arith)
+
+-- and of each list of four
+pub value_is_of_four : (word : ℕ) (digits : List ℕ) → length digits ≡ 4 → ValuedFour word digits
+value_is_of_four word = four_of (ValuedFour word) (value_of_four word)

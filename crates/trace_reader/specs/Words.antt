@@ -44,8 +44,17 @@ pub record IsCount (text : List ℕ) (n : ℕ) : Type 0 where
   pub digits : all is_digit (take n text) ≡ true
   pub stops : StopsAt is_digit (drop n text)
 
--- the digits that the text begins with: how many, and the number that they spell in base 10
+-- the digits that the text begins with: how many, some at least, and the number that they spell in base 10
 pub record IsEight (text : List ℕ) (e : Digits) : Type 0 where
+  pub some : 0 < e.len
   pub count : IsCount text e.len
   pub value : e.value ≡ decimal_value 0 (take e.len text)
   pub small : e.value ≤ 99999999
+
+-- the marks of a word with these four bytes
+abbrev pub AreMarksOfFour : ℕ → ℕ → Type 0
+AreMarksOfFour word marks = (bytes : List ℕ) → length bytes ≡ 4 → Below 256 bytes → word ≡ word_of bytes → (n : ℕ) × IsMarked bytes marks n
+
+-- where each of four bytes is a digit's worth, the number that they spell
+abbrev pub IsValueOfFour : ℕ → ℕ → Type 0
+IsValueOfFour word value = (digits : List ℕ) → length digits ≡ 4 → Below 10 digits → word ≡ word_of digits → value ≡ spelled 0 digits

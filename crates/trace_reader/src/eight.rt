@@ -7,7 +7,7 @@ use crate::digits::Digits;
 
 /// The first eight bytes as one word, the first lowest.
 #[inline(always)]
-fn first_word(text: &[u8]) -> u64
+pub(crate) fn first_word(text: &[u8]) -> u64
     requires { 8 ≤ length text.now }
     ensures { result ≡ word_of (take 8 text.now) }
 {
@@ -35,28 +35,28 @@ fn number_of(word: u64) -> u64
     fours.wrapping_mul(42_949_672_960_001) >> 32
 }
 
-/// The digits that a text begins with, at most eight of them.
+/// The digits that a text begins with, at most eight of them, where there are some.
 #[inline(always)]
-fn eight_digits(text: &[u8]) -> Digits
+fn eight_digits(text: &[u8]) -> Option<Digits>
     requires { 8 ≤ length text.now }
-    ensures { IsEight (take 8 text.now) result }
+    ensures { MatchOption result (Unit {0}) (IsEight (take 8 text.now)) }
 {
     let word = first_word(text) ^ 0x3030_3030_3030_3030;
     let others = marks(word);
     if others == 0 {
-        return Digits {
+        return Some(Digits {
             len: 8,
             value: number_of(word),
-        };
+        });
     }
     let bits = others.trailing_zeros() & 0x78;
     if bits == 0 {
-        return Digits { len: 0, value: 0 };
+        return None;
     }
-    Digits {
+    Some(Digits {
         len: (bits >> 3) as usize,
         value: number_of(word << (64 - bits)),
-    }
+    })
 }
 
 /// The digits that a text begins with, where they are one to nine.
@@ -65,10 +65,7 @@ pub(crate) fn few_digits(text: &[u8]) -> Option<Digits>
     requires { 10 ≤ length text.now }
     ensures { MatchOption result (Unit {0}) (IsFewDigits text.now) }
 {
-    let eight = eight_digits(text);
-    if eight.len == 0 {
-        return None;
-    }
+    let eight = eight_digits(text)?;
     if eight.len < 8 {
         return Some(eight);
     }

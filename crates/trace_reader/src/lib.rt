@@ -6,6 +6,7 @@ mod digits;
 mod eight;
 mod event;
 mod field;
+mod four;
 mod header;
 mod heading;
 pub mod laws;

@@ -4,6 +4,7 @@ ghost use Rattle.trace_reader.specs.Plain.{IsFewDigits, IsPlainNumber, IsPlainTi
 
 use crate::digits::{BEYOND, Digits, more_digits};
 use crate::eight::few_digits;
+use crate::four::short_digits;
 use crate::number::{opposite_of, scaled, value_of};
 use crate::row::LARGEST;
 
@@ -30,20 +31,20 @@ pub(crate) struct PlainValue {
 
 /// The number with a point after these digits, and one to `most` digits after it, in ticks of 1/10^digits.
 #[inline(always)]
-fn with_decimals(text: &[u8], whole: Digits, most: u8, digits: u8) -> Option<PlainNumber>
+fn with_decimals(text: &[u8], whole: Digits, most: &u8, digits: u8) -> Option<PlainNumber>
     requires whole { IsFewDigits text.now whole }
     requires inside { whole.len < length text.now }
     requires point { get_or text.now whole.len 0 ≡ 46 }
-    requires most { most ≤ digits }
+    requires most { most.now ≤ digits }
     requires digits { digits ≤ 6 }
-    ensures { MatchOption result (Unit {0}) (IsPlainNumber most digits text.now) }
+    ensures { MatchOption result (Unit {0}) (IsPlainNumber most.now digits text.now) }
 {
     let rest = &text[whole.len + 1..];
     if rest.len() < 7 {
         return None;
     }
     let all = more_digits(rest, whole.value)?;
-    if all.len > most as usize || all.value >= BEYOND {
+    if all.len > *most as usize || all.value >= BEYOND {
         return None;
     }
     Some(PlainNumber {
@@ -52,16 +53,16 @@ fn with_decimals(text: &[u8], whole: Digits, most: u8, digits: u8) -> Option<Pla
     })
 }
 
-/// The number of one to nine digits, maybe with a point and further digits, that a text begins with, where a byte follows:
+/// The number of these digits, maybe with a point and further digits, that a text begins with, where a byte follows:
 /// in ticks of 1/10^digits, where it has at most `most` decimals.
 #[inline(always)]
-fn plain_number(text: &[u8], most: u8, digits: u8) -> Option<PlainNumber>
+fn plain_number(text: &[u8], whole: Digits, most: &u8, digits: u8) -> Option<PlainNumber>
+    requires whole { IsFewDigits text.now whole }
     requires room { 10 ≤ length text.now }
-    requires most { most ≤ digits }
+    requires most { most.now ≤ digits }
     requires digits { digits ≤ 6 }
-    ensures { MatchOption result (Unit {0}) (IsPlainNumber most digits text.now) }
+    ensures { MatchOption result (Unit {0}) (IsPlainNumber most.now digits text.now) }
 {
-    let whole = few_digits(text)?;
     if text[whole.len] == b'.' {
         return with_decimals(text, whole, most, digits);
     }
@@ -73,15 +74,15 @@ fn plain_number(text: &[u8], most: u8, digits: u8) -> Option<PlainNumber>
 
 /// The time without a sign that a text begins with, in ticks of 1/10^digits, where it has at most `most` decimals and a byte follows.
 #[inline(always)]
-pub(crate) fn plain_time(text: &[u8], most: u8, digits: u8) -> Option<PlainTime>
-    requires most { most ≤ digits }
+pub(crate) fn plain_time(text: &[u8], most: &u8, digits: u8) -> Option<PlainTime>
+    requires most { most.now ≤ digits }
     requires digits { digits ≤ 6 }
-    ensures { MatchOption result (Unit {0}) (IsPlainTime most digits text.now) }
+    ensures { MatchOption result (Unit {0}) (IsPlainTime most.now digits text.now) }
 {
     if text.len() < 10 {
         return None;
     }
-    let number = plain_number(text, most, digits)?;
+    let number = plain_number(text, few_digits(text)?, most, digits)?;
     if number.size >= BEYOND {
         return None;
     }
@@ -112,16 +113,17 @@ fn sign_len(minus: bool) -> usize
 
 /// The value, maybe with a minus, that a text begins with, in ticks of 1/10^digits, where it has at most `most` decimals and a byte follows.
 #[inline(always)]
-pub(crate) fn plain_value(text: &[u8], most: u8, digits: u8) -> Option<PlainValue>
-    requires most { most ≤ digits }
+pub(crate) fn plain_value(text: &[u8], most: &u8, digits: u8) -> Option<PlainValue>
+    requires most { most.now ≤ digits }
     requires digits { digits ≤ 6 }
-    ensures { MatchOption result (Unit {0}) (IsPlainValue most digits text.now) }
+    ensures { MatchOption result (Unit {0}) (IsPlainValue most.now digits text.now) }
 {
     if text.len() < 11 {
         return None;
     }
     let minus = text[0] == b'-';
-    let number = plain_number(&text[sign_len(minus)..], most, digits)?;
+    let unsigned = &text[sign_len(minus)..];
+    let number = plain_number(unsigned, short_digits(unsigned)?, most, digits)?;
     let size = value_size(number.size)?;
     if minus {
         return Some(PlainValue {

@@ -24,11 +24,12 @@ fn padded(piece: &[u8]) -> [u8; ROOM]
     room
 }
 
-/// Rows that a piece begins with: how many, and how many bytes they are.
+/// Rows that a piece begins with: how many, how many bytes they are, and the first time that a row after them may have.
 #[derive(Clone, Copy)]
 pub(crate) struct Block {
     pub(crate) rows: u64,
     pub(crate) bytes: usize,
+    next: u64,
 }
 
 impl Heading {
@@ -102,14 +103,14 @@ impl Heading {
         ensures { MatchOption result (Unit {0}) (λ n. IsPlainRow self.now piece.now n row.new) }
     {
         let scale = self.scale();
-        let first = plain_time(piece, self.time_digits(), scale.time)?;
+        let first = plain_time(piece, &self.time_digits(), scale.time)?;
         row.begin(first.time);
         let mut at = first.len;
         for most in self.digits() {
             if piece[at] != b',' {
                 return None;
             }
-            let next = plain_value(&piece[at + 1..], *most, scale.value)?;
+            let next = plain_value(&piece[at + 1..], most, scale.value)?;
             row.add(next.value);
             at += next.len + 1;
         }
@@ -155,8 +156,49 @@ impl Heading {
         Some(size)
     }
 
+    /// Adds the rows of plain numbers that the piece begins with to the trace while more than `least` bytes are left: at most `most` of
+    /// them, the first one not before the time `from`, and each later than the one before it. A row for which memory is wanting is left,
+    /// as one that is not read.
+    #[inline(always)]
+    fn take_while(
+        &self,
+        piece: &[u8],
+        least: usize,
+        most: u64,
+        from: u64,
+        trace: &mut Trace,
+    ) -> Block
+        requires width { length trace.old.header.columns ≡ length self.now.heading.columns }
+        requires later { 0 < length trace.old.rows → last_time 0 trace.old.rows < from }
+        ensures size { result.bytes ≤ length piece.now }
+        ensures few { result.rows ≤ most }
+        ensures later { 0 < length trace.new.rows → last_time 0 trace.new.rows < result.next }
+        ensures rows { AreRowsAdded self.now from result.next trace.old trace.new result.rows (take result.bytes piece.now) }
+    {
+        let mut row = Row::new();
+        let mut block = Block {
+            rows: 0,
+            bytes: 0,
+            next: from,
+        };
+        while block.rows < most && piece.len() - block.bytes > least {
+            let Some(size) = self.later_row(&mut row, &piece[block.bytes..], block.next) else {
+                return block;
+            };
+            match trace.push(&row) {
+                Ok(()) => {}
+                Err(_) => return block,
+            }
+            block.next = u64::from(row.time()) + 1;
+            block.rows += 1;
+            block.bytes += size;
+        }
+        block
+    }
+
     /// Adds the rows of plain numbers that the piece begins with to the trace: at most `most` of them, the first one not before the time
     /// `from`, and each later than the one before it. A row for which memory is wanting is left, as one that is not read.
+    /// First those behind which the piece goes on for long, which needs no copies.
     #[inline(never)]
     pub(crate) fn take_rows(&self, piece: &[u8], most: u64, from: u64, trace: &mut Trace) -> Block
         requires width { length trace.old.header.columns ≡ length self.now.heading.columns }
@@ -166,22 +208,18 @@ impl Heading {
         ensures narrow { length self.now.heading.columns ≤ 64 }
         ensures rows { (next : ℕ) × AreRowsAdded self.now from next trace.old trace.new result.rows (take result.bytes piece.now) }
     {
-        let columns = self.columns();
-        let mut row = Row::new();
-        let mut next = from;
-        let mut block = Block { rows: 0, bytes: 0 };
-        while block.rows < most && piece.len() - block.bytes > columns {
-            let Some(size) = self.later_row(&mut row, &piece[block.bytes..], next) else {
-                return block;
-            };
-            match trace.push(&row) {
-                Ok(()) => {}
-                Err(_) => return block,
-            }
-            next = u64::from(row.time()) + 1;
-            block.rows += 1;
-            block.bytes += size;
+        let far = self.take_while(piece, SHORT, most, from, trace);
+        let near = self.take_while(
+            &piece[far.bytes..],
+            self.columns(),
+            most - far.rows,
+            far.next,
+            trace,
+        );
+        Block {
+            rows: far.rows + near.rows,
+            bytes: far.bytes + near.bytes,
+            next: near.next,
         }
-        block
     }
 }

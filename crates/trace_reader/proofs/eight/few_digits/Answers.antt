@@ -19,15 +19,15 @@ front text e h l =
 pub returns-then-eight-lt8 : goal.returns-then-eight-lt8
 returns-then-eight-lt8 c =
     let text = c.args.text.now in
-    let e = c.eight_digits-eight.result in
+    let e = c.in_ok-eight.eight in
     let few : e.len ≤ 8 = omega (arith, c.if-eight-lt8.true) in
-    let f = front text e c.eight_digits-eight.ensures few in
+    let f = front text e c.in_ok-eight.ensures few in
     record {
-      some = omega (arith, c.if-eight-eq0.false);
+      some = c.in_ok-eight.ensures.some;
       few = omega (arith, few);
       digits = f.0;
       value = f.1;
-      small = omega (arith, c.eight_digits-eight.ensures.small);
+      small = omega (arith, c.in_ok-eight.ensures.small);
     }
 
 in_range : (b : ℕ) → 48 ≤ b → b ≤ 57 → is_digit b ≡ true
@@ -36,8 +36,8 @@ in_range b low high = grind (arith, low, high)
 pub returns : goal.returns
 returns c =
     let text = c.args.text.now in
-    let e = c.eight_digits-eight.result in
-    let h = c.eight_digits-eight.ensures in
+    let e = c.in_ok-eight.eight in
+    let h = c.in_ok-eight.ensures in
     let long : 8 < length text = omega (arith, c.requires) in
     let few : e.len ≤ 8 = omega (arith, h.count.within, length-take 8 text) in
     let whole : e.len ≡ 8 = omega (arith, few, c.if-eight-lt8.false) in

@@ -8,8 +8,8 @@ use Rattle.trace_reader.proofs.plain.plain_number.Goals as goal
 pub returns : goal.returns
 returns c =
     let text = c.args.text.now in
-    let d = c.in_ok-whole.ensures in
-    let len = c.in_ok-whole.whole.len in
+    let d = c.requires.whole in
+    let len = c.args.whole.len in
     let n : length (take len text) ≡ len = length-take-le len text (omega (arith, d.few, c.requires.room)) in
     record {
       plain = record {
@@ -19,6 +19,6 @@ returns c =
         bytes = digits_plain (take len text) d.digits;
       };
       short = omega (arith, d.few);
-      read = subst (IsTicks c.args.most c.args.digits (take len text)) (sym c.scaled.ensures)
-          (whole_ticks (take len text) c.args.most c.args.digits c.in_ok-whole.whole.value (omega (arith, n, d.some)) d.digits d.value);
+      read = subst (IsTicks c.args.most.now c.args.digits (take len text)) (sym c.scaled.ensures)
+          (whole_ticks (take len text) c.args.most.now c.args.digits c.args.whole.value (omega (arith, n, d.some)) d.digits d.value);
     }

@@ -9,6 +9,6 @@ returns c =
     let n = c.in_ok-number.number in
     record {
       plain = p.plain;
-      read = time_read (take n.len c.args.text.now) c.args.most c.args.digits n.size p.read c.if-number-ge-BEYOND.false;
+      read = time_read (take n.len c.args.text.now) c.args.most.now c.args.digits n.size p.read c.if-number-ge-BEYOND.false;
       fits = omega (arith, c.if-number-ge-BEYOND.false);
     }

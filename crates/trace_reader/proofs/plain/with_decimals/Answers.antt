@@ -29,7 +29,7 @@ returns c =
     let back : length (take m rest) ≡ m = length-take-le m rest (omega (arith, room, a.few)) in
     let value : c.in_ok-all.all.value ≡ decimal_value (decimal_value 0 (take n text)) (take m rest) =
     a.value ∙ ap (λ x. decimal_value x (take m rest)) d.value in
-    let read = ticks_after (take n text) (take m rest) c.args.most c.args.digits c.in_ok-all.all.value (omega (arith, front, d.some)) d.digits
+    let read = ticks_after (take n text) (take m rest) c.args.most.now c.args.digits c.in_ok-all.all.value (omega (arith, front, d.some)) d.digits
     (omega (arith, back, a.some)) a.digits value (omega (arith, back, c.if-all-most.false)) c.requires.most in
     record {
       plain = record {
@@ -39,6 +39,6 @@ returns c =
         bytes = rw joined (decimals_plain (take n text) (take m rest) d.digits a.digits);
       };
       short = omega (arith, d.few, a.few);
-      read = rw joined (subst (IsTicks c.args.most c.args.digits (take n text ++ 46 ∷ take m rest))
+      read = rw joined (subst (IsTicks c.args.most.now c.args.digits (take n text ++ 46 ∷ take m rest))
           (ap (λ x. c.in_ok-all.all.value * 10 ^ (c.args.digits - x)) back ∙ sym c.scaled.ensures) read);
     }

@@ -1,10 +1,11 @@
-use Rattle.std.proofs.Common.{◌≡◌, [], refl, sym, subst, ◌∙◌, arith}
+use Rattle.std.proofs.Common.{◌≡◌, inl, inr, [], refl, sym, subst, ◌∙◌, arith}
 use Rattle.answer_lines.specs.Lines.{line_text}
 use Rattle.workbench.specs.Requests.{Request, Asks}
 use Rattle.workbench.specs.Keeping.{Holds}
 use Rattle.workbench.specs.Pushing.{IsPushed, IsStreamedFor}
 use Rattle.workbench.proofs.Calmness.{calm_ending}
 use Rattle.workbench.proofs.LeftByRun.{asks_some, starved_left, stopped_left, kept_left, of_answer, of_value}
+use Rattle.workbench.proofs.RunEnds.{not_words}
 use Rattle.workbench.proofs.StreamSteps.{soundly, streamed_run}
 use Rattle.workbench.proofs.top.streamed.Goals as goal
 
@@ -69,3 +70,9 @@ pub returns-clause-calm : goal.returns-clause-calm
 returns-clause-calm g c =
     calm_ending c.stream-ending.result c.finish-status.ensures.status c.stream-ending.ensures.read_due c.stream-ending.ensures.write_due
     c.finish-status.ensures.quiet c.stream-ending.ensures.input_later c.stream-ending.ensures.out_later c.finish-status.ensures.later
+
+pub returns-clause-known : goal.returns-clause-known
+returns-clause-known g c = λ h. elim h [
+  | inl two ↦ not_words c.stream-ending.result (inl (sym c.finish-status.ensures.status ∙ two))
+  | inr three ↦ not_words c.stream-ending.result (inr (sym c.finish-status.ensures.status ∙ three))
+]

@@ -1,65 +1,39 @@
--- A row more of those that the piece begins with.
-use Rattle.std.proofs.Common.{◌≡◌, ◌≤◌, ◌++◌, ◌∷◌, [], ◌+◌, length, take, drop}
-use Rattle.std.proofs.Common.{refl, subst, sym, ap, ◌∙◌, arith, take-add, length-drop, append_assoc, append-nil}
-use Rattle.std.proofs.lemmas.List.{take_rest, length_push}
-use Rattle.stl_syntax.specs.Trace.{Trace, last_time}
-use Rattle.trace_reader.specs.Plain.{IsPlainRow}
-use Rattle.trace_reader.specs.Blocks.{ArePlainRows, none, more}
-use Rattle.trace_reader.proofs.TraceLemmas.{last_behind}
+-- The rows that go on for long, and those behind them.
+use Rattle.std.proofs.Common.{◌≤◌, ◌+◌, ◌∙◌, ℕ, List, ap, arith, length, drop, length-drop}
+use Rattle.std.proofs.lemmas.List.{take_rest}
+use Rattle.stl_syntax.specs.Trace.{Trace}
+use Rattle.trace_reader.proofs.BlockTakes.{blocks_joined}
 use Rattle.trace_reader.proofs.room.Heading.take_rows.Goals as goal
 
-pub loop-block-init : goal.loop-block-init
-loop-block-init c = record {
-  within = omega arith;
-  few = omega arith;
-  width = c.requires.width;
-  later = c.requires.later;
-  added = record {
-    rows = [];
-    count = refl;
-    added = ap (λ rs. record c.args.trace.now { rows = rs }) (sym (append-nil c.args.trace.now.rows));
-    read = none;
-  };
-}
+pub take_while-near-requires-clause-width : goal.take_while-near-requires-clause-width
+take_while-near-requires-clause-width c =
+    ap (λ (x : Trace). length x.header.columns) c.take_while-far.ensures.rows.added ∙ c.requires.width
 
-pub push-requires : goal.push-requires
-push-requires c =
-    let old = c.loop-block.invariant in
-    let p : IsPlainRow c.args.self.now (drop c.loop-block.block.bytes c.args.piece.now) c.in-Some.size c.later_row.new.row
-    × (c.loop-block.next ≤ c.later_row.new.row.time) = rw take_rest at c.in-Some.ensures in
-    record {
-      width = p.0.read.values ∙ sym old.width;
-      later = λ some. let l = old.later some in omega (arith, l, p.1);
-    }
+pub take_while-near-requires-clause-later : goal.take_while-near-requires-clause-later
+take_while-near-requires-clause-later c = c.take_while-far.ensures.later
 
-pub loop-block-preserved : goal.loop-block-preserved
-loop-block-preserved c =
-    let h = c.args.self.now in
+-- the rows behind lie within what is left of the piece
+within : (piece : List ℕ) (at n : ℕ) → at ≤ length piece → n ≤ length (drop at piece) → at + n ≤ length piece
+within piece at n h k = omega (arith, h, k, length-drop at piece)
+
+pub overflow_add-result-2 : goal.overflow_add-result-2
+overflow_add-result-2 c =
+    let size = rw take_rest at c.take_while-near.ensures.size in
+    let n = within c.args.piece.now c.take_while-far.result.bytes c.take_while-near.result.bytes c.take_while-far.ensures.size size in
+    omega (arith, n)
+
+pub returns-clause-size : goal.returns-clause-size
+returns-clause-size c =
+    let size = rw take_rest at c.take_while-near.ensures.size in
+    within c.args.piece.now c.take_while-far.result.bytes c.take_while-near.result.bytes c.take_while-far.ensures.size size
+
+pub returns-clause-rows : goal.returns-clause-rows
+returns-clause-rows c =
     let piece = c.args.piece.now in
-    let at = c.loop-block.block.bytes in
-    let n = c.in-Some.size in
-    let r = c.later_row.new.row in
-    let rest = drop at piece in
-    let old = c.loop-block.invariant in
-    let p : IsPlainRow h rest n r × (c.loop-block.next ≤ r.time) = rw take_rest at c.in-Some.ensures in
-    let t = c.loop-block.trace in
-    let first = c.args.trace.now in
-    let pushed : c.push.new.self ≡ record t { rows = t.rows ++ r ∷ [] } = c.in-Ok.ensures.ok in
-    let last : last_time 0 c.push.new.self.rows ≡ r.time =
-    ap (λ (x : Trace). last_time 0 x.rows) pushed ∙ last_behind t.rows (r ∷ []) 0 0 (omega arith) in
-    let time : r.time + 1 ≡ c.from-next.result + 1 = omega (arith, c.from-next.ensures, c.time.ensures) in
-    record {
-      within = omega (arith, length-drop at piece, p.0.whole.within, old.within);
-      few = omega arith;
-      width = ap (λ (x : Trace). length x.header.columns) pushed ∙ old.width;
-      later = λ some. omega (arith, last, time);
-      added = record {
-        rows = old.added.rows ++ r ∷ [];
-        count = omega (arith, old.added.count, length_push old.added.rows r);
-        added = pushed ∙ (ap (λ (x : Trace). record x { rows = x.rows ++ r ∷ [] }) old.added.added
-            ∙ ap (λ rs. record first { rows = rs }) (append_assoc first.rows old.added.rows (r ∷ [])));
-        read = subst (λ k. ArePlainRows h c.args.from (take (at + n) piece) (old.added.rows ++ r ∷ []) k) time
-            (subst (λ b. ArePlainRows h c.args.from b (old.added.rows ++ r ∷ []) (r.time + 1)) (sym (take-add at n piece))
-            (more rest n r old.added.read p.0 p.1));
-      };
-    }
+    let far = c.take_while-far.result in
+    let near = c.take_while-near.result in
+    let behind = rw take_rest at c.take_while-near.ensures.rows in (
+      near.next,
+      blocks_joined c.args.self.now c.args.from far.next near.next c.args.trace.now c.take_while-far.new.trace c.take_while-near.new.trace
+          far.rows near.rows piece far.bytes near.bytes c.take_while-far.ensures.rows behind,
+    )

@@ -1,6 +1,5 @@
 -- A row, by its place in both lists.
 use Rattle.std.proofs.Common.{◌≡◌, ◌≤◌, ◌+◌, ◌*◌, ◌∙◌, ap, sym, length, take, drop, get_or, nat_abs, arith}
-use Rattle.std.specs.Prelude.{All}
 use Rattle.std.proofs.lemmas.List.{get_or_read, length-drop, length-take-le}
 use Rattle.std.proofs.lemmas.List.Elements.{All-take, All-drop}
 use Rattle.stl_syntax.specs.Trace.{Trace}
