@@ -25,4 +25,4 @@ pub use passage::{Crossing, Leg, MarginWay, Passage, Turning, Way};
 pub use points::{margin_piece, margin_point, truth_piece, truth_point, truth_step};
 pub use signal::{AtomShape, atom_signal};
 pub use truth::TruthPiece;
-pub use way::{standing, truth_at_row, truth_from_row, way_from};
+pub use way::{standing, stays_over, truth_at_row, truth_from_row, way_from};

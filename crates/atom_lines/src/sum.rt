@@ -112,6 +112,20 @@ fn above_limit(coef: i32, value: i32, limit: i32) -> i64
     product(coef, value) - i64::from(limit)
 }
 
+/// The sum at a row, as `reach_of` has it of the same row twice.
+#[inline(always)]
+pub(crate) fn reach_here<C: Cells>(atom: &BoundAtom, row: &C) -> i64
+    requires sound { IsAtomSound (length (C.values row.now)) atom.now }
+    ensures value { result ≡ reach atom.now (C.values row.now) (C.values row.now) }
+    ensures small { unsigned_abs (sum_over atom.now.terms.items (C.values row.now) (C.values row.now)) ≤ 2 ^ 30 }
+{
+    if atom.terms.len() != 1 {
+        return reach_of(atom, row, row);
+    }
+    let term = only_term(atom);
+    above_limit(term.coef, row.cell(term.column), atom.limit)
+}
+
 /// The sums of `reaches_of`, where that at the first row is `from`: one term that is a step keeps it up to the second row, and one that is
 /// a ramp comes to what it is there.
 #[inline(always)]

@@ -1,5 +1,6 @@
 //! How an atom's truth goes over the rows of a trace, gap by gap. The times at which it turns are in no lowest terms.
 ghost use Rattle.std.specs.Prelude.{◌≡◌, ◌<◌, ◌≤◌, ◌^◌, ◌+◌, ◌/◌, ◌%◌, pos, length, IsTrue};
+ghost use Rattle.rational.specs.Time.{◌≤ʳ◌};
 ghost use Rattle.rational.specs.Rational.{Rational, ◌≈◌, whole};
 ghost use Rattle.rational.specs.Line.{at};
 ghost use Rattle.stl_syntax.specs.Truth.{compares, holds_at};
@@ -20,7 +21,7 @@ use crate::cells::row_at;
 use crate::gap::Gap;
 use crate::passage::{Crossing, Passage, Way};
 use crate::points::gap_on;
-use crate::sum::reach_of;
+use crate::sum::{reach_here, reach_of};
 use crate::truth::{TruthPiece, changes_sign, keeps_truth, truth_at, truth_onward};
 use stl_syntax::Rel;
 use trace_reader::Trace;
@@ -133,8 +134,16 @@ pub(crate) fn stay_from(atom: &BoundAtom, trace: &Trace, r: usize, last: usize, 
     Stay { at, step }
 }
 
-/// Whether the truth of an atom of one term stays what it is over a step that is not the last. On the gap its sum is that at one of the two
-/// rows, or lies between the two, so it is asked at these alone.
+/// Whether the truth of an atom of one term stays what it is over a step. On the gap its sum is that at one of the two rows, or lies between
+/// the two, so it is asked at these alone.
+#[inline(always)]
+fn stays_on_one(rel: Rel, step: &Step) -> bool
+    ensures { IsTrue result → compares rel (whole step.now.gap.from) ≡ compares rel (whole step.now.next) }
+{
+    truth_at(rel, step.next).holds() == truth_at(rel, step.gap.from).holds()
+}
+
+/// The same of a step that is not the last.
 #[inline(always)]
 fn stays_of_one(rel: Rel, at: usize, last: usize, step: &Step) -> bool
     requires { at < last }
@@ -144,7 +153,7 @@ fn stays_of_one(rel: Rel, at: usize, last: usize, step: &Step) -> bool
     if at + 1 >= last {
         return false;
     }
-    truth_at(rel, step.next).holds() == truth_at(rel, step.gap.from).holds()
+    stays_on_one(rel, step)
 }
 
 /// How long the truth of an atom of one term stays from a row on: what `stay_from` answers, with no sum of terms to reckon.
@@ -202,6 +211,36 @@ pub fn standing(bound: &Bound, node: u32, trace: &Trace, r: usize) -> (i64, bool
     let row = row_at(trace, r);
     let sum = reach_of(atom, &row, &row);
     (sum, truth_at(atom.rel, sum).holds())
+}
+
+/// The sum of an atom at a row.
+#[inline(always)]
+fn sum_at(atom: &BoundAtom, trace: &Trace, r: usize) -> i64
+    requires sound { IsAtomSound (length trace.now.header.columns) atom.now }
+    requires within { r < length trace.now.rows }
+    ensures { IsReach atom.now trace.now r result }
+{
+    let row = row_at(trace, r);
+    reach_here(atom, &row)
+}
+
+/// Whether an atom has one truth from row `r` of a trace to the next.
+#[inline(always)]
+pub fn stays_over(bound: &Bound, node: u32, trace: &Trace, r: usize, next: usize) -> bool
+    requires atom { IsAtomNode bound.now node }
+    requires columns { length trace.now.header.columns ≡ bound.now.width }
+    requires next { next ≡ r + 1 }
+    requires within { next < length trace.now.rows }
+    ensures { IsTrue result → (a : Atom) (tr : Recorded) → IsFor bound.now node a tr → HasBlock tr trace.now → (t : Rational)
+        → row_time (row_of trace.now r) ≤ʳ t → t ≤ʳ row_time (row_of trace.now next)
+        → holds_at a tr t ≡ holds_at a tr (row_time (row_of trace.now r)) }
+{
+    let atom = bound.atom(node);
+    let step = step_from(atom, trace, r, next, sum_at(atom, trace, r));
+    if atom.terms.len() == 1 {
+        return stays_on_one(atom.rel, &step);
+    }
+    keeps_truth(atom.rel, &step.gap, step.next)
 }
 
 /// The atom's truth at row `r` of a trace.

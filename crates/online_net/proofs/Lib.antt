@@ -7,3 +7,4 @@ mod AtomRuns
 mod RowParts
 mod BlockRows
 mod EdgeRows
+mod AtomLists

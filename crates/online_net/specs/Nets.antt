@@ -71,6 +71,11 @@ pub record Keeps (nodes : List Node) (header : Header) (net : Parts) (events : L
 abbrev pub Stands : List Node → Header → Parts → List Event → Type 0
 Stands nodes header net events = StandsFor (Keeps nodes header net) nodes header (shown_of net) events
 
+-- a list has the nodes without an operator, and no others
+pub record AreAtoms (atoms : List ℕ) (operators : List (Option Operator)) : Type 0 where
+  pub each : (i j : ℕ) → slice_get atoms i ≡ Some j → slice_get operators j ≡ Some None
+  pub all : (j : ℕ) → slice_get operators j ≡ Some None → (i : ℕ) × (slice_get atoms i ≡ Some j)
+
 -- a network that is not stopped stands for some run
 abbrev pub HasPast : Parts → Type 0
 HasPast net = net.stopped ≡ false → (nodes : List Node) × (header : Header) × (events : List Event) × Stands nodes header net events

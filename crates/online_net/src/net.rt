@@ -3,7 +3,7 @@
 //! A network stands for a run of events, a row, a step of a node, the end, a verdict taken, in whatever order they came. It stores
 //! no history: what it shows is, for each run that it stands for, what the run says.
 
-ghost use Rattle.std.specs.Prelude.{ℕ, ◌≡◌, ◌<◌, ◌+◌, ◌-◌, ◌↔◌, ◌++◌, ◌∷◌, [], List, length, IfOk, OnOk, IfSome, IfNone};
+ghost use Rattle.std.specs.Prelude.{ℕ, ◌≡◌, ◌<◌, ◌≤◌, ◌+◌, ◌-◌, ◌↔◌, ◌++◌, ◌∷◌, [], List, length, IfOk, OnOk, IfSome, IfNone};
 ghost use Rattle.std.specs.Prelude.{slice_get, IsTrue, MatchBool, MatchResult, Some, None, true, false, pos, option_map, ◌≢◌};
 ghost use Rattle.stl_syntax.specs.Trace.{Header};
 ghost use Rattle.stl_syntax.specs.WellFormed.{IsWellFormed};
@@ -12,7 +12,7 @@ ghost use Rattle.atom_lines.specs.Binding.{IsBound};
 ghost use Rattle.online_nodes.specs.Network.{Event, row as came, step as stepped, close as ended, take as taken, state, shown, node_is_atom, IsReady};
 ghost use Rattle.online_nodes.specs.Held.{JoinsAlike, held_at};
 ghost use Rattle.online_nodes.specs.Belonging.{Belongs, BelongsSomewhere};
-ghost use Rattle.online_net.specs.Nets.{Stands};
+ghost use Rattle.online_net.specs.Nets.{AreAtoms, Stands};
 ghost use Rattle.online_net.specs.Steps.{AreFirstOperators, AreNewEdges, IsFirstOperator, IsStep, JoinsAllButRoot, JoinsNone};
 ghost use Rattle.stl_syntax.specs.Trace.{Row as ARow, IsTrace};
 ghost use Rattle.online_nodes.specs.Driven.{rows_of};
@@ -48,6 +48,8 @@ pub struct Net {
     edges: Edges,
     /// None at an atom.
     operators: Vec<Option<Operator>>,
+    /// The nodes of the atoms, so that they need not be looked for.
+    atoms: Vec<u32>,
     bound: Bound,
     last: Option<Row>,
     closed: bool,
@@ -59,7 +61,7 @@ impl Model for Net {
 
     ghost Value = { Parts };
 
-    ghost use Rattle.online_net.specs.Nets.{HasPast};
+    ghost use Rattle.online_net.specs.Nets.{AreAtoms, HasPast};
 
     ghost view = { λ n. record { edges = n.edges; operators = n.operators.items; bound = n.bound; last = n.last; closed = n.closed; stopped = n.stopped } };
 
@@ -70,7 +72,7 @@ impl Model for Net {
       last = n.last;
       closed = n.closed;
       stopped = n.stopped;
-    }) };
+    }) × AreAtoms n.atoms.items n.operators.items };
 }
 
 /// The operator of a node, before any step; none at an atom.
@@ -95,6 +97,22 @@ fn operators_of(alloc: Global, formula: &Formula) -> Result<Vec<Option<Operator>
         };
     }
     Ok(operators)
+}
+
+/// The nodes without an operator, which are the atoms.
+fn atoms_of(alloc: Global, operators: &[Option<Operator>]) -> Result<Vec<u32>, Memory>
+    requires { length operators.now ≤ 256 }
+    ensures { IfOk result (λ v. AreAtoms v.items operators.now) }
+{
+    let mut atoms = Vec::new(alloc);
+    for i in 0..operators.len() {
+        if operators[i].is_none() {
+            let Ok(()) = atoms.push(i as u32) else {
+                return Err(Memory);
+            };
+        }
+    }
+    Ok(atoms)
 }
 
 /// The edges of so many nodes. Each but the last one, the root's, joins neighbours of one truth.
@@ -122,9 +140,11 @@ fn over(alloc: Global, formula: &Formula, bound: Bound, edges: Edges) -> Result<
     ensures edges { IfOk result (λ net. net.edges ≡ edges) }
 {
     let operators = operators_of(alloc, formula)?;
+    let atoms = atoms_of(alloc, &operators)?;
     Ok(Net {
         edges,
         operators,
+        atoms,
         bound,
         last: None,
         closed: false,
@@ -319,7 +339,7 @@ impl Net {
         if self.stopped {
             return false;
         }
-        all_stay(&self.operators, &self.bound, block, at, to)
+        all_stay(&self.atoms, &self.bound, block, at, to)
     }
 
     /// The end of the rows. It takes no memory.

@@ -16,7 +16,9 @@ ghost use Rattle.atom_lines.specs.declared.passage.Passage.TheVariants.{Steady};
 ghost use Rattle.stl_syntax.specs.Trace.{IsTrace};
 
 use crate::atom::{note, span_after, span_at, span_between};
-use atom_lines::{Bound, Crossing, Passage, Turning, Way, leg_from, standing, way_from};
+use atom_lines::{
+    Bound, Crossing, Passage, Turning, Way, leg_from, standing, stays_over, way_from,
+};
 use frac128::{Cut, Frac, Memory, Span};
 use online_nodes::{Edges, Operator};
 use stl_syntax::Verdict;
@@ -767,31 +769,25 @@ fn stays(bound: &Bound, node: u32, block: &Trace, at: usize, to: usize) -> bool
     requires within { to < length block.now.rows }
     ensures { IsTrue result → StaysFrom bound.now node block.now at to }
 {
+    if at + 1 == to {
+        return stays_over(bound, node, block, at, to);
+    }
     let (sum, holds) = standing(bound, node, block, at);
     let way = way_from(bound, node, block, at, to, sum);
     is_even(&way, to, holds)
 }
 
-/// Whether each atom does.
-pub(crate) fn all_stay(
-    operators: &[Option<Operator>],
-    bound: &Bound,
-    block: &Trace,
-    at: usize,
-    to: usize,
-) -> bool
-    requires few { length operators.now ≤ 256 }
-    requires atoms { (j : ℕ) → slice_get operators.now j ≡ Some None → IsAtomNode bound.now j }
+/// Whether each of these atoms does.
+pub(crate) fn all_stay(atoms: &[u32], bound: &Bound, block: &Trace, at: usize, to: usize) -> bool
+    requires atoms { (i j : ℕ) → slice_get atoms.now i ≡ Some j → IsAtomNode bound.now j }
     requires columns { length block.now.header.columns ≡ bound.now.width }
     requires order { at < to }
     requires within { to < length block.now.rows }
-    ensures { IsTrue result → (j : ℕ) → slice_get operators.now j ≡ Some None → StaysFrom bound.now j block.now at to }
+    ensures { IsTrue result → (i j : ℕ) → slice_get atoms.now i ≡ Some j → StaysFrom bound.now j block.now at to }
 {
-    for i in 0..operators.len() {
-        if operators[i].is_none() {
-            if !stays(bound, i as u32, block, at, to) {
-                return false;
-            }
+    for i in 0..atoms.len() {
+        if !stays(bound, atoms[i], block, at, to) {
+            return false;
         }
     }
     true

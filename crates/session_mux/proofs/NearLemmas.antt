@@ -126,27 +126,27 @@ near_is_first text n h long =
       eq-eqb (slice_index text n) 10 (ap (slice_index text) (sym (at n)) ∙ h.is),
     )
 
--- a text that stands at the front of a room of 32 bytes
-module _ (text room : List ℕ) (end : ℕ) (is : take end room ≡ text) (size : end ≡ length text) where
-  in_room : (k : ℕ) → k < end → slice_index text k ≡ slice_index room k
-  in_room k less = ap (λ w. slice_index w k) (sym is) ∙ get_or-take end room k 0 less
+-- a text that stands in a room, behind other bytes at its front
+module _ (text room front : List ℕ) (end : ℕ) (is : take end room ≡ front ++ text) (size : end ≡ length front + length text) where
+  in_room : (k : ℕ) → k < length text → slice_index text k ≡ slice_index room (length front + k)
+  in_room k less =
+      sym (get_or-append-add front text k 0) ∙ ap (λ w. slice_index w (length front + k)) (sym is)
+      ∙ get_or-take end room (length front + k) 0 (omega (arith, less, size))
 
-  -- where the room has its first LF within the text, the text has its first there
-  pub room_first : (n : ℕ) → IsNextFeed room 0 n → n < end → NoneBefore (Passes (is_byte 10) text) 0 (length text) n × Passes (is_byte 10) text n
-  room_first n h less =
-      let at : (k : ℕ) → 0 + k ≡ k = λ k. omega arith in (
-        record {
-          low = omega arith;
-          high = omega (arith, less, size);
-          before = λ k low early is. h.before k early
-              (ap (slice_index room) (at k) ∙ sym (in_room k (omega (arith, early, less))) ∙ eqb-true (slice_index text k) 10 is);
-        },
-        eq-eqb (slice_index text n) 10 (in_room n less ∙ ap (slice_index room) (sym (at n)) ∙ h.is),
-      )
+  -- where the room has its next LF within the text, the text has its first there
+  pub room_first : (n : ℕ) → IsNextFeed room (length front) n → n < length text
+      → NoneBefore (Passes (is_byte 10) text) 0 (length text) n × Passes (is_byte 10) text n
+  room_first n h less = (
+    record {
+      low = omega arith;
+      high = omega (arith, less);
+      before = λ k low early is. h.before k early (sym (in_room k (omega (arith, early, less))) ∙ eqb-true (slice_index text k) 10 is);
+    },
+    eq-eqb (slice_index text n) 10 (in_room n less ∙ h.is),
+  )
 
   -- where it has none before the text ends, the text has none
-  pub room_none : ((k : ℕ) → k < end → slice_index room (0 + k) ≢ 10) → Nowhere (Passes (is_byte 10) text) 0 (length text)
+  pub room_none : ((k : ℕ) → k < length text → slice_index room (length front + k) ≢ 10) → Nowhere (Passes (is_byte 10) text) 0 (length text)
   room_none none k low less is =
-      let at : 0 + k ≡ k = omega arith in
-      let early : k < end = omega (arith, less, size) in
-      none k early (ap (slice_index room) at ∙ sym (in_room k early) ∙ eqb-true (slice_index text k) 10 is)
+      let early : k < length text = omega (arith, less) in
+      none k early (sym (in_room k early) ∙ eqb-true (slice_index text k) 10 is)

@@ -277,6 +277,21 @@ gathered_on {t} {piece} {n = n} {content = content} {m = m} g less own with_cont
           ∙ sym (flat_map-append (λ (k : RunLine). k.content ++ newline) g.lines (l ∷ []));
     }
 
+-- one line alone
+pub gathered_one : {t piece content contents : List ℕ} {most m : ℕ} → 0 < most → IsOwnLine t piece content m → contents ≡ content ++ newline
+    → HasGathered t piece most m 1 contents
+gathered_one {t} {content = content} some own ends =
+    let l : RunLine = record { bytes = own.bytes; content = content } in
+    record {
+      lines = l ∷ [];
+      each = All-cons (IsRunLine t) l [] own.is (All-nil (IsRunLine t));
+      taken = own.taken ∙ sym (append-nil (own.bytes ++ newline));
+      within = own.within;
+      are = refl;
+      few = omega (arith, some);
+      contents_are = ends ∙ sym (append-nil (content ++ newline));
+    }
+
 -- a tag has no LF
 tag_free : (t : List ℕ) → IsTag t → HasNoFeed t
 tag_free t (tag {c = c} {rest = rest} bytes few) = bytes_free (c ∷ rest) bytes

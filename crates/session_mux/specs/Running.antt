@@ -1,5 +1,5 @@
 -- Lines of one session that follow one another, which are handed to it together: words of private contracts.
-use Rattle.std.specs.Prelude.{◌≡◌, ℕ, ◌≤◌, ◌<◌, false, List, ◌∷◌, ◌++◌, length, take, map, flat_map, All}
+use Rattle.std.specs.Prelude.{◌≡◌, ℕ, ◌≤◌, ◌<◌, false, List, ◌∷◌, ◌++◌, length, take, map, flat_map, Option, Some, None, All}
 use Rattle.stl_syntax.specs.Characters.{is_among}
 use Rattle.stl_syntax.specs.Texts.{newline}
 use Rattle.trace_reader.specs.TraceText.{content as content_of}
@@ -49,6 +49,11 @@ pub record IsOwnLine (tag piece content : List ℕ) (n : ℕ) : Type 0 where
   pub taken : take n piece ≡ bytes ++ newline
   pub within : n ≤ length piece
   pub some : 0 < n
+
+-- the contents of a lone line, or others
+abbrev pub contents_in : Option (List ℕ) → List ℕ → List ℕ
+contents_in None others = others
+contents_in (Some contents) others = contents
 
 -- the piece begins with so many of these lines, at most `most`, of n bytes in all; their contents were gathered
 pub record HasGathered (tag piece : List ℕ) (most n count : ℕ) (contents : List ℕ) : Type 0 where

@@ -1,8 +1,7 @@
 -- The lines that are said to a session: words of private contracts.
-use Rattle.std.specs.Prelude.{◌≡◌, ◌⊎◌, ℕ, ◌<◌, ◌≤◌, List, [], ◌∷◌, ◌++◌, length, map, flat_map, true, codes}
+use Rattle.std.specs.Prelude.{◌≡◌, ◌⊎◌, ℕ, ◌<◌, List, [], ◌∷◌, ◌++◌, length, map, flat_map, true, codes}
 use Rattle.circular_buffer.specs.Buffer.{Buffer, buffer, keep_last}
 use Rattle.stl_syntax.specs.Texts.{newline}
-use Rattle.trace_reader.specs.Feeds.{HasNoFeed}
 use Rattle.trace_reader.specs.TraceText.{Line, lines}
 use Rattle.session_mux.specs.Sessions.{prefixed}
 
@@ -25,13 +24,6 @@ EndsInFeed text = (text ≡ []) ⊎ ((x : List ℕ) × (text ≡ x ++ newline))
 -- the last eight lines are those of the other text
 abbrev pub HasLastLines : List ℕ → List ℕ → Type 0
 HasLastLines text last = (said : List (List ℕ)) → keep_last 8 (said ++ texts text) ≡ keep_last 8 (said ++ texts last)
-
--- one line with its LF, at most 32 bytes
-pub record IsShortLine (text : List ℕ) : Type 0 where
-  pub line : List ℕ
-  pub is : text ≡ line ++ newline
-  pub free : HasNoFeed line
-  pub few : length text ≤ 32
 
 -- the first line of a text was put after a tag and a space, behind what was added and what waits; these bytes of the text are left
 pub record HasPutFirst (tag text rest before waiting after waiting_after : List ℕ) : Type 0 where

@@ -1,11 +1,12 @@
 //! An input of several sessions, whose lines are cut from the pieces of its bytes.
-ghost use Rattle.std.specs.Prelude.{◌≡◌, ◌<◌, ◌≤◌, ◌++◌, ◌∷◌, ◌+◌, ℕ, List, [], true, false, length, take, MatchResult, OnOk, MatchOption};
+ghost use Rattle.std.specs.Prelude.{◌≡◌, ◌<◌, ◌≤◌, ◌++◌, ◌∷◌, ◌+◌, ℕ, List, [], true, false, length, take, MatchResult, OnOk, IfSome, MatchOption};
 ghost use Rattle.stl_syntax.specs.Formula.{Formula as Parsed};
 ghost use Rattle.trace_reader.specs.Feeds.{HasNoFeed};
 ghost use Rattle.trace_reader.proofs.LineLemmas.{rest};
 ghost use Rattle.stl_syntax.specs.Texts.{newline};
 ghost use Rattle.session_mux.specs.Sessions.{IsTag};
 ghost use Rattle.session_mux.specs.Owning.{IsWithFeed};
+ghost use Rattle.session_mux.specs.Knowing.{IsSessionAt};
 ghost use Rattle.session_mux.specs.Muxes.{Past, StandsFor, HasTaken};
 ghost use Rattle.session_mux.specs.Running.{IsJoined, IsRunRefused};
 ghost use Rattle.session_mux.specs.Taking.{ended_line, IsSized, HasLines, IsTaking, HasTakenSome, IsInputStop};
@@ -13,7 +14,7 @@ ghost use Rattle.session_mux.specs.Taking.{IsLineStop, IsPartStop, HasAll, IsHan
 
 use crate::fault::MuxFault;
 use crate::mux::Mux;
-use crate::run::{content_of, front_tag, gather};
+use crate::run::{content_of, contents_of, front_tag, gather};
 use crate::stop::{FaultAt, InputStop, LineKind};
 use frac128::Memory;
 use memchr::memchr;
@@ -43,6 +44,13 @@ pub struct Input {
     whole: u64,
     text: Text,
     joined: Text,
+}
+
+/// The tag at the front of a piece, and the place of its session, where that is known.
+#[derive(Clone, Copy)]
+struct Front<'a> {
+    tag: &'a [u8],
+    place: Option<usize>,
 }
 
 /// A fault of line `line`.
@@ -80,21 +88,23 @@ fn hand(mux: &mut Mux, number: u64, line: &[u8], text: &mut Text) -> Result<(), 
 }
 
 /// Hands the contents of lines with one tag, each with its LF, to their session. The first of them is line `number`.
+#[inline(always)]
 fn hand_run(
     mux: &mut Mux,
     number: u64,
-    tag: &[u8],
+    front: &Front,
     contents: &[u8],
     text: &mut Text,
 ) -> Result<(), InputStop>
     requires stands { (p : Past) × StandsFor p mux.old }
-    requires tag { IsTag tag.now }
+    requires tag { IsTag front.now.tag.now }
+    requires place { IfSome front.now.place (λ i. IsSessionAt mux.old.known.sessions i front.now.tag.now) }
     requires feed { IsWithFeed contents.now }
     ensures { (p : Past) (content : List ℕ) → StandsFor p mux.old → contents.now ≡ content ++ newline → MatchResult result
-        (λ _. HasTaken p (record { tag = tag.now; content = content }) mux.new text.old text.new)
-        (IsRunRefused p number tag.now text.old text.new) }
+        (λ _. HasTaken p (record { tag = front.now.tag.now; content = content }) mux.new text.old text.new)
+        (IsRunRefused p number front.now.tag.now text.old text.new) }
 {
-    match mux.take(tag, contents, text) {
+    match mux.take(front.tag, front.place, contents, text) {
         Ok(()) => Ok(()),
         Err(MuxFault::TooManySessions) => Err(refused(number, LineKind::TooManySessions)),
         Err(MuxFault::BadTag | MuxFault::Stopped | MuxFault::Ended | MuxFault::Memory) => {
@@ -129,16 +139,24 @@ fn all_bytes<'a>(part: &[u8], piece: &'a [u8], room: &'a Text) -> &'a [u8]
     room.bytes()
 }
 
-/// The tag at the front of a piece, if bytes of a tag stand there, and not too many. That of the session whose turn it is is known at once.
+/// The tag at the front of a piece, if bytes of a tag stand there, and not too many. That of the session whose turn it is is known at once,
+/// and so is its place.
 #[inline(always)]
-fn tag_of<'a>(mux: &Mux, piece: &'a [u8]) -> Option<&'a [u8]>
+fn front_of<'a>(mux: &Mux, piece: &'a [u8]) -> Option<Front<'a>>
     requires { (p : Past) × StandsFor p mux.now }
-    ensures { MatchOption result (Unit {0}) (λ t. IsTag t.now × (t.now ≡ take (length t.now) piece.now)) }
+    ensures { MatchOption result (Unit {0}) (λ f. IsTag f.tag.now × (f.tag.now ≡ take (length f.tag.now) piece.now)
+        × IfSome f.place (λ i. IsSessionAt mux.now.known.sessions i f.tag.now)) }
 {
-    if let Some(len) = mux.turn(piece) {
-        return Some(&piece[..len]);
+    if let Some(turn) = mux.turn(piece) {
+        return Some(Front {
+            tag: &piece[..turn.len],
+            place: Some(turn.place),
+        });
     }
-    front_tag(piece)
+    match front_tag(piece) {
+        Some(tag) => Some(Front { tag, place: None }),
+        None => None,
+    }
 }
 
 impl Input {
@@ -209,10 +227,10 @@ impl Input {
             return Err(InputStop::NoMemory);
         };
         let bytes = all_bytes(self.part.bytes(), piece, &self.joined);
-        let Some(tag) = tag_of(&self.mux, bytes) else {
+        let Some(front) = front_of(&self.mux, bytes) else {
             return Ok(0);
         };
-        let Ok(run) = gather(&mut self.run, tag, bytes, MOST_LINES - self.whole) else {
+        let Ok(run) = gather(&mut self.run, front.tag, bytes, MOST_LINES - self.whole) else {
             return Err(InputStop::NoMemory);
         };
         if run.lines == 0 {
@@ -221,8 +239,8 @@ impl Input {
         hand_run(
             &mut self.mux,
             self.whole + 1,
-            tag,
-            &self.run[..run.used],
+            &front,
+            contents_of(&self.run, &run),
             &mut self.text,
         )?;
         let taken = run.bytes - self.part.bytes().len();

@@ -29,6 +29,13 @@ pub(crate) struct Known {
     last: usize,
 }
 
+/// The session whose turn it is: its place, and how many bytes its tag has.
+#[derive(Clone, Copy)]
+pub(crate) struct Turn {
+    pub(crate) place: usize,
+    pub(crate) len: usize,
+}
+
 /// Puts a content and an LF into the room.
 ///
 /// # Errors
@@ -87,26 +94,32 @@ impl Known {
         if next < self.sessions.len() { next } else { 0 }
     }
 
-    /// How many bytes the tag at the front of a piece has, where it is that of the session whose turn it is.
+    /// The session whose turn it is, where its tag stands at the front of a piece.
     #[inline(always)]
-    pub(crate) fn turn(&self, piece: &[u8]) -> Option<usize>
+    pub(crate) fn turn(&self, piece: &[u8]) -> Option<Turn>
         requires { HasKnown (shown self.now) }
-        ensures { MatchOption result (Unit {0}) (λ n. (n ≤ length piece.now) × IsTag (take n piece.now)) }
+        ensures { MatchOption result (Unit {0}) (λ n. (n.len ≤ length piece.now) × IsTag (take n.len piece.now)
+            × IsSessionAt self.now.sessions.items n.place (take n.len piece.now)) }
     {
         let next = self.next_place();
         if next >= self.sessions.len() {
             return None;
         }
         match self.sessions[next].front(piece) {
-            Some(len) => Some(len),
+            Some(len) => Some(Turn { place: next, len }),
             None => None,
         }
     }
 
-    /// The place of the session of the tag, where it is found at once.
-    fn likely_place(&self, tag: &[u8]) -> Option<usize>
+    /// The place of the session of the tag, where it is known or found at once.
+    #[inline(always)]
+    fn likely_place(&self, tag: &[u8], known: Option<usize>) -> Option<usize>
+        requires { IfSome known (λ i. IsSessionAt self.now.sessions.items i tag.now) }
         ensures { IfSome result (λ i. IsSessionAt self.now.sessions.items i tag.now) }
     {
+        if known.is_some() {
+            return known;
+        }
         let next = self.next_place();
         if self.is_at(next, tag) {
             return Some(next);
@@ -161,9 +174,10 @@ impl Known {
         Ok(place)
     }
 
-    /// The place of the session of a tag, which is begun where the tag is new.
-    fn place_for(&mut self, tag: &[u8]) -> Result<usize, MuxFault>
+    /// The place of the session of a tag, which may be known; the session is begun where the tag is new.
+    fn place_for(&mut self, tag: &[u8], known: Option<usize>) -> Result<usize, MuxFault>
         requires tag { IsTag tag.now }
+        requires place { IfSome known (λ i. IsSessionAt self.old.sessions.items i tag.now) }
         requires known { HasKnown (shown self.old) }
         requires few { length self.old.sessions.items ≤ 1024 }
         ensures ready { (f : Parsed) (seen : List Tagged) (x : Tagged) → Knows f seen (shown self.old) → x.tag ≡ tag.now → MatchResult result
@@ -173,7 +187,7 @@ impl Known {
         ensures unbegun { OnErr result (self.new.sessions.items ≡ self.old.sessions.items) }
         ensures few { length self.new.sessions.items ≤ 1024 }
     {
-        if let Some(place) = self.likely_place(tag) {
+        if let Some(place) = self.likely_place(tag, known) {
             self.last = place;
             return Ok(place);
         }
@@ -182,13 +196,20 @@ impl Known {
         Ok(place)
     }
 
-    /// Hands the content of a line, with its LF, to the session of its tag, and adds the answer.
+    /// Hands the content of a line, with its LF, to the session of its tag, whose place may be known, and adds the answer.
     ///
     /// # Errors
     /// - `TooManySessions`: the tag is new, and there are 1,024. Nothing changed.
     /// - `Memory`: there was too little memory. A first part of the answer was added. A session that was begun for the line is gone.
-    pub(crate) fn answer(&mut self, tag: &[u8], line: &[u8], out: &mut Text) -> Result<(), MuxFault>
+    pub(crate) fn answer(
+        &mut self,
+        tag: &[u8],
+        place: Option<usize>,
+        line: &[u8],
+        out: &mut Text,
+    ) -> Result<(), MuxFault>
         requires tag { IsTag tag.now }
+        requires place { IfSome place (λ i. IsSessionAt self.old.sessions.items i tag.now) }
         requires known { HasKnown (shown self.old) }
         requires few { length self.old.sessions.items ≤ 1024 }
         requires some { 0 < length line.now }
@@ -200,7 +221,7 @@ impl Known {
         ensures few { length self.new.sessions.items ≤ 1024 }
     {
         let held = self.sessions.len();
-        let place = self.place_for(tag)?;
+        let place = self.place_for(tag, place)?;
         match self.sessions[place].line(line, out) {
             Ok(()) => Ok(()),
             Err(_) => {
@@ -234,7 +255,7 @@ impl Known {
         let Ok(()) = put_line(room, content) else {
             return Err(MuxFault::Memory);
         };
-        self.answer(tag, room.bytes(), out)
+        self.answer(tag, None, room.bytes(), out)
     }
 
     /// Ends the sessions that are not over, in the order of their first lines, and adds what they say.

@@ -1,13 +1,13 @@
 //! Sessions in one input.
-ghost use Rattle.std.specs.Prelude.{◌≡◌, ◌++◌, ◌∷◌, ℕ, List, [], length, MatchResult, OnErr, ◌≤◌, take, MatchOption};
+ghost use Rattle.std.specs.Prelude.{◌≡◌, ◌++◌, ◌∷◌, ℕ, List, [], length, MatchResult, OnErr, IfSome, ◌≤◌, take, MatchOption};
 ghost use Rattle.stl_syntax.specs.Texts.{newline};
 ghost use Rattle.session_mux.specs.Sessions.{IsTag};
 ghost use Rattle.session_mux.specs.Owning.{IsWithFeed};
-ghost use Rattle.session_mux.specs.Knowing.{tags_of};
+ghost use Rattle.session_mux.specs.Knowing.{tags_of, IsSessionAt};
 ghost use Rattle.session_mux.specs.Muxes.{Past, StandsFor, HasTags, IsLineCall, IsEndCall, Moves, IsLate, IsAllowed, phase_after};
 
 use crate::fault::MuxFault;
-use crate::known::Known;
+use crate::known::{Known, Turn};
 use crate::tag::{cut, is_blank};
 use std::alloc::Global;
 use std::marker::Model;
@@ -87,11 +87,12 @@ impl Mux {
         self.known.count()
     }
 
-    /// How many bytes the tag at the front of a piece has, where it is that of the session whose turn it is, since benches take turns.
+    /// The session whose turn it is, since benches take turns, where its tag stands at the front of a piece.
     #[inline(always)]
-    pub(crate) fn turn(&self, piece: &[u8]) -> Option<usize>
+    pub(crate) fn turn(&self, piece: &[u8]) -> Option<Turn>
         requires { (p : Past) × StandsFor p self.now }
-        ensures { MatchOption result (Unit {0}) (λ n. (n ≤ length piece.now) × IsTag (take n piece.now)) }
+        ensures { MatchOption result (Unit {0}) (λ n. (n.len ≤ length piece.now) × IsTag (take n.len piece.now)
+            × IsSessionAt self.now.known.sessions n.place (take n.len piece.now)) }
     {
         self.known.turn(piece)
     }
@@ -126,9 +127,16 @@ impl Mux {
     }
 
     /// Takes a line of the input by its tag and its content with an LF, as `line` takes it whole. The content may be that of several lines,
-    /// with an LF after each.
-    pub(crate) fn take(&mut self, tag: &[u8], line: &[u8], out: &mut Text) -> Result<(), MuxFault>
+    /// with an LF after each. The place of its session may be known.
+    pub(crate) fn take(
+        &mut self,
+        tag: &[u8],
+        place: Option<usize>,
+        line: &[u8],
+        out: &mut Text,
+    ) -> Result<(), MuxFault>
         requires tag { IsTag tag.now }
+        requires place { IfSome place (λ i. IsSessionAt self.old.known.sessions i tag.now) }
         requires feed { IsWithFeed line.now }
         ensures taken { (p : Past) (content : List ℕ) → StandsFor p self.old → line.now ≡ content ++ newline
             → IsLineCall p (tag.now ++ 32 ∷ content) self.old self.new out.old out.new result }
@@ -137,7 +145,7 @@ impl Mux {
         ensures late { IsLate result → out.new ≡ out.old }
     {
         allow(self.phase)?;
-        let outcome = self.known.answer(tag, line, out);
+        let outcome = self.known.answer(tag, place, line, out);
         self.phase = after_line(self.phase, outcome);
         outcome
     }

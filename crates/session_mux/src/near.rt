@@ -74,6 +74,18 @@ pub(crate) fn near_feed(text: &[u8], at: usize) -> Option<usize>
     Some(lowest(marks))
 }
 
+/// Whether the first LF from a place on is so many bytes from there.
+#[inline(always)]
+pub(crate) fn is_next_feed(text: &[u8], at: usize, n: usize) -> bool
+    requires { at + 32 ≤ length text.now }
+    ensures { IsTrue result → IsNextFeed text.now at n }
+{
+    match near_feed(text, at) {
+        Some(found) => found == n,
+        None => false,
+    }
+}
+
 /// Where the first LF of a text stands, if it is among its first 32 bytes and the text has as many.
 #[inline(always)]
 pub(crate) fn front_feed(text: &[u8]) -> Option<usize>
@@ -151,6 +163,20 @@ pub(crate) fn begins_with(text: &[u8], room: &[u8; NEAR], len: usize) -> bool
         return true;
     }
     lowest(marks) >= len
+}
+
+/// Whether the bytes from a place on are the first ones of a text, so many of them and one more, as far as that can be told at once: else
+/// they are taken to be.
+#[inline(always)]
+pub(crate) fn goes_on_alike(text: &[u8], at: usize, len: usize) -> bool {
+    if at > text.len() || text.len() - at < NEAR {
+        return true;
+    }
+    let marks = top_bits(differing(bytes_at(text, 0), bytes_at(text, at)));
+    if marks == 0 {
+        return true;
+    }
+    lowest(marks) > len
 }
 
 /// Puts some bytes behind what stands before `at`, and answers where they end. A few are copied as 32, where the text at whose front they

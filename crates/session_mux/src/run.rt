@@ -1,13 +1,13 @@
 //! The lines at the front of a piece that one session takes together.
-ghost use Rattle.std.specs.Prelude.{◌≡◌, ◌≤◌, ◌+◌, ◌++◌, ◌∷◌, length, take, IfOk, OnOk, MatchOption};
+ghost use Rattle.std.specs.Prelude.{◌≡◌, ◌≤◌, ◌+◌, ◌++◌, ◌∷◌, ℕ, List, length, take, option_copied, IfOk, OnOk, MatchOption};
 ghost use Rattle.stl_syntax.specs.Texts.{newline};
 ghost use Rattle.trace_reader.specs.TraceText.{content};
 ghost use Rattle.session_mux.specs.Sessions.{IsTag};
 ghost use Rattle.answer_lines.specs.After.{IsAdded};
 ghost use Rattle.session_mux.specs.Taking.{ended_line};
-ghost use Rattle.session_mux.specs.Running.{IsOwnLine, HasGathered};
+ghost use Rattle.session_mux.specs.Running.{IsOwnLine, HasGathered, contents_in};
 
-use crate::near::{NEAR, feed_behind, put_front};
+use crate::near::{NEAR, feed_behind, goes_on_alike, put_front};
 use crate::session::{asks, stops};
 use crate::tag::{LONGEST, Tag, tag_len};
 use answer_lines::add_byte;
@@ -24,12 +24,21 @@ struct OwnLine<'a> {
     bytes: usize,
 }
 
-/// How many lines were gathered, how many bytes they have, and how many their contents.
+/// How many lines were gathered, and how many bytes they have. The contents, each with its LF, are those of a lone line, as it stands in its
+/// piece; or as many bytes of the room as are used.
 #[derive(Clone, Copy)]
-pub(crate) struct Run {
+pub(crate) struct Run<'a> {
     pub(crate) bytes: usize,
     pub(crate) lines: u64,
+    pub(crate) lone: Option<&'a [u8]>,
     pub(crate) used: usize,
+}
+
+/// A line of a trace by itself: its content with its LF, and how many bytes it has with its tag.
+#[derive(Clone, Copy)]
+struct LoneLine<'a> {
+    contents: &'a [u8],
+    bytes: usize,
 }
 
 /// A line's bytes without one CR at the end.
@@ -47,16 +56,14 @@ pub(crate) fn content_of(line: &[u8]) -> &[u8]
     line
 }
 
-/// The line at the front of a piece, where it has the tag, goes to the trace of its session, and is not too long.
+/// The line at the front of a piece, of which this follows a tag and a space, where it goes to the trace of its session, and is not too long.
 #[inline(always)]
-fn own_line<'a>(tag: &Tag, piece: &'a [u8]) -> Option<OwnLine<'a>>
-    requires { IsTag tag.now }
-    ensures { MatchOption result (Unit {0}) (λ l. (l.content.now ≡ take (length l.content.now) l.rest.now) × (length l.content.now + 1 ≤ l.bytes)
-        × IsOwnLine tag.now piece.now l.content.now l.bytes) }
+fn line_behind<'a>(piece: &[u8], rest: &'a [u8]) -> Option<OwnLine<'a>>
+    requires { (t : List ℕ) × IsTag t × (piece.now ≡ t ++ 32 ∷ rest.now) }
+    ensures { MatchOption result (Unit {0}) (λ l. (l.rest.now ≡ rest.now) × (l.content.now ≡ take (length l.content.now) rest.now)
+        × (length l.content.now + 1 ≤ l.bytes)
+        × ((t : List ℕ) → IsTag t → piece.now ≡ t ++ 32 ∷ rest.now → IsOwnLine t piece.now l.content.now l.bytes)) }
 {
-    let Some(rest) = tag.rest(piece) else {
-        return None;
-    };
     let Some(at) = feed_behind(piece, rest) else {
         return None;
     };
@@ -73,6 +80,19 @@ fn own_line<'a>(tag: &Tag, piece: &'a [u8]) -> Option<OwnLine<'a>>
         rest,
         bytes: end + 1,
     })
+}
+
+/// The line at the front of a piece, where it has the tag, goes to the trace of its session, and is not too long.
+#[inline(always)]
+fn own_line<'a>(tag: &Tag, piece: &'a [u8]) -> Option<OwnLine<'a>>
+    requires { IsTag tag.now }
+    ensures { MatchOption result (Unit {0}) (λ l. (l.content.now ≡ take (length l.content.now) l.rest.now) × (length l.content.now + 1 ≤ l.bytes)
+        × IsOwnLine tag.now piece.now l.content.now l.bytes) }
+{
+    let Some(rest) = tag.rest(piece) else {
+        return None;
+    };
+    line_behind(piece, rest)
 }
 
 /// The tag at the front of a piece, if bytes of a tag stand there, and not too many.
@@ -113,16 +133,48 @@ fn put_line(room: &mut [u8], at: usize, line: &OwnLine) -> usize
     add_byte(room, end, b'\n')
 }
 
+/// The line at the front of a piece that has this tag, where it goes to the trace of its session as it stands, without a CR, and the next one
+/// has another tag.
+#[inline(always)]
+fn lone_line<'a>(tag: &[u8], piece: &'a [u8]) -> Option<LoneLine<'a>>
+    requires tag { IsTag tag.now }
+    requires front { tag.now ≡ take (length tag.now) piece.now }
+    ensures { MatchOption result (Unit {0}) (λ l.
+        (content : List ℕ) × (l.contents.now ≡ content ++ newline) × IsOwnLine tag.now piece.now content l.bytes) }
+{
+    let len = tag.len();
+    if len >= piece.len() || piece[len] != b' ' {
+        return None;
+    }
+    let rest = &piece[len + 1..];
+    let Some(line) = line_behind(piece, rest) else {
+        return None;
+    };
+    let size = line.content.len();
+    if size >= rest.len() || rest[size] != b'\n' || goes_on_alike(piece, line.bytes, len) {
+        return None;
+    }
+    Some(LoneLine {
+        contents: &rest[..size + 1],
+        bytes: line.bytes,
+    })
+}
+
 /// Puts the contents of the lines at the front of a piece that have this tag, which stands there, at most so many, one after the other, each
 /// with its LF, to the front of the room.
 ///
 /// # Errors
 /// Want of memory.
 #[inline(never)]
-pub(crate) fn gather(room: &mut Vec<u8>, tag: &[u8], piece: &[u8], most: u64) -> Result<Run, Memory>
+fn gather_all<'a>(
+    room: &mut Vec<u8>,
+    tag: &[u8],
+    piece: &[u8],
+    most: u64,
+) -> Result<Run<'a>, Memory>
     requires tag { IsTag tag.now }
     requires front { tag.now ≡ take (length tag.now) piece.now }
-    ensures gathered { IfOk result (λ r. HasGathered tag.now piece.now most r.bytes r.lines (take r.used room.new.items)) }
+    ensures gathered { IfOk result (λ r. HasGathered tag.now piece.now most r.bytes r.lines (contents_in (option_copied r.lone) (take r.used room.new.items))) }
     ensures within { IfOk result (λ r. r.used ≤ length room.new.items) }
 {
     make_room(room, piece)?;
@@ -132,11 +184,62 @@ pub(crate) fn gather(room: &mut Vec<u8>, tag: &[u8], piece: &[u8], most: u64) ->
     let mut used = 0;
     while lines < most {
         let Some(line) = own_line(&own, &piece[bytes..]) else {
-            return Ok(Run { bytes, lines, used });
+            return Ok(Run {
+                bytes,
+                lines,
+                lone: None,
+                used,
+            });
         };
         used = put_line(room, used, &line);
         bytes += line.bytes;
         lines += 1;
     }
-    Ok(Run { bytes, lines, used })
+    Ok(Run {
+        bytes,
+        lines,
+        lone: None,
+        used,
+    })
+}
+
+/// As `gather_all`, at once where the next line has another tag.
+///
+/// # Errors
+/// Want of memory.
+#[inline(always)]
+pub(crate) fn gather<'a>(
+    room: &mut Vec<u8>,
+    tag: &[u8],
+    piece: &'a [u8],
+    most: u64,
+) -> Result<Run<'a>, Memory>
+    requires tag { IsTag tag.now }
+    requires front { tag.now ≡ take (length tag.now) piece.now }
+    ensures gathered { IfOk result (λ r. HasGathered tag.now piece.now most r.bytes r.lines (contents_in (option_copied r.lone) (take r.used room.new.items))) }
+    ensures within { IfOk result (λ r. r.used ≤ length room.new.items) }
+{
+    if most > 0 {
+        if let Some(line) = lone_line(tag, piece) {
+            return Ok(Run {
+                bytes: line.bytes,
+                lines: 1,
+                lone: Some(line.contents),
+                used: 0,
+            });
+        }
+    }
+    gather_all(room, tag, piece, most)
+}
+
+/// The contents of a run.
+#[inline(always)]
+pub(crate) fn contents_of<'a>(room: &'a [u8], run: &Run<'a>) -> &'a [u8]
+    requires { run.now.used ≤ length room.now }
+    ensures { result.now ≡ contents_in (option_copied run.now.lone) (take run.now.used room.now) }
+{
+    match run.lone {
+        Some(contents) => contents,
+        None => &room[..run.used],
+    }
 }

@@ -4,9 +4,9 @@ ghost use Rattle.stl_syntax.specs.Texts.{newline};
 ghost use Rattle.trace_reader.specs.TraceText.{lines};
 ghost use Rattle.answer_lines.specs.Appended.{GrewInPart, Is};
 ghost use Rattle.circular_buffer.specs.Buffer.{buffer, keep_last};
-ghost use Rattle.session_mux.specs.Saying.{texts, prefixed_texts, said_lines, HasPutFirst, HasPutInPart, HasSaid, IsShortLine};
+ghost use Rattle.session_mux.specs.Saying.{texts, prefixed_texts, said_lines, HasPutFirst, HasPutInPart, HasSaid};
 
-use crate::near::{NEAR, first_feed, front_feed};
+use crate::near::{NEAR, first_feed, front_feed, is_next_feed};
 use crate::recent::{Recent, keep, last_lines};
 use crate::tag::Tag;
 use crate::waiting::Waiting;
@@ -162,56 +162,55 @@ fn keep_lines(alloc: Global, recent: &mut Recent, text: &[u8]) -> Result<(), Mem
     Ok(())
 }
 
-/// Whether a text is one line with its LF, and a short one.
-#[inline(always)]
-fn is_short_line(text: &[u8]) -> bool
-    ensures { IsTrue result → IsShortLine text.now }
-{
-    if text.len() > NEAR {
-        return false;
-    }
-    match first_feed(text) {
-        Some(at) => at + 1 == text.len(),
-        None => false,
-    }
-}
-
-/// Adds a short line, which has its LF, after the tag and a space.
+/// As `say`, of any lines.
 ///
 /// # Errors
-/// Want of memory; the text stays as it was.
-#[inline(always)]
-fn put_short(tag: &Tag, line: &[u8], out: &mut Text) -> Result<(), Memory>
-    requires { length line.now ≤ 32 }
-    ensures ok { OnOk result (out.new ≡ out.old ++ ((tag.now ++ codes " ") ++ line.now)) }
-    ensures err { OnErr result (out.new ≡ out.old) }
-{
-    let mut room = [0; 2 * NEAR];
-    let begin = tag.put(&mut room, 0);
-    let end = add_part(&mut room, begin, line, line.len());
-    out.push(&room[..end])
-}
-
-/// As `say`, of a short line with its LF: what one row answers, as a rule.
-///
-/// # Errors
-/// Want of memory. A first part of the line was added.
-#[inline(always)]
-fn say_short(
+/// Want of memory. A first part of these lines was added.
+#[inline(never)]
+fn say_lines(
     alloc: Global,
     tag: &Tag,
     recent: &mut Recent,
-    line: &[u8],
+    text: &[u8],
+    out: &mut Text,
+) -> Result<(), Memory>
+    requires { recent.old.capacity ≡ 8 }
+    ensures { MatchResult result
+        (λ _. HasSaid tag.now text.now recent.old recent.new out.old out.new)
+        (λ _. GrewInPart (Is (said_lines tag.now text.now)) out.old out.new) }
+{
+    keep_lines(alloc, recent, last_lines(text))?;
+    put_lines(tag, text, out)
+}
+
+/// As `say`, of a few bytes, which are put into a room behind the tag and a space: what one row answers, as a rule, is one line.
+///
+/// # Errors
+/// Want of memory. A first part of these lines was added.
+#[inline(always)]
+fn say_few(
+    alloc: Global,
+    tag: &Tag,
+    recent: &mut Recent,
+    text: &[u8],
     out: &mut Text,
 ) -> Result<(), Memory>
     requires room { recent.old.capacity ≡ 8 }
-    requires short { IsShortLine line.now }
+    requires some { 0 < length text.now }
+    requires few { length text.now ≤ 32 }
     ensures { MatchResult result
-        (λ _. HasSaid tag.now line.now recent.old recent.new out.old out.new)
-        (λ _. GrewInPart (Is (said_lines tag.now line.now)) out.old out.new) }
+        (λ _. HasSaid tag.now text.now recent.old recent.new out.old out.new)
+        (λ _. GrewInPart (Is (said_lines tag.now text.now)) out.old out.new) }
 {
-    keep(recent, alloc, &line[..line.len() - 1])?;
-    put_short(tag, line, out)
+    let mut room = [0; 2 * NEAR];
+    let begin = tag.put(&mut room, 0);
+    let end = add_part(&mut room, begin, text, text.len());
+    let last = text.len() - 1;
+    if !is_next_feed(&room, begin, last) {
+        return say_lines(alloc, tag, recent, text, out);
+    }
+    keep(recent, alloc, &text[..last])?;
+    out.push(&room[..end])
 }
 
 /// Adds the lines of a text, each after the tag and a space, and keeps them among the last ones.
@@ -233,11 +232,10 @@ pub(crate) fn say(
     if text.is_empty() {
         return Ok(());
     }
-    if is_short_line(text) {
-        return say_short(alloc, tag, recent, text, out);
+    if text.len() <= NEAR {
+        return say_few(alloc, tag, recent, text, out);
     }
-    keep_lines(alloc, recent, last_lines(text))?;
-    put_lines(tag, text, out)
+    say_lines(alloc, tag, recent, text, out)
 }
 
 /// Adds the lines that are kept, each after the tag and the mark of a query.

@@ -1,4 +1,4 @@
-use Rattle.std.proofs.Common.{◌≡◌, ◌-◌, ◌<◌, [], false, pos, refl, sym, subst, arith}
+use Rattle.std.proofs.Common.{◌-◌, ◌<◌, [], false, pos, refl, sym, subst, arith}
 use Rattle.rational.specs.Rational.{whole}
 use Rattle.rational.specs.Places.{Same}
 use Rattle.rational.proofs.PlaceLemmas.{before_same, same_before, same_places}

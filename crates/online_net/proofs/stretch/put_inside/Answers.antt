@@ -1,4 +1,4 @@
-use Rattle.std.proofs.Common.{◌≡◌, ◌+◌, ◌<◌, ◌≤◌, length, sym, subst, ◌∙◌, arith}
+use Rattle.std.proofs.Common.{◌≡◌, ◌+◌, ◌<◌, ◌≤◌, sym, subst, ◌∙◌, arith}
 use Rattle.online_net.specs.Stretches.{HasPutRows}
 use Rattle.online_net.proofs.EdgeRows.{each_more, rows_count, stays_between}
 use Rattle.online_net.proofs.stretch.put_inside.Goals as goal

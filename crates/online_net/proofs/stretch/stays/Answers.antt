@@ -1,3 +1,4 @@
+use Rattle.std.proofs.Common.{sym, ◌∙◌}
 use Rattle.rational.proofs.Order.{same_refl}
 use Rattle.stl_syntax.specs.Trace.{row_time}
 use Rattle.atom_lines.specs.Rows.{row_of}
@@ -17,6 +18,10 @@ can c = record {
       c.standing-sum.ensures.holds a tr (row_time (row_of c.args.block.now c.args.at)) for has
       (same_refl (row_time (row_of c.args.block.now c.args.at)));
 }
+
+pub returns-then-at-to : goal.returns-then-at-to
+returns-then-at-to c = λ yes a tr for has t u at_t at_u.
+    c.stays_over.ensures yes a tr for has t at_t.above at_t.below ∙ sym (c.stays_over.ensures yes a tr for has u at_u.above at_u.below)
 
 pub returns : goal.returns
 returns c = λ yes.

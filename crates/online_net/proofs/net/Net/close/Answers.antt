@@ -7,15 +7,18 @@ use Rattle.online_net.specs.contracts.net.Net.{the_view}
 use Rattle.online_net.proofs.net.Net.close.Goals as goal
 
 pub invariant_of-self : goal.invariant_of-self
-invariant_of-self c running =
-    let net : Parts = the_view c.self.inside in
-    let w = c.self.invariant c.if-self.false in (
-      w.0,
-      w.1,
-      w.2 ++ close ∷ [],
-      closed_stands w.0 w.1 w.2 net w.3
-          (close_may w.0 w.1 w.2 net w.3 c.if-self-2.false (λ e. c.requires (ap (λ (p : Parts). p.last) (sym c.self.view_is) ∙ e))),
-    )
+invariant_of-self c = (
+  (λ running.
+      let net : Parts = the_view c.self.inside in
+      let w = c.self.invariant.0 c.if-self.false in (
+        w.0,
+        w.1,
+        w.2 ++ close ∷ [],
+        closed_stands w.0 w.1 w.2 net w.3
+            (close_may w.0 w.1 w.2 net w.3 c.if-self-2.false (λ e. c.requires (ap (λ (p : Parts). p.last) (sym c.self.view_is) ∙ e))),
+      )),
+  c.self.invariant.1,
+)
 
 pub returns-clause-stands : goal.returns-clause-stands
 returns-clause-stands c nodes header events st =

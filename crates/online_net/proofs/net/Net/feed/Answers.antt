@@ -14,13 +14,13 @@ use Rattle.online_net.proofs.net.Net.feed.Goals as goal
 pub put_row-requires-clause-atoms : goal.put_row-requires-clause-atoms
 put_row-requires-clause-atoms c j is =
     let net : Parts = the_view c.self.inside in
-    let w = c.self.invariant c.if-self.false in
+    let w = c.self.invariant.0 c.if-self.false in
     atoms_bound w.0 w.1 w.2 net w.3 j (subst (λ l. slice_get l j ≡ Some None) c.deref.ensures.value is)
 
 pub put_row-requires-clause-first : goal.put_row-requires-clause-first
 put_row-requires-clause-first c =
     let net : Parts = the_view c.self.inside in
-    let w = c.self.invariant c.if-self.false in
+    let w = c.self.invariant.0 c.if-self.false in
     last_width w.0 w.1 w.2 net w.3
 
 -- the network with the row, as it is kept
@@ -29,21 +29,24 @@ with_row : (net : Parts) (nodes : List Node) (header : Header) (events : List Ev
 with_row net nodes header events e r kept same h = subst (λ q. Stands nodes header (record net { edges = e; last = q }) events) (sym same) h
 
 pub invariant_of-self-in-Ok-keep_row : goal.invariant_of-self-in-Ok-keep_row
-invariant_of-self-in-Ok-keep_row c running =
-    let net : Parts = the_view c.self.inside in
-    let w = c.self.invariant c.if-self.false in (
-      w.0,
-      w.1,
-      w.2 ++ row c.args.row.now ∷ [],
-      with_row net w.0 w.1 (w.2 ++ row c.args.row.now ∷ []) c.put_row.new.edges c.args.row.now c.keep_row.new.last
-          c.in-Ok-keep_row.ensures (fed_stands w.0 w.1 w.2 net w.3 c.args.row.now
-          (row_may w.0 w.1 w.2 net w.3 c.args.row.now c.if-self-2.false
-          (subst (λ (p : Parts). IfSome p.last (λ q. q.time < c.args.row.now.time)) (sym c.self.view_is) c.requires.later)
-          (subst (λ (p : Parts). length c.args.row.now.values ≡ p.bound.width) (sym c.self.view_is) c.requires.width))
-          c.put_row.new.edges
-          (subst (λ l. HasPutAtoms c.self.inside.bound c.self.inside.last c.args.row.now l (length l)
-          (begun c.self.inside.edges c.self.inside.last c.args.row.now) c.put_row.new.edges) c.deref.ensures.value c.in-Ok.ensures)),
-    )
+invariant_of-self-in-Ok-keep_row c = (
+  (λ running.
+      let net : Parts = the_view c.self.inside in
+      let w = c.self.invariant.0 c.if-self.false in (
+        w.0,
+        w.1,
+        w.2 ++ row c.args.row.now ∷ [],
+        with_row net w.0 w.1 (w.2 ++ row c.args.row.now ∷ []) c.put_row.new.edges c.args.row.now c.keep_row.new.last
+            c.in-Ok-keep_row.ensures (fed_stands w.0 w.1 w.2 net w.3 c.args.row.now
+            (row_may w.0 w.1 w.2 net w.3 c.args.row.now c.if-self-2.false
+            (subst (λ (p : Parts). IfSome p.last (λ q. q.time < c.args.row.now.time)) (sym c.self.view_is) c.requires.later)
+            (subst (λ (p : Parts). length c.args.row.now.values ≡ p.bound.width) (sym c.self.view_is) c.requires.width))
+            c.put_row.new.edges
+            (subst (λ l. HasPutAtoms c.self.inside.bound c.self.inside.last c.args.row.now l (length l)
+            (begun c.self.inside.edges c.self.inside.last c.args.row.now) c.put_row.new.edges) c.deref.ensures.value c.in-Ok.ensures)),
+      )),
+  c.self.invariant.1,
+)
 
 pub returns-clause-stands : goal.returns-clause-stands
 returns-clause-stands c nodes header events st =
@@ -61,7 +64,7 @@ returns-clause-stands c nodes header events st =
 pub returns-clause-joins : goal.returns-clause-joins
 returns-clause-joins c = λ j.
     let net : Parts = the_view c.self.inside in
-    let w = c.self.invariant c.if-self.false in
+    let w = c.self.invariant.0 c.if-self.false in
     put_joins w.0 w.1 w.2 net w.3 c.args.row.now
     (row_may w.0 w.1 w.2 net w.3 c.args.row.now c.if-self-2.false
     (subst (λ (p : Parts). IfSome p.last (λ q. q.time < c.args.row.now.time)) (sym c.self.view_is) c.requires.later)

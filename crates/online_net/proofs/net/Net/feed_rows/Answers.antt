@@ -19,7 +19,7 @@ use Rattle.online_net.proofs.net.Net.feed_rows.Goals.{After-keep_row_of}
 pub put_rows-requires-clause-atoms : goal.put_rows-requires-clause-atoms
 put_rows-requires-clause-atoms c j is =
     let net : Parts = the_view c.self.inside in
-    let w = c.self.invariant c.if-self.false in
+    let w = c.self.invariant.0 c.if-self.false in
     atoms_bound w.0 w.1 w.2 net w.3 j (subst (λ l. slice_get l j ≡ Some None) c.deref.ensures.value is)
 
 pub keep_row_of-requires-clause-some : goal.keep_row_of-requires-clause-some
@@ -30,7 +30,7 @@ keep_row_of-requires-clause-some c = λ none.
 pub keep_row_of-requires-clause-width : goal.keep_row_of-requires-clause-width
 keep_row_of-requires-clause-width c =
     let net : Parts = the_view c.self.inside in
-    let w = c.self.invariant c.if-self.false in
+    let w = c.self.invariant.0 c.if-self.false in
     subst (λ n. IfSome net.last (λ q. length q.values ≡ n))
     (sym (c.requires.columns ∙ ap (λ (p : Parts). p.bound.width) (sym c.self.view_is))) (last_width w.0 w.1 w.2 net w.3)
 
@@ -55,13 +55,16 @@ fed c nodes header events st =
     c.if-self-2.false (ap (λ (p : Parts). p.last) c.self.view_is ∙ c.requires.last))
 
 pub invariant_of-self-2 : goal.invariant_of-self-2
-invariant_of-self-2 c running =
-    let w = c.self.invariant c.if-self.false in (
-      w.0,
-      w.1,
-      w.2 ++ rows_of (rows_between c.args.block.now c.args.from c.args.to),
-      fed (goal.at.invariant_of-self-2 c).After-keep_row_of w.0 w.1 w.2 w.3,
-    )
+invariant_of-self-2 c = (
+  (λ running.
+      let w = c.self.invariant.0 c.if-self.false in (
+        w.0,
+        w.1,
+        w.2 ++ rows_of (rows_between c.args.block.now c.args.from c.args.to),
+        fed (goal.at.invariant_of-self-2 c).After-keep_row_of w.0 w.1 w.2 w.3,
+      )),
+  c.self.invariant.1,
+)
 
 pub returns-clause-stands : goal.returns-clause-stands
 returns-clause-stands c nodes header events st =

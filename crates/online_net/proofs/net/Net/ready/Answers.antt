@@ -19,7 +19,7 @@ returns-in_default-clause-ready c nodes header events st =
 pub ready-requires : goal.ready-requires
 ready-requires c =
     let net : Parts = the_view c.self.inside in
-    let w = c.self.invariant c.if-self.false in
+    let w = c.self.invariant.0 c.if-self.false in
     let l : c.args.node < length net.operators =
     subst (λ (p : Parts). c.args.node < length p.operators) (sym c.self.view_is) c.requires in
     let at : slice_get net.operators c.args.node ≡ Some (Some c.in-Some-index.operator) =

@@ -8,6 +8,7 @@ use Rattle.online_nodes.specs.Held.{Held, edge_at}
 use Rattle.online_net.specs.Nets.{Parts, Stands}
 use Rattle.std.specs.Prelude.{slice_set}
 use Rattle.std.proofs.lemmas.List.{length-set}
+use Rattle.online_net.proofs.AtomLists.{listed_on}
 use Rattle.online_net.proofs.AtomVerdicts.{found}
 use Rattle.online_net.proofs.StillSteps.{atom_unready, belongs_now, idle_stands, kept_operator, moved_stands, no_operator}
 use Rattle.online_net.proofs.StillSteps.{none_ready, step_by, unmoved_parts, unready_by}
@@ -56,7 +57,7 @@ returns-in_default-index_mut-clause-stands c nodes header events st other =
 pub step_one-requires : goal.step_one-requires
 step_one-requires c =
     let net : Parts = the_view c.self.inside in
-    let w = c.self.invariant c.if-self.false in
+    let w = c.self.invariant.0 c.if-self.false in
     let l : c.args.node < length net.operators = subst (λ (p : Parts). c.args.node < length p.operators) (sym c.self.view_is) c.requires in
     let at : slice_get net.operators c.args.node ≡ Some (Some c.in-Some-index_mut.operator) =
     found net.operators c.args.node c.index_mut.result.now l c.index_mut.ensures.value ∙ ap Some c.in-Some-index_mut.is in (
@@ -66,8 +67,26 @@ step_one-requires c =
       belongs_now w.0 w.1 w.2 net w.3 c.args.node c.in-Some-index_mut.operator c.in-Some.row c.time-now.result at c.in-Some.is c.time-now.ensures,
     )
 
+pub invariant_of-self-in_default-step_one : goal.invariant_of-self-in_default-step_one
+invariant_of-self-in_default-step_one c = (
+  (λ running. absurd (let x : true ≡ false = running in cc)),
+  listed_on c.self.inside.atoms.items net.operators c.args.node c.in-Some-index_mut.operator c.step_one.new.operator c.self.invariant.1 at,
+)
+  where
+    net : Parts
+    net = the_view c.self.inside
+
+    l : c.args.node < length net.operators
+    l = subst (λ (p : Parts). c.args.node < length p.operators) (sym c.self.view_is) c.requires
+
+    at : slice_get net.operators c.args.node ≡ Some (Some c.in-Some-index_mut.operator)
+    at = found net.operators c.args.node c.index_mut.result.now l c.index_mut.ensures.value ∙ ap Some c.in-Some-index_mut.is
+
 pub invariant_of-self-in-Ok-1 : goal.invariant_of-self-in-Ok-1
-invariant_of-self-in-Ok-1 c running = by_moved c.in-Ok.moved refl
+invariant_of-self-in-Ok-1 c = (
+  (λ running. by_moved c.in-Ok.moved refl),
+  listed_on c.self.inside.atoms.items net.operators c.args.node c.in-Some-index_mut.operator c.step_one.new.operator c.self.invariant.1 at,
+)
   where
     net : Parts
     net = the_view c.self.inside
@@ -79,7 +98,7 @@ invariant_of-self-in-Ok-1 c running = by_moved c.in-Ok.moved refl
     at = found net.operators c.args.node c.index_mut.result.now l c.index_mut.ensures.value ∙ ap Some c.in-Some-index_mut.is
 
     w : (nodes : List Node) × (header : Header) × (events : List Event) × Stands nodes header net events
-    w = c.self.invariant c.if-self.false
+    w = c.self.invariant.0 c.if-self.false
 
     by_moved : (moved : Bool) → c.in-Ok.moved ≡ moved → (nodes : List Node) × (header : Header) × (events : List Event)
         × Stands nodes header
@@ -181,7 +200,7 @@ returns-then-not-moved-clause-joins c = λ j.
 pub returns-clause-joins : goal.returns-clause-joins
 returns-clause-joins c = λ j.
     let net : Parts = the_view c.self.inside in
-    let w = c.self.invariant c.if-self.false in
+    let w = c.self.invariant.0 c.if-self.false in
     let l : c.args.node < length net.operators = subst (λ (p : Parts). c.args.node < length p.operators) (sym c.self.view_is) c.requires in
     let at : slice_get net.operators c.args.node ≡ Some (Some c.in-Some-index_mut.operator) =
     found net.operators c.args.node c.index_mut.result.now l c.index_mut.ensures.value ∙ ap Some c.in-Some-index_mut.is in

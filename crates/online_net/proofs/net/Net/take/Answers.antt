@@ -25,23 +25,26 @@ some_first (v ∷ l) d e = absurd (let x : Some v ≡ None = e in cc)
 pub overflow_sub-root : goal.overflow_sub-root
 overflow_sub-root c =
     let net : Parts = the_view c.self.inside in
-    (at_root net c.if-self.false c.self.invariant c.len.result (c.len.ensures ∙ c.self.inside.operators.ok.0)).0
+    (at_root net c.if-self.false c.self.invariant.0 c.len.result (c.len.ensures ∙ c.self.inside.operators.ok.0)).0
 
 pub held-requires : goal.held-requires
 held-requires c =
     let net : Parts = the_view c.self.inside in
-    (at_root net c.if-self.false c.self.invariant c.len.result (c.len.ensures ∙ c.self.inside.operators.ok.0)).1
+    (at_root net c.if-self.false c.self.invariant.0 c.len.result (c.len.ensures ∙ c.self.inside.operators.ok.0)).1
 
 pub invariant_of-self : goal.invariant_of-self
-invariant_of-self c running =
-    let net : Parts = the_view c.self.inside in
-    let w = c.self.invariant c.if-self.false in
-    let r = root_place w.0 w.1 w.2 net w.3 c.len.result (c.len.ensures ∙ c.self.inside.operators.ok.0) in (
-      w.0,
-      w.1,
-      w.2 ++ take ∷ [],
-      took_stands w.0 w.1 w.2 net w.3 c.take.new.self (c.len.result - 1) r.1 c.take.ensures.taken c.take.ensures.start,
-    )
+invariant_of-self c = (
+  (λ running.
+      let net : Parts = the_view c.self.inside in
+      let w = c.self.invariant.0 c.if-self.false in
+      let r = root_place w.0 w.1 w.2 net w.3 c.len.result (c.len.ensures ∙ c.self.inside.operators.ok.0) in (
+        w.0,
+        w.1,
+        w.2 ++ take ∷ [],
+        took_stands w.0 w.1 w.2 net w.3 c.take.new.self (c.len.result - 1) r.1 c.take.ensures.taken c.take.ensures.start,
+      )),
+  c.self.invariant.1,
+)
 
 pub returns-clause-unchanged : goal.returns-clause-unchanged
 returns-clause-unchanged c none = absurd (some_first (held_at c.self.inside.edges (c.len.result - 1))

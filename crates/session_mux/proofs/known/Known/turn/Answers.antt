@@ -10,4 +10,4 @@ returns-in-Some c =
     let s = c.index.result.now in
     let at = slice_get_read items (length items) c.next_place-next.result s refl (omega arith) c.index.ensures in
     let h = c.in-Some.ensures in
-    (h.0, subst (λ t. IsTag t) (sym h.1) (k.said c.next_place-next.result s at).0)
+    (h.0, subst (λ t. IsTag t) (sym h.1) (k.said c.next_place-next.result s at).0, (s, at, sym h.1))

@@ -1,6 +1,6 @@
 use Rattle.std.proofs.Common.{◌-◌, ◌+◌, ◌≤◌, length, take}
 use Rattle.session_mux.specs.Running.{HasGathered}
-use Rattle.session_mux.proofs.run.gather.Given as goal
+use Rattle.session_mux.proofs.run.gather_all.Given as goal
 
 -- what was gathered has no more bytes than what was taken, and the room has as many as the piece and a few
 abbrev pub invariant-loop-lines : goal.invariant-loop-lines
