@@ -16,7 +16,7 @@ use Rattle.online_nodes.specs.MarginEdges.{Part, IsPartLine}
 use Rattle.online_nodes.specs.MarginStream.{IsMarginStream}
 use Rattle.online_robust.specs.Lining.{ArePartLines}
 use Rattle.online_robust.specs.Moving.{Move, turn_of, last_row_of}
-use Rattle.online_robust.specs.Nets.{Parts, StandsFor, IsFault, IsGiven, IsWideIn, AreAllGiven}
+use Rattle.online_robust.specs.Nets.{Parts, StandsFor, IsFault, IsGiven, IsWideIn}
 use Rattle.online_robust.specs.Pasts.{Past, part_of, trace_of}
 use Rattle.online_robust.specs.Steps.{IsStreamedCause}
 use Rattle.online_robust.specs.declared.line.MarginLine.{MarginLine}
@@ -84,11 +84,6 @@ one_taken {g} {m} {net} {line} {old} last here h given is longer =
         longer ∙ ap (λ l. l ++ here) e ∙ append_assoc old text here,
       );
     }
-
--- nothing is left
-pub all_taken : (g : Given) (m : Margins) (net : Parts) (old new : List ℕ) (h : HasTaken g m old new)
-    → AreAllGiven g.nodes g.header g.past (g.lines ++ h.more) net → HasTakenAll g (record m { net = net }) old new
-all_taken g m net old new h all = record { taken = record { more = h.more; stands = all.stands; text = h.text }; all = all.parts }
 
 -- ---- faults
 

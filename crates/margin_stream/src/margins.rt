@@ -32,14 +32,22 @@ pub struct Margins {
 }
 
 /// A part that the root gave out, for its line.
-fn part_of(line: MarginLine) -> MarginPart
-    requires { IsNear line }
+#[inline(always)]
+fn part_of(line: &MarginLine) -> MarginPart
+    requires { IsNear line.now }
     ensures within { IsPartWithin (2 ^ 34) result }
-    ensures same { (scale : Ticks) (text : List ℕ) → IsReported scale result text → IsPartLine scale (as_part line) text }
+    ensures same { (scale : Ticks) (text : List ℕ) → IsReported scale result text → IsPartLine scale (as_part line.now) text }
 {
     match line {
-        MarginLine::Point { at, value } => MarginPart::Point { at, value },
-        MarginLine::Gap { from, to, piece } => MarginPart::Gap { from, to, piece },
+        MarginLine::Point { at, value } => MarginPart::Point {
+            at: *at,
+            value: *value,
+        },
+        MarginLine::Gap { from, to, piece } => MarginPart::Gap {
+            from: *from,
+            to: *to,
+            piece: *piece,
+        },
     }
 }
 
@@ -82,7 +90,7 @@ impl Margins {
         net
     }
 
-    /// Takes what the root gave out until nothing is left, and adds its lines.
+    /// Takes what the root gave out until nothing is left, and adds its lines. Each is made of the part where that stands.
     ///
     /// # Errors
     /// Want of memory.
@@ -90,8 +98,9 @@ impl Margins {
         ensures taken { (g : Given) → IsStanding g self.old → OnOk result (HasTakenAll g self.new text.old text.new) }
         ensures formula { self.new.formula ≡ self.old.formula }
     {
-        while let Some(line) = self.net.take() {
+        while let Some(line) = self.net.next() {
             put_margin_line_after(text, &mut self.last, &part_of(line), self.formula.scale())?;
+            let _ = self.net.take();
         }
         Ok(())
     }

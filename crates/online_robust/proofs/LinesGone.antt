@@ -1,14 +1,15 @@
 -- Lines that are gone from the front of edges.
-use Rattle.std.proofs.Common.{◌≡◌, ◌≢◌, ℕ, ◌+◌, ◌-◌, ◌<◌, ◌≤◌, ◌⊎◌, inl, inr, List, Some, None}
-use Rattle.std.proofs.Common.{Option, refl, sym, ap, subst, ◌∙◌, length, drop, get_or, slice_get, arith, length-drop}
+use Rattle.std.proofs.Common.{◌≡◌, ◌≢◌, ℕ, ℤ, ◌+◌, ◌-◌, ◌<◌, ◌≤◌, ◌⊎◌, inl, inr, List, Some, None}
+use Rattle.std.proofs.Common.{Option, refl, sym, ap, subst, ◌∙◌, length, drop, get_or, slice_get, arith}
 use Rattle.std.specs.Prelude.{IfSome}
 use Rattle.std.proofs.lemmas.Bool.{cases_lt}
 use Rattle.std.proofs.lemmas.List.{get_or-set_other, get_or-set_same, length-set}
-use Rattle.rational.specs.Time.{Rational, ◌≤ʳ◌}
+use Rattle.rational.specs.Time.{Rational, ◌≤ʳ◌, whole}
 use Rattle.rational.proofs.Order.{le_trans}
 use Rattle.rational.proofs.Lists.{slice_get-drop}
 use Rattle.frac128.specs.Value.{value}
-use Rattle.online_robust.specs.Lines.{end_of}
+use Rattle.node_edges.specs.Held.{IsDroppedBy}
+use Rattle.online_robust.specs.Lines.{end_of, margin_part}
 use Rattle.online_robust.specs.Held.{Edge, Held, edge_at, held_at, held_of, no_edge, with_edge, without}
 use Rattle.online_robust.specs.ReadLines.{Loses, LosesAt, LosesAtBoth}
 use Rattle.online_robust.specs.declared.line.MarginLine.{MarginLine}
@@ -77,6 +78,16 @@ took limit i old new v within taken start first ended = record {
   };
   others = λ j a. ap (λ (es : List Edge). get_or es j no_edge) taken ∙ get_or-set_other old.edges i j (without 1 (edge_at old i)) no_edge a;
   edges = ap (λ (es : List Edge). length es) taken ∙ length-set old.edges i (without 1 (edge_at old i));
+  start = start;
+}
+
+-- what an edge has dropped is lost
+pub dropped : {limit : ℤ} {i : ℕ} {old new : Held} → IsDroppedBy margin_part limit (edge_at old i) (edge_at new i)
+    → new.edges ≡ with_edge old i (edge_at new i) → new.start ≡ old.start → LosesAt (whole limit) i old new
+dropped {limit} {i} {old} {new} gone edges start = record {
+  here = record { count = gone.count; is = gone.is; ended = gone.ended };
+  others = λ j a. ap (λ (es : List Edge). get_or es j no_edge) edges ∙ get_or-set_other old.edges i j (edge_at new i) no_edge a;
+  edges = ap (λ (es : List Edge). length es) edges ∙ length-set old.edges i (edge_at new i);
   start = start;
 }
 

@@ -1,6 +1,6 @@
 -- A line of the root is taken, or nothing that the nodes hold has changed.
 use Rattle.std.proofs.Common.{◌≡◌, ◌≢◌, ℕ, suc, ◌-◌, ◌<◌, Bool, true, false, List, [], ◌∷◌, ◌++◌, length}
-use Rattle.std.proofs.Common.{drop, refl, sym, ap, subst, ◌∙◌, append_assoc, inl, inr, Option, Some, None}
+use Rattle.std.proofs.Common.{drop, refl, sym, ap, subst, ◌∙◌, append_assoc, inl, inr, Some, None}
 use Rattle.std.proofs.Common.{ℤ, pos, set, take, get_or, get_or-set_same, get_or-set_other, length-set}
 use Rattle.std.specs.Prelude.{MatchBool, int_lt, slice_get}
 use Rattle.std.proofs.lemmas.Bool.{cases_eq}

@@ -2,18 +2,14 @@
 use Rattle.std.proofs.Common.{◌≡◌, ◌⊎◌, inl, inr, ℕ, suc, ◌+◌, ◌<◌, ◌≤◌, arith, Bool, true, false, refl, sym, ◌∙◌, subst, ap, Some}
 use Rattle.std.proofs.Common.{List, [], ◌∷◌, ◌++◌, drop, length}
 use Rattle.std.specs.Prelude.{cond, slice_get}
-use Rattle.std.specs.declared.cmp.Ordering.{Ordering}
-use Rattle.std.specs.declared.cmp.Ordering.TheVariants.{Less, Equal, Greater}
-use Rattle.std.specs.Ordering.{is_lt}
 use Rattle.std.proofs.lemmas.Bool.{false≢true}
-use Rattle.rational.specs.Rational.{IsOrder}
 use Rattle.rational.specs.Time.{Rational, less, ◌≈◌, ◌≤ʳ◌, ◌<ʳ◌}
 use Rattle.rational.specs.Extended.{Extended, Passes, value_at, ◌≈ᵉ◌}
 use Rattle.rational.specs.Places.{Place, Before, Same}
 use Rattle.rational.proofs.AffineLemmas.{value_same}
 use Rattle.std.proofs.lemmas.List.{drop_all}
 use Rattle.rational.proofs.Lists.{drop_on}
-use Rattle.rational.proofs.Order.{ge_of_same, le_of_lt, le_or_lt, lt_of_le_of_lt, lt_of_lt_of_le, same_refl, same_sym, same_trans}
+use Rattle.rational.proofs.Order.{ge_of_same, le_or_lt, lt_of_le_of_lt, lt_of_lt_of_le, same_refl, same_sym, same_trans}
 use Rattle.rational.proofs.Sames.{symᵉ, transᵉ}
 use Rattle.rational.proofs.TimeLemmas.{less_in, less_no, less_out}
 use Rattle.frac128.specs.Value.{value}
@@ -32,12 +28,6 @@ use Rattle.online_robust.specs.Putting.{later_lines, lines_after, lines_of}
 use Rattle.online_robust.specs.Slides.{IsStretchOf, WithPoint, chain_of}
 use Rattle.online_robust.specs.ToldLines.{all_told, first_shape, lines_told, shape_at_end}
 use Rattle.online_robust.specs.declared.line.MarginLine.TheVariants.{Point, Gap}
-
--- what is not less by a comparison is no earlier
-pub not_earlier : (o : Ordering) (b : Bool) (t u : Rational) → IsOrder o t u → b ≡ is_lt o → b ≡ false → u ≤ʳ t
-not_earlier Less b t u h is e = absurd (false≢true (sym e ∙ is))
-not_earlier Equal b t u h is e = ge_of_same h
-not_earlier Greater b t u h is e = le_of_lt h
 
 -- ---- the lines of what was told, piece by piece
 

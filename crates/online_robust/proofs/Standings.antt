@@ -1,7 +1,7 @@
 -- A network stands for a past: a new one for no rows, and one that took a row, or the end, for the past with it.
 use Rattle.std.proofs.Common.{◌≡◌, ◌≢◌, ◌⊎◌, inl, inr, ℕ, ℤ, suc, zero, ◌-◌, ◌^◌, ◌<◌, ◌≤◌, true, false, List, [], ◌∷◌, ◌++◌}
 use Rattle.std.proofs.Common.{length, drop, refl, sym, ap, subst, ◌∙◌, arith, append-nil, Option, Some, None, get_or}
-use Rattle.std.specs.Prelude.{Bool, IfSome, map, option_map, replicate, slice_get}
+use Rattle.std.specs.Prelude.{Bool, IfNone, IfSome, map, option_map, replicate, slice_get}
 use Rattle.std.proofs.lemmas.Bool.{false≢true, cases_eq}
 use Rattle.stl_syntax.specs.Trace.{AreRowsAfter, Header, Row, IsTrace, first_time, last_time}
 use Rattle.stl_syntax.specs.Formula.{Formula, subformula}
@@ -20,7 +20,7 @@ use Rattle.online_robust.specs.Standing.{Stands}
 use Rattle.online_robust.specs.Steps.{back_of, seen_by}
 use Rattle.online_robust.specs.Pasts.{Past, with_row, with_end, part_of, shown_of, Gave, IsRest, IsWork}
 use Rattle.online_robust.specs.Moving.{last_row_of, last_row_after}
-use Rattle.online_robust.specs.Nets.{begun, first_row_of, no_past, AreRowsSoFar, CanGoByEnd, CanGoByRow, HasGone, IsFault}
+use Rattle.online_robust.specs.Nets.{begun, first_row_of, no_past, AreAllGiven, AreRowsSoFar, CanGoByEnd, CanGoByRow, HasGone, IsFault}
 use Rattle.online_robust.specs.Nets.{IsGoFault, IsHeldBy, IsNear, IsTaken, IsTimely, IsWideIn, Keeps, Parts, Passing}
 use Rattle.online_robust.specs.Nets.{StandsFor}
 use Rattle.online_robust.specs.declared.net.RobustFault.{RobustFault}
@@ -381,6 +381,20 @@ module _ (nodes : List Node) (header : Header) (net : Parts) (past : Past) (give
     running = keeping.running;
   }
 
+  -- where the root's edge holds no line, all were given
+  parts_of_all : slice_get (held_at net.edges last_node) 0 ≡ None
+      → AreEmittedParts (subformula nodes last_node) header past.rows past.ended (map part_of given)
+  parts_of_all none =
+      (subst (Gave nodes header past last_node) (ap (λ l. given ++ l) (held_none net.edges last_node none) ∙ append-nil given) stands.shows.root).parts
+
+  -- so it is where the next line of the root is none
+  pub all_given : (root : ℕ) → root ≡ length net.stations - 1 → IfNone (slice_get (held_at net.edges root) 0) (AreAllGiven nodes header past given net)
+  all_given root own = by_line (slice_get (held_at net.edges root) 0) (ap (λ k. slice_get (held_at net.edges k) 0) (own ∙ root_is))
+    where
+      by_line : (o : Option MarginLine) → o ≡ slice_get (held_at net.edges last_node) 0 → IfNone o (AreAllGiven nodes header past given net)
+      by_line None first = record { stands = stands; parts = parts_of_all (sym first) }
+      by_line (Some line) first = tt
+
   -- a take of the root's edge
   pub taken : (root : ℕ) → root ≡ length net.stations - 1 → (e : Held) → e.edges ≡ with_edge net.edges root (without 1 (edge_at net.edges root))
       → e.start ≡ net.edges.start → (o : Option MarginLine) → o ≡ slice_get (held_at net.edges root) 0
@@ -391,16 +405,13 @@ module _ (nodes : List Node) (header : Header) (net : Parts) (past : Past) (give
     where
       by_line : (o : Option MarginLine) → o ≡ slice_get (held_at net.edges last_node) 0
           → e.edges ≡ with_edge net.edges last_node (without 1 (edge_at net.edges last_node)) → IsTaken nodes header past given (record net { edges = e }) o
-      by_line None first edges =
-          let none : held_at net.edges last_node ≡ [] = held_none net.edges last_node (sym first) in
-          let all : given ++ held_at net.edges last_node ≡ given = ap (λ l. given ++ l) none ∙ append-nil given in record {
-            stands = record {
-              keeps = keeps_edges e start;
-              shows =
-                  shows_none nodes header keeping.streamed (λ j. past) given given net.edges e net.stations stands.shows (sym first) refl edges;
-            };
-            parts = (subst (Gave nodes header past last_node) all stands.shows.root).parts;
-          }
+      by_line None first edges = record {
+        stands = record {
+          keeps = keeps_edges e start;
+          shows = shows_none nodes header keeping.streamed (λ j. past) given given net.edges e net.stations stands.shows (sym first) refl edges;
+        };
+        parts = parts_of_all (sym first);
+      }
       by_line (Some line) first edges =
           let rest : line ∷ drop 1 (held_at net.edges last_node) ≡ held_at net.edges last_node =
           first_and_rest (held_at net.edges last_node) line (sym first) in
@@ -433,6 +444,12 @@ module _ (nodes : List Node) (header : Header) (net : Parts) (past : Past) (give
       near : (x : MarginLine) → IsTimely x → IsNear x
       near (Point at v) h = within (value at) h
       near (Gap from to p) h = (within (value from) h.0, within (value to) h.1)
+
+  -- so are those of the next line
+  pub next_near : (root : ℕ) → root ≡ length net.stations - 1 → IfSome (slice_get (held_at net.edges root) 0) IsNear
+  next_near root own =
+      let e : Held = record net.edges { edges = with_edge net.edges root (without 1 (edge_at net.edges root)) } in
+      taken_near (record net { edges = e }) (slice_get (held_at net.edges root) 0) (taken root own e refl refl (slice_get (held_at net.edges root) 0) refl)
 
   -- before the first row an edge holds nothing
   nothing_held : (i : ℕ) → i < length nodes → past.rows ≡ [] → held_at net.edges i ≡ []

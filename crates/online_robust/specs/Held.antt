@@ -1,5 +1,4 @@
 -- What the edges of a network hold, where the parts of margins lie on them.
-use Rattle.std.specs.Prelude.{ℕ}
 use Rattle.node_edges.specs.Held as Of
 pub use Rattle.node_edges.specs.Held.{edge_at, fresh_at, held_at, held_of, no_edge, number_at, with_edge, with_more, with_number, with_read, without}
 use Rattle.online_robust.specs.declared.line.MarginLine.{MarginLine}

@@ -7,6 +7,7 @@ use Rattle.rational.specs.Extended.{value_at, opposite, ◌≈ᵉ◌}
 use Rattle.frac128.specs.declared.frac.Frac.{Frac}
 use Rattle.value_laws.specs.Margins.{is_ramp, margin_base, margin_function}
 use Rattle.value_laws.specs.declared.margin.Margin.{Margin}
+use Rattle.node_edges.specs.Members.{PartOf}
 use Rattle.online_robust.specs.declared.line.MarginLine.{MarginLine}
 use Rattle.online_robust.specs.declared.line.MarginLine.TheVariants.{Point, Gap}
 
@@ -36,3 +37,7 @@ pub record IsNegated (old new : MarginLine) : Type 0 where
   pub at_once : AreAtOnce old new
   pub value : (t : Rational) → value_at (margin_function (margin_of new)) t ≈ᵉ opposite (value_at (margin_function (margin_of old)) t)
   pub base : IsTrue (is_ramp (margin_of new)) → IsTrue (is_ramp (margin_of old)) × (margin_base (margin_of new) ≡ margin_base (margin_of old))
+
+-- the lines of an edge as a kind of part
+abbrev pub margin_part : PartOf MarginLine
+margin_part = record { end = λ x. value (end_of x); follows = IsPointAgain; joined = λ first second both. both ≡ second }

@@ -189,6 +189,10 @@ abbrev pub IsTaken : List Node → Header → Past → List MarginLine → Parts
 IsTaken nodes header past given new None = AreAllGiven nodes header past given new
 IsTaken nodes header past given new (Some line) = IsGiven nodes header past given new line
 
+-- the next line of the root that is to be given, where the network is not stopped
+abbrev pub next_of : Parts → Option MarginLine
+next_of net = if net.stopped then None else slice_get (held_at net.edges (length net.stations - 1)) 0
+
 -- how many lines of the root were not given
 abbrev pub left_of : Parts → ℕ
 left_of net = length (held_at net.edges (length net.stations - 1))

@@ -193,7 +193,9 @@ fn take_end_all(
 }
 
 impl RobustNet {
-    ghost use Rattle.online_robust.specs.Nets.{no_past, IsClosed, IsFault, IsFed, IsHeldBy, IsNear, IsTaken, IsWideIn, left_of, StandsFor};
+    ghost use Rattle.online_robust.specs.Nets.{no_past, AreAllGiven, IsClosed, IsFault, IsFed, IsHeldBy, IsNear, IsTaken, IsWideIn, left_of, next_of};
+    ghost use Rattle.online_robust.specs.Nets.{StandsFor};
+    ghost use Rattle.std.specs.Option.{option_copied};
 
     /// The network of a formula that is bound to a header's columns, and has no until and no since. It stands for no rows.
     ///
@@ -325,9 +327,27 @@ impl RobustNet {
         from_start(number, start)
     }
 
+    /// The next point or gap of the root, where it stands: `take` takes it. None where all that it gave out was taken, and where the
+    /// network is stopped.
+    #[inline(always)]
+    pub fn next(&self) -> Option<&MarginLine>
+        ensures next { option_copied result ≡ next_of self.now }
+        ensures near { IfSome (option_copied result) IsNear }
+        ensures all { (nodes : List ANode) (header : Header) (past : Past) (given : List Line) → StandsFor nodes header self.now past given
+            → IfNone (option_copied result) (AreAllGiven nodes header past given self.now) }
+    {
+        if self.stopped {
+            return None;
+        }
+        let root = (self.stations.len() - 1) as u32;
+        self.edges.ahead(root)
+    }
+
     /// The next point or gap of the root; None where all that it gave out was taken, and where the network is stopped. It takes no
     /// memory.
+    #[inline(always)]
     pub fn take(&mut self) -> Option<MarginLine>
+        ensures next { result ≡ next_of self.old }
         ensures stopped { self.old.stopped ≡ true → (result ≡ None) × (self.new ≡ self.old) }
         ensures taken { (nodes : List ANode) (header : Header) (past : Past) (given : List Line) → StandsFor nodes header self.old past given
             → IsTaken nodes header past given self.new result }

@@ -19,7 +19,7 @@ use crate::edges::Edges;
 use crate::line::{MarginLine, Reached};
 use crate::room::Room;
 use frac128::{Frac, Memory};
-use pl_signal::{Builder, Side, Signal, WidePair, chosen, earlier};
+use pl_signal::{Builder, Side, Signal, WidePair, chosen_in_place, earlier};
 use std::cmp::Ordering;
 use value_laws::{Margin, Shape};
 
@@ -173,7 +173,7 @@ impl Two {
             → IsThere (right_of x) x.reach (value t.now) q.now
             → IsThere (both_of x self.now) x.reach (value t.now) result }
     {
-        chosen(self.side, &self.left_of(p), q, t)
+        *chosen_in_place(self.side, &self.left_of(p), q, t)
     }
 
     /// Where it was told before, or the point at the start, which is taken from both inputs.

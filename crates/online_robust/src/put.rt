@@ -47,6 +47,7 @@ pub(crate) fn put_pair(
 }
 
 /// Puts the gaps of a signal, each with the point that ends it.
+#[inline(always)]
 fn put_later(edges: &mut Edges, node: u32, s: &Signal<Margin>) -> Result<(), Memory>
     requires { node < length edges.old.edges }
     ensures { OnOk result (HasPut node (later_lines s.now) edges.old edges.new) }
@@ -68,6 +69,7 @@ fn put_later(edges: &mut Edges, node: u32, s: &Signal<Margin>) -> Result<(), Mem
 }
 
 /// Puts the parts of a signal, with the point at which it begins or without.
+#[inline(always)]
 pub(crate) fn put_signal(
     edges: &mut Edges,
     node: u32,

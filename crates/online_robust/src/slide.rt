@@ -1,7 +1,8 @@
 //! A window over its input, which it meets as that comes.
 ghost use Rattle.std.specs.Prelude.{◌≡◌, ◌<◌, ◌+◌, ◌^◌, ◌++◌, List, pos, if◌then◌else◌, IfOk, IfSome, MatchOption, OnErr, OnOk, None, Some, length};
 ghost use Rattle.std.specs.Prelude.{drop, option_map, slice_get};
-ghost use Rattle.rational.specs.Rational.{Rational};
+ghost use Rattle.rational.specs.Rational.{Rational, whole, ◌≈◌};
+ghost use Rattle.rational.specs.Time.{shifted};
 ghost use Rattle.frac128.specs.Value.{value};
 ghost use Rattle.frac128.specs.declared.frac.Frac.{Frac as Time};
 ghost use Rattle.pieces.specs.declared.piece.Piece.{Piece as Part};
@@ -9,7 +10,7 @@ ghost use Rattle.pieces.specs.declared.stream.Stream.{Stream as Over};
 ghost use Rattle.pieces.specs.Windows.{IsSmall};
 ghost use Rattle.online_robust.specs.Held.{Held};
 ghost use Rattle.online_robust.specs.Putting.{HasPut};
-ghost use Rattle.online_robust.specs.Slides.{CanSlide, Course, DropsBy, HasBegun, GoesOut, IsKeptBelow, IsOnWay};
+ghost use Rattle.online_robust.specs.Slides.{CanSlide, Course, HasBegun, GoesOut, IsKeptBelow, IsOnWay};
 ghost use Rattle.online_robust.specs.Slides.{IsRefused, IsTakenIn, IsUnder};
 ghost use Rattle.online_robust.specs.Slides.{ReadsOn, Stays, back_offset, piece_of as piece_that, reach_of, slide_of};
 ghost use Rattle.online_robust.specs.Steps.{Step, Belongs, BelongsSomewhere, GivesOut, IsStreamedFault};
@@ -267,20 +268,8 @@ fn put_told(
     put_gaps(edges, node, told, at, point)
 }
 
-/// Drops the lines at the front of an edge that end by a time.
-fn drop_by(edges: &mut Edges, of: u32, limit: &Frac)
-    requires { of < length edges.old.edges }
-    ensures { DropsBy (value limit.now) of edges.old edges.new }
-{
-    while let Some(line) = edges.ahead(of) {
-        if limit.cmp(&line.end()).is_lt() {
-            return;
-        }
-        edges.skip(of);
-    }
-}
-
-/// The window goes on to a time: it meets what counts before, tells the best up to it, drops what it needs no more, and puts what it told.
+/// The window goes on to a time: it meets what counts before, tells the best up to it, drops what it needs no more, which ends by `limit`, and
+/// puts what it told.
 fn go_to(
     stream: &mut Stream<Margin>,
     kept: &mut Option<Piece<Margin>>,
@@ -288,10 +277,12 @@ fn go_to(
     edges: &mut Edges,
     node: u32,
     to: &Frac,
+    limit: i64,
     with_first: bool,
     fault: &mut Option<WidePair<Margin>>,
 ) -> Result<(), Memory>
     requires can { (x : Course) × (from : Rational) × CanSlide x from stream.old kept.old edges.old × (x.window ≡ window.now) × (x.to ≡ value to.now) }
+    requires limit { whole limit ≈ shifted (value to.now) (back_offset window.now) }
     requires edge { node < length edges.old.edges }
     requires unset { fault.old ≡ None }
     ensures gone { OnOk result
@@ -305,7 +296,7 @@ fn go_to(
     *kept = read_under(stream, window.of, edges, to);
     stream.tell(to, fault)?;
     let point = stream.point(to, &seen_under(window.high_in, kept));
-    drop_by(edges, window.of, &to.shift(window.back()));
+    edges.drop_by(window.of, limit);
     put_told(edges, node, stream.told(), &point, with_first)?;
     stream.restart();
     Ok(())
@@ -370,6 +361,7 @@ impl Slide {
             unreachable!()
         };
         let end = Frac::of(i64::from(to));
+        let limit = i64::from(to) + self.window.back();
         go_to(
             stream,
             &mut self.kept,
@@ -377,6 +369,7 @@ impl Slide {
             edges,
             node,
             &end,
+            limit,
             with_first,
             fault,
         )

@@ -1,16 +1,13 @@
-use Rattle.std.proofs.Common.{◌≡◌, ◌<◌, ◌^◌, false, sym, ap, ◌∙◌, subst, arith, length, Option, None, ℤ, pos, to_z, of_z, ◌≤ℤ◌, Bool, true}
-use Rattle.std.specs.Prelude.{IfSome, cond, int_lt, neg_ℤ, option_map}
+use Rattle.std.proofs.Common.{rules, ◌≡◌, ◌<◌, sym, ap, ◌∙◌, subst, length, Option, None, pos, to_z, of_z}
+use Rattle.std.specs.Prelude.{IfSome, cond, option_map}
 use Rattle.std.specs.Int.{w64}
-use Rattle.std.proofs.lemmas.Int.{ints, to_z-of_z}
-use Rattle.rational.specs.Rational.{FitsFloor, add, whole}
+use Rattle.std.proofs.lemmas.Int.{to_z-of_z}
+use Rattle.rational.specs.Rational.{add, whole}
 use Rattle.rational.specs.Time.{Rational, shifted, ◌≈◌, ◌≤ʳ◌, ◌<ʳ◌}
 use Rattle.rational.specs.Extended.{value_at}
 use Rattle.rational.specs.Places.{AtMost, Same, Upto}
 use Rattle.rational.proofs.Lists.{on_err_anyway}
-use Rattle.rational.proofs.Order.{le_trans, same_refl, same_sym, same_trans}
 use Rattle.rational.proofs.PlaceLemmas.{same_places, same_trans_places, upto_same}
-use Rattle.rational.proofs.Shift.{le_whole}
-use Rattle.rational.proofs.TimeLemmas.{shifted-add}
 use Rattle.frac128.specs.Value.{value}
 use Rattle.frac128.specs.Cuts.{place}
 use Rattle.value_laws.specs.Kinds.{margin_shape}
@@ -22,19 +19,19 @@ use Rattle.pieces.specs.declared.stream.Stream.{Stream}
 use Rattle.pieces.specs.Chains.{Chain, Tells, stop}
 use Rattle.pieces.specs.Streaming.{Follows, HasAll, IsAt, IsCauseBelow, IsNextSeen, before_time}
 use Rattle.pieces.specs.Windows.{BestOver}
-use Rattle.pieces.proofs.Shifts.{fits}
 use Rattle.online_robust.specs.Held.{Held}
 use Rattle.online_robust.specs.Putting.{HasPut}
 use Rattle.online_robust.specs.Slides.{CanSlide, Course, DropsBy, IsOnWay, IsRefused, IsStretchOf, IsTakenIn, IsUnder}
 use Rattle.online_robust.specs.Slides.{after_time, back_offset}
 use Rattle.online_robust.specs.ToldLines.{all_told}
 use Rattle.online_robust.specs.declared.slide.Window.{Window}
+use Rattle.online_robust.proofs.LinesGone.{dropped}
 use Rattle.online_robust.proofs.SlideCuts.{read_drops, reads_both}
 use Rattle.online_robust.proofs.SlideGone.{all_under, follows_under, gone, has_all, next_seen, none_early, read_same}
 use Rattle.online_robust.proofs.SlideRefused.{some_of_none, tell_refused}
 use Rattle.online_robust.proofs.SlideStretch.{told_stretch}
 use Rattle.online_robust.proofs.SlideSignal.{best_told}
-use Rattle.online_robust.proofs.slide.go_to.Goals.{After-read_under, In_ok-tell}
+use Rattle.online_robust.proofs.slide.go_to.Goals.{After-drop_by, After-read_under, In_ok-tell}
 use Rattle.online_robust.proofs.slide.go_to.Goals as goal
 
 pub meet_kept-requires-clause-can : goal.meet_kept-requires-clause-can
@@ -121,31 +118,6 @@ returns-in_err-tell-clause-wide c x from can window to =
 
 -- ---- it has told
 
--- the offset by which it needs its input no more is small
-back_small : (w : Window) → neg_ℤ (pos (2 ^ 32)) ≤ℤ w.low → w.low ≤ℤ w.high → w.high ≤ℤ pos (2 ^ 32)
-    → (neg_ℤ (pos (2 ^ 32)) ≤ℤ back_offset w) × (back_offset w ≤ℤ pos (2 ^ 32))
-back_small w from order to = by_test (int_lt w.low (neg_ℤ (pos 4294967295)))
-  where
-    by_test : (b : Bool) → (neg_ℤ (pos (2 ^ 32)) ≤ℤ cond b w.high w.low) × (cond b w.high w.low ≤ℤ pos (2 ^ 32))
-    by_test true = (omega (arith, ints, from, order), to)
-    by_test false = (from, omega (arith, ints, order, to))
-
--- it is passed as it is
-back_passed : (x : Course) (from : Rational) (w : Stream Margin) (kept : Option (Piece Margin)) (e : Held) (now : Window) (back : ℤ) → CanSlide x from w kept e
-    → x.window ≡ now → back ≡ back_offset now
-    → ((neg_ℤ (pos (2 ^ 32)) ≤ℤ back) × (back ≤ℤ pos (2 ^ 32))) × (to_z w64 (of_z w64 back) ≡ back)
-back_passed x from w kept e now back can window is = (small, to_z-of_z w64 back (let low = small.0 in let high = small.1 in omega (arith, ints, low, high)))
-  where
-    small : (neg_ℤ (pos (2 ^ 32)) ≤ℤ back) × (back ≤ℤ pos (2 ^ 32))
-    small = subst (λ k. (neg_ℤ (pos (2 ^ 32)) ≤ℤ k) × (k ≤ℤ pos (2 ^ 32))) (sym is)
-        (subst (λ (v : Window). (neg_ℤ (pos (2 ^ 32)) ≤ℤ back_offset v) × (back_offset v ≤ℤ pos (2 ^ 32))) window
-        (back_small x.window can.on.small.from can.on.small.order can.on.small.to))
-
--- by when the window needs its input no more
-limit_is : (t : Rational) (k by : ℤ) (limit : Rational) → by ≡ k → limit ≈ add t (whole by) → limit ≈ shifted t k
-limit_is t k by limit is e = same_trans e (same_trans (subst (λ j. add t (whole by) ≈ add t (whole j)) is (same_refl (add t (whole by))))
-    (same_sym (shifted-add t k)))
-
 module _ (c : In_ok-tell) (x : Course) (from : Rational) (can : CanSlide x from c.args.stream.now c.args.kept.now c.args.edges.now)
     (window : x.window ≡ c.args.window.now) (to : x.to ≡ value c.args.to.now) where
   under : IsOnWay x c.take_in.new.stream c.read_under.result c.read_under.new.edges × IsTakenIn x c.take_in.new.stream c.read_under.new.edges
@@ -205,23 +177,23 @@ point-point-requires-clause-inside c =
     let (x, from, can, window, to) = c.requires.can in
     inside (goal.at.point-point-requires-clause-inside c).In_ok-tell x from can window to
 
-pub shift-requires : goal.shift-requires
-shift-requires c =
-    let (x, from, can, window, to) = c.requires.can in
-    let passed = back_passed x from c.args.stream.now c.args.kept.now c.args.edges.now c.args.window.now c.back.result can window c.back.ensures in
-    let tick = subst (λ t. (whole (pos 0) ≤ʳ t) × (t ≤ʳ whole (pos 4294967295))) to can.to_tick in
-    subst (λ k. FitsFloor w64 (add (value c.args.to.now) (whole k))) (sym passed.1)
-    (fits (value c.args.to.now) c.back.result tick.0 (le_trans tick.1 (le_whole {j = pos 4294967295} {k = pos (2 ^ 32)} (omega arith))) passed.0.0 passed.0.1)
-
 pub drop_by-requires : goal.drop_by-requires
 drop_by-requires c =
     let (x, from, can, window, to) = c.requires.can in
     let k = (goal.at.drop_by-requires c).In_ok-tell in
     subst (λ n. n < length c.read_under.new.edges.edges) (ap (λ (w : Window). w.of) window) (under k x from can window to).0.within
 
+-- what it needs no more has gone
+drops : (c : After-drop_by) → DropsBy (whole c.args.limit) c.args.window.now.of c.read_under.new.edges c.drop_by.new.self
+drops c =
+    let limit : to_z w64 (of_z w64 c.args.limit) ≡ c.args.limit = search (rules, to_z-of_z) in
+    let by = c.drop_by.ensures in
+    subst (λ n. DropsBy (whole n) c.args.window.now.of c.read_under.new.edges c.drop_by.new.self) limit
+    (record { lost = dropped by.dropped by.others by.start; rest = by.dropped.rest })
+
 pub put_told-requires : goal.put_told-requires
 put_told-requires c =
-    subst (λ n. c.args.node < n) (sym (c.drop_by.ensures.lost.edges ∙ (reads_both c.in_ok-take_in.ensures.read c.read_under.ensures.read).edges))
+    subst (λ n. c.args.node < n) (sym ((drops (goal.at.put_told-requires c).After-drop_by).lost.edges ∙ (reads_both c.in_ok-take_in.ensures.read c.read_under.ensures.read).edges))
     c.requires.edge
 
 pub returns-in_err-put_told-clause-wide : goal.returns-in_err-put_told-clause-wide
@@ -239,7 +211,7 @@ returns-clause-gone c =
     (begun k some since may its there).1 (is_at k some since may its there).at (begins ∙ ap (λ (o : Chain Margin). o.from.at) c.told.ensures) in
     record {
       swept = ks;
-      between = c.drop_by.new.edges;
+      between = c.drop_by.new.self;
       told = λ x from can window to.
           let line = chain k x from can window to in
           let seen = subst (λ o. IsNextSeen margin_shape line told (value c.args.to.now) o) (sym c.seen_under.ensures) (next k x from can window to) in
@@ -257,20 +229,15 @@ returns-clause-gone c =
           let w = c.take_in.new.stream in
           let tells = c.in_ok-tell.ensures in
           let again = c.restart.ensures in
-          let passed = back_passed x from c.args.stream.now c.args.kept.now c.args.edges.now c.args.window.now c.back.result can window c.back.ensures in
-          gone x w c.read_under.result c.read_under.new.edges u.0 u.1 u.2 told c.restart.new.self c.drop_by.new.edges (value c.shift.result)
+          gone x w c.read_under.result c.read_under.new.edges u.0 u.1 u.2 told c.restart.new.self c.drop_by.new.self (whole c.args.limit)
           (λ line known all. subst (IsAt margin_shape line told) (sym to) (tells.at line known (subst (HasAll margin_shape line w) to all)))
           again.follows (again.way ∙ tells.way) (again.met ∙ tells.met) again.told
-          (subst (λ n. DropsBy (value c.shift.result) n c.read_under.new.edges c.drop_by.new.edges) (sym (ap (λ (v : Window). v.of) window)) c.drop_by.ensures)
-          (subst (λ t. value c.shift.result ≈ shifted t (back_offset x.window)) (sym to)
-          (subst (λ (v : Window). value c.shift.result ≈ shifted (value c.args.to.now) (back_offset v)) (sym window) (limit_is (value c.args.to.now)
-          (back_offset c.args.window.now) (to_z w64 (of_z w64 c.back.result)) (value c.shift.result) (passed.1 ∙ c.back.ensures) c.shift.ensures.value)));
+          (subst (λ n. DropsBy (whole c.args.limit) n c.read_under.new.edges c.drop_by.new.self) (sym (ap (λ (v : Window). v.of) window)) (drops (goal.at.returns-clause-gone c).After-drop_by))
+          (subst (λ t. whole c.args.limit ≈ shifted t (back_offset x.window)) (sym to)
+          (subst (λ (v : Window). whole c.args.limit ≈ shifted (value c.args.to.now) (back_offset v)) (sym window) c.requires.limit));
       way = c.restart.ensures.way ∙ c.in_ok-tell.ensures.way ∙ c.in_ok-take_in.ensures.kept.way ∙ c.in_ok-meet_kept.ensures.kept.way;
-      read = read_same (value c.shift.result) (shifted (value c.args.to.now) (back_offset c.args.window.now))
-          (limit_is (value c.args.to.now) (back_offset c.args.window.now) (to_z w64 (of_z w64 c.back.result)) (value c.shift.result)
-          ((back_passed some since c.args.stream.now c.args.kept.now c.args.edges.now c.args.window.now c.back.result may its c.back.ensures).1
-          ∙ c.back.ensures) c.shift.ensures.value)
-          (read_drops (reads_both c.in_ok-take_in.ensures.read c.read_under.ensures.read) c.drop_by.ensures);
-      put = subst (λ l. HasPut c.args.node l c.drop_by.new.edges c.put_told.new.edges)
+      read = read_same (whole c.args.limit) (shifted (value c.args.to.now) (back_offset c.args.window.now)) c.requires.limit
+          (read_drops (reads_both c.in_ok-take_in.ensures.read c.read_under.ensures.read) (drops (goal.at.returns-clause-gone c).After-drop_by));
+      put = subst (λ l. HasPut c.args.node l c.drop_by.new.self c.put_told.new.edges)
           (ap (λ (o : Chain Margin). all_told c.args.with_first at o.pieces point) c.told.ensures ∙ sym lines) put;
     }

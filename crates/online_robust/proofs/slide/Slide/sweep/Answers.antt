@@ -1,9 +1,11 @@
-use Rattle.std.proofs.Common.{rules, ◌≡◌, ℕ, pos, to_z, of_z, refl, sym, ap, subst, ◌∙◌, Option, Some, None}
+use Rattle.std.proofs.Common.{rules, ◌≡◌, ℕ, ℤ, pos, to_z, of_z, refl, sym, ap, subst, ◌∙◌, ◌<◌, ◌^◌, ◌+ℤ◌, ◌≤ℤ◌, Bool, true, false, Option, Some, None, arith}
 use Rattle.std.specs.Int.{w64}
-use Rattle.std.specs.Prelude.{MatchOption}
+use Rattle.std.specs.Prelude.{MatchOption, cond, int_lt, neg_ℤ}
+use Rattle.std.proofs.lemmas.Int.{ints, to_z-of_z}
 use Rattle.std.proofs.lemmas.Option.{same_Some}
 use Rattle.rational.specs.Rational.{◌≈◌, whole}
-use Rattle.rational.specs.Time.{shifted}
+use Rattle.rational.specs.Time.{Rational, shifted}
+use Rattle.rational.proofs.Order.{same_sym}
 use Rattle.std.proofs.lemmas.Result.{on_err_weaker, on_ok_weaker}
 use Rattle.frac128.specs.Value.{value}
 use Rattle.online_robust.specs.Slides.{CanSlide, Course, HasBegun, HasRead, back_offset}
@@ -12,6 +14,7 @@ use Rattle.online_robust.specs.declared.operator.Operator.TheVariants as Op
 use Rattle.online_robust.specs.declared.slide.Slide.{Slide}
 use Rattle.online_robust.specs.declared.slide.Window.{Window}
 use Rattle.online_robust.proofs.RefusalsBeside.{each_told}
+use Rattle.online_robust.proofs.SlideAgain.{moved_whole}
 use Rattle.online_robust.proofs.SlideBodies.{course_of, slide_cause, slide_told, small}
 use Rattle.online_robust.proofs.SlideSweeps.{Slides, may_slide, slide_edges, slide_stands}
 use Rattle.online_robust.proofs.slide.Slide.sweep.Goals.{After-of-end}
@@ -100,3 +103,37 @@ returns-clause-out c =
       put = g.put;
     })
     c.go_to.ensures.gone
+
+-- the offset by which a window needs its input no more is small
+back_small : (w : Window) → neg_ℤ (pos (2 ^ 32)) ≤ℤ w.low → w.low ≤ℤ w.high → w.high ≤ℤ pos (2 ^ 32)
+    → (neg_ℤ (pos (2 ^ 32)) ≤ℤ back_offset w) × (back_offset w ≤ℤ pos (2 ^ 32))
+back_small w from order to = by_test (int_lt w.low (neg_ℤ (pos 4294967295)))
+  where
+    by_test : (b : Bool) → (neg_ℤ (pos (2 ^ 32)) ≤ℤ cond b w.high w.low) × (cond b w.high w.low ≤ℤ pos (2 ^ 32))
+    by_test true = (omega (arith, ints, from, order), to)
+    by_test false = (from, omega (arith, ints, order, to))
+
+-- a number of 32 bits and a small offset are added as they are
+limit_is : (to : ℕ) (n k : ℤ) (t : Rational) → to < 2 ^ 32 → n ≡ pos to → (neg_ℤ (pos (2 ^ 32)) ≤ℤ k) × (k ≤ℤ pos (2 ^ 32)) → t ≈ whole (pos to)
+    → whole (to_z w64 (of_z w64 (to_z w64 (of_z w64 n) +ℤ to_z w64 (of_z w64 k)))) ≈ shifted t k
+limit_is to n k t fits is small same =
+    let low = small.0 in
+    let high = small.1 in
+    let number : to_z w64 (of_z w64 n) ≡ n = to_z-of_z w64 n (omega (arith, ints, fits, is)) in
+    let back : to_z w64 (of_z w64 k) ≡ k = to_z-of_z w64 k (omega (arith, ints, low, high)) in
+    let both : to_z w64 (of_z w64 (n +ℤ k)) ≡ n +ℤ k = to_z-of_z w64 (n +ℤ k) (omega (arith, ints, fits, is, low, high)) in
+    subst (λ m. whole (to_z w64 (of_z w64 (m +ℤ to_z w64 (of_z w64 k)))) ≈ shifted t k) (sym number)
+    (subst (λ m. whole (to_z w64 (of_z w64 (n +ℤ m))) ≈ shifted t k) (sym back)
+    (subst (λ m. whole m ≈ shifted t k) (sym both) (same_sym (moved_whole t n k (subst (λ m. t ≈ whole m) (sym is) same)))))
+
+pub go_to-requires-clause-limit : goal.go_to-requires-clause-limit
+go_to-requires-clause-limit c =
+    let (t, b) = c.requires.can in
+    let s = small t c.args.self.now c.args.edges.now c.args.to b in
+    let window : c.begin.new.self.window ≡ c.args.self.now.window = ap (λ (y : Slide). y.window) c.begin.ensures.1 in
+    let bound = subst (λ (w : Window). (neg_ℤ (pos (2 ^ 32)) ≤ℤ back_offset w) × (back_offset w ≤ℤ pos (2 ^ 32))) (sym window)
+    (back_small c.args.self.now.window s.from s.order s.to) in
+    subst (λ k. whole (to_z w64 (of_z w64 (to_z w64 (of_z w64 c.from-2.result) +ℤ to_z w64 (of_z w64 k)))) ≈ shifted (value c.of-end.result)
+    (back_offset c.begin.new.self.window)) (sym c.back.ensures)
+    (limit_is c.args.to c.from-2.result (back_offset c.begin.new.self.window) (value c.of-end.result) c.ranges.to.fits c.from-2.ensures bound
+    (ends (goal.at.go_to-requires-clause-limit c).After-of-end))
