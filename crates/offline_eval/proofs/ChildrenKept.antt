@@ -9,7 +9,7 @@ use Rattle.std.proofs.lemmas.List.{length-take, take_more, length-set}
 use Rattle.std.proofs.lemmas.List.Elements.{All-head, All-tail}
 use Rattle.std.proofs.lemmas.List.Folds.{list_any-append}
 use Rattle.std.proofs.lemmas.Option.{slice_get_within, get_or_from_slice_get}
-use Rattle.rational.proofs.Lists.{slice_get-push_cases, slice_get-append_here}
+use Rattle.rational.proofs.Lists.{slice_get-push_cases, slice_get-append_here, slice_get-append_left}
 use Rattle.stl_syntax.specs.Formula.{Subformula, subformula, tree_of, constant, negation, conjunction, disjunction}
 use Rattle.stl_syntax.specs.Formula.{implication, until, eventually, always, since, once, historically}
 use Rattle.stl_syntax.specs.PostOrder.{children, has_child, is_used, IsPostOrder}
@@ -172,6 +172,42 @@ module _ {X P : Type 0} (form : Form X P) (from to : ℕ) where
         (join (IsSpare form from to x) (slice_get mid k ≡ Some x) (slice_get old k ≡ Some x) (list_any (λ p. p == k) ps) (list_any (λ p. p == k) qs)
         (s.at k x there) (λ m. f.at k x m));
   }
+
+  -- what was given up before one signal more came, and is given up once it is there, is given up
+  given_before : (ps : List ℕ) (old mid new : List X) (y : X) → AreGivenUp form from to ps old mid
+      → AreGivenUp form from to ps (mid ++ y ∷ []) new → AreGivenUp form from to ps (old ++ y ∷ []) new
+  given_before ps old mid new y f s = record {
+    count = s.count ∙ pushed_count mid (mid ++ y ∷ []) y (length old) f.count refl ∙ sym (pushed_count old (old ++ y ∷ []) y (length old) refl refl);
+    at = λ k x there. by_place k x (list_any (λ p. p == k) ps) refl (s.at k x there);
+  }
+    where
+      Was : Bool → ℕ → X → Type 0
+      Was b k x = MatchBool b (IsSpare form from to x) (slice_get (old ++ y ∷ []) k ≡ Some x)
+
+      stays : (k : ℕ) (x : X) → MatchBool false (IsSpare form from to x) (slice_get old k ≡ Some x) → Was false k x
+      stays k x h = slice_get-append_left old (y ∷ []) k x h
+
+      kept : (k : ℕ) (x : X) → list_any (λ p. p == k) ps ≡ false → (slice_get mid k ≡ Some x) ⊎ ((k ≡ length mid) × (x ≡ y)) → Was false k x
+      kept k x e (inl h) = stays k x (subst (λ b. MatchBool b (IsSpare form from to x) (slice_get old k ≡ Some x)) e (f.at k x h))
+      kept k x e (inr (here, is)) =
+          subst (λ z. slice_get (old ++ y ∷ []) k ≡ Some z) (sym is)
+          (subst (λ j. slice_get (old ++ y ∷ []) j ≡ Some y) (sym (here ∙ f.count)) (slice_get-append_here old y []))
+
+      by_place : (k : ℕ) (x : X) (b : Bool) → list_any (λ p. p == k) ps ≡ b
+          → MatchBool b (IsSpare form from to x) (slice_get (mid ++ y ∷ []) k ≡ Some x) → Was b k x
+      by_place k x true e spare = spare
+      by_place k x false e h = kept k x e (slice_get-push_cases mid y k x h)
+
+  -- the same where nothing was given up before, or all of it
+  pub given_in_all : (ps : List ℕ) (old mid new : List X) (y : X) → (mid ≡ old) ⊎ AreGivenUp form from to ps old mid
+      → AreGivenUp form from to ps (mid ++ y ∷ []) new → AreGivenUp form from to ps (old ++ y ∷ []) new
+  given_in_all ps old mid new y (inl e) s = subst (λ l. AreGivenUp form from to ps (l ++ y ∷ []) new) e s
+  given_in_all ps old mid new y (inr f) s = given_before ps old mid new y f s
+
+  -- there are as many signals as before
+  pub as_many : (ps : List ℕ) (old mid : List X) → (mid ≡ old) ⊎ AreGivenUp form from to ps old mid → length mid ≡ length old
+  as_many ps old mid (inl e) = ap length e
+  as_many ps old mid (inr f) = f.count
 
   -- the next node, n at the place i, adds its signal y to the old ones, and those of its children are given up
   pub record AddsNext (nodes : List Node) (s : Setting) (i : ℕ) (n : Node) (old new : List X) (y : X) : Type 0 where

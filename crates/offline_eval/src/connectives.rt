@@ -82,6 +82,17 @@ pub(crate) fn negated<P: Shape>(x: &Pieces<P>) -> Result<Pieces<P>, Memory>
     x.negated()
 }
 
+/// The same of a chain that is of no more use: it is turned over where it stands, and takes no memory.
+pub(crate) fn turned_over<P: Shape>(x: Pieces<P>) -> Pieces<P>
+    requires { IsClosed P.Shape x }
+    ensures sound { StaysSound (of_pieces P.Shape) 0 x result }
+    ensures told { TellsOne (of_pieces P.Shape) negation x result }
+{
+    let mut chain = x;
+    chain.negate();
+    chain
+}
+
 /// The least of the operands.
 pub(crate) fn both<P: Shape>(x: &Pieces<P>, y: &Pieces<P>) -> Result<Pieces<P>, OpFault<P>>
     requires { MayMeet (of_pieces P.Shape) x.now y.now }

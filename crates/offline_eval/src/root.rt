@@ -1,23 +1,25 @@
 //! The evaluation of a formula for its root alone, by chains of pieces: each chain is given up once the one node that reads it has its own.
-ghost use Rattle.std.specs.Prelude.{◌≡◌, ◌+◌, ◌<◌, ◌≤◌, ◌++◌, ◌∷◌, [], All, List, ℕ, Some, false, length, option_to_list, slice_get, IfSome, IfErr, OnOk};
-ghost use Rattle.stl_syntax.specs.Formula.{subformula};
+ghost use Rattle.std.specs.Prelude.{◌≡◌, ◌⊎◌, ◌+◌, ◌<◌, ◌≤◌, ◌++◌, ◌∷◌, [], All, List, ℕ, Some, false, length, option_to_list, slice_get, IfOk, IfSome, IfErr, OnOk};
+ghost use Rattle.stl_syntax.specs.Formula.{HasChildrenBelow, subformula};
 ghost use Rattle.stl_syntax.specs.PostOrder.{children};
 ghost use Rattle.stl_syntax.specs.SupInf.{Setting};
 ghost use Rattle.stl_syntax.specs.declared.atom.Atom.{Atom};
 ghost use Rattle.stl_syntax.specs.declared.node.Node.{Node};
-ghost use Rattle.stl_syntax.specs.declared.node.Node.TheVariants.{Atom as Leaf};
+ghost use Rattle.stl_syntax.specs.WellFormed.{HasBounds};
+ghost use Rattle.stl_syntax.specs.declared.node.Node.TheVariants.{Atom as Leaf, Not};
 ghost use Rattle.offline_eval.specs.Forms.{of_pieces};
 ghost use Rattle.offline_eval.specs.Evaluation.{IsFault};
 ghost use Rattle.offline_eval.specs.Inputs.{is_atom, IsInput, IsOver};
 ghost use Rattle.offline_eval.specs.Keeping.{AreGivenUp, IsRootIn, IsStack, TellsStack};
-ghost use Rattle.offline_eval.specs.Making.{TellsValue};
+ghost use Rattle.offline_eval.specs.Making.{AreSound, FaultOfNode, NodeStaysSound, TellsNode, TellsValue};
 
 use crate::EvalFault;
 use crate::chains::at_node;
-use crate::connectives::constant_chain;
+use crate::connectives::{constant_chain, turned_over};
 use crate::nodes::of_node;
 use frac128::Memory;
 use pieces::Pieces;
+use pl_signal::OpFault;
 use std::alloc::Global;
 use std::marker::Model;
 use stl_syntax::{Formula, Node};
@@ -41,6 +43,51 @@ fn give_up<P: Shape>(
     let spare = constant_chain(alloc, from, to, false)?;
     done[place as usize] = spare;
     Ok(())
+}
+
+/// The chain of a negation: that of its operand, which no other node reads, turned over. A constant stands in its place from then on.
+fn of_negation<P: Shape>(
+    alloc: Global,
+    from: u32,
+    to: u32,
+    done: &mut Vec<Pieces<P>>,
+    place: u32,
+) -> Result<Pieces<P>, Memory>
+    requires order { from ≤ to }
+    requires inside { place < length done.old.items }
+    requires sound { AreSound (of_pieces P.Shape) from to 4294967295 done.old.items }
+    ensures sound { IfOk result (NodeStaysSound (of_pieces P.Shape) from to (Not place) done.old.items) }
+    ensures told { IfOk result (TellsNode (of_pieces P.Shape) from to (Not place) done.old.items) }
+    ensures given { OnOk result (AreGivenUp (of_pieces P.Shape) from to (place ∷ []) done.old.items done.new.items) }
+{
+    let spare = constant_chain(alloc, from, to, false)?;
+    let operand = std::mem::replace(&mut done[place as usize], spare);
+    Ok(turned_over(operand))
+}
+
+/// The chain of the next node, which is no atom. The chain of the operand of a negation is given up for it.
+fn of_next<P: Shape>(
+    alloc: Global,
+    from: u32,
+    to: u32,
+    node: &Node,
+    done: &mut Vec<Pieces<P>>,
+) -> Result<Pieces<P>, OpFault<P>>
+    requires order { from ≤ to }
+    requires kind { is_atom node.now ≡ false }
+    requires bounds { HasBounds node.now }
+    requires children { HasChildrenBelow (length done.old.items) node.now }
+    requires sound { AreSound (of_pieces P.Shape) from to 4294967295 done.old.items }
+    ensures sound { IfOk result (NodeStaysSound (of_pieces P.Shape) from to node.now done.old.items) }
+    ensures told { IfOk result (TellsNode (of_pieces P.Shape) from to node.now done.old.items) }
+    ensures wide { IfErr result (FaultOfNode (of_pieces P.Shape) from to node.now done.old.items) }
+    ensures given { OnOk result ((done.new.items ≡ done.old.items)
+        ⊎ AreGivenUp (of_pieces P.Shape) from to (children node.now) done.old.items done.new.items) }
+{
+    match node {
+        Node::Not(place) => Ok(of_negation(alloc, from, to, done, *place)?),
+        _ => of_node(alloc, from, to, node, done),
+    }
 }
 
 /// Puts the chain of the next node behind those before it, and gives up those of its children: no other node reads them.
@@ -144,7 +191,7 @@ impl<P: Shape> Stack<P> {
         // For the proof alone: the nodes stand in post-order.
         let _ = formula.len();
         let next = formula.node(i);
-        match of_node(alloc, from, to, next, &self.done) {
+        match of_next(alloc, from, to, next, &mut self.done) {
             Ok(chain) => {
                 if keep(alloc, from, to, next, chain, &mut self.done).is_err() {
                     return Err(EvalFault::Memory);

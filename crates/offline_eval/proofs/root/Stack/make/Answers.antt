@@ -7,29 +7,28 @@ use Rattle.stl_syntax.specs.PostOrder.{children}
 use Rattle.stl_syntax.proofs.PostOrderLemmas.{children_below}
 use Rattle.offline_eval.specs.Evaluation.{IsFault}
 use Rattle.offline_eval.specs.Keeping.{kept, AreGivenUp, IsStack, TellsStack}
-use Rattle.offline_eval.specs.Making.{AreSound, IsFaultOf, IsSound, TellAt, TellsValue}
+use Rattle.offline_eval.specs.Making.{IsFaultOf, IsSound, TellsValue}
 use Rattle.offline_eval.specs.Places.{reach_before}
 use Rattle.offline_eval.proofs.NextNode.{all_more, fault_is, reach_within}
-use Rattle.offline_eval.proofs.ChildrenKept.{kept_agrees, stack_next, stack_on}
+use Rattle.offline_eval.proofs.ChildrenKept.{as_many, given_in_all, kept_agrees, stack_next, stack_on}
 use Rattle.offline_eval.proofs.Places.{sum_on}
 use Rattle.offline_eval.specs.Forms.{of_pieces}
 use Rattle.offline_eval.proofs.root.Stack.make.Goals as goal
 
-pub of_node-requires-clause-kind : goal.of_node-requires-clause-kind
-of_node-requires-clause-kind g c = c.requires.kind c.node-next.result.now c.node-next.ensures.node
+pub of_next-requires-clause-kind : goal.of_next-requires-clause-kind
+of_next-requires-clause-kind g c = c.requires.kind c.node-next.result.now c.node-next.ensures.node
 
-pub of_node-requires-clause-children : goal.of_node-requires-clause-children
-of_node-requires-clause-children g c = subst (λ k. HasChildrenBelow k c.node-next.result.now)
-    (sym (ap length (c.deref.ensures.value ∙ c.self.view_is) ∙ c.requires.stands.count)) c.node-next.ensures.below
+pub of_next-requires-clause-children : goal.of_next-requires-clause-children
+of_next-requires-clause-children g c = subst (λ k. HasChildrenBelow k c.node-next.result.now)
+    (sym (ap length c.self.view_is ∙ c.requires.stands.count)) c.node-next.ensures.below
 
-pub of_node-requires-clause-sound : goal.of_node-requires-clause-sound
-of_node-requires-clause-sound g c =
+pub of_next-requires-clause-sound : goal.of_next-requires-clause-sound
+of_next-requires-clause-sound g c =
     let nodes = c.args.formula.now.nodes in
     let i = c.args.i in
-    subst (AreSound (of_pieces g.P.Shape) c.args.from c.args.to 4294967295) (sym c.deref.ensures.value)
-    (all_more (of_pieces g.P.Shape) c.args.from c.args.to (reach_before nodes i) 4294967295 c.self.inside.done.items
+    all_more (of_pieces g.P.Shape) c.args.from c.args.to (reach_before nodes i) 4294967295 c.self.inside.done.items
     (reach_within nodes i c.len.ensures.well_formed.nodes.reach)
-    (subst (IsStack (of_pieces g.P.Shape) c.args.from c.args.to nodes i) (sym c.self.view_is) c.requires.stands).sound)
+    (subst (IsStack (of_pieces g.P.Shape) c.args.from c.args.to nodes i) (sym c.self.view_is) c.requires.stands).sound
 
 pub keep-requires-clause-children : goal.keep-requires-clause-children
 keep-requires-clause-children g c =
@@ -37,8 +36,10 @@ keep-requires-clause-children g c =
     let i = c.args.i in
     let n = c.node-next.result.now in
     let order = c.len.ensures.well_formed.nodes.post_order in
-    All-weaker (λ p. p < length (take i nodes)) (λ p. p < length c.self.inside.done.items)
-    (λ p l. omega (arith, length-take i nodes, ap length c.self.view_is, c.requires.stands.count, l)) (children n)
+    let mid = c.of_next.new.done.items in
+    let as_long = as_many (of_pieces g.P.Shape) c.args.from c.args.to (children n) c.self.inside.done.items mid c.in-Ok.ensures.given in
+    All-weaker (λ p. p < length (take i nodes)) (λ p. p < length mid)
+    (λ p l. omega (arith, length-take i nodes, ap length c.self.view_is, as_long, c.requires.stands.count, l)) (children n)
     (children_below (take i nodes) n (order.follows i n c.node-next.ensures.node))
 
 pub returns-else-is_err-clause-stands : goal.returns-else-is_err-clause-stands
@@ -50,13 +51,14 @@ returns-else-is_err-clause-stands g c =
     let y = c.in-Ok.chain in
     let old = c.self.inside.done.items in
     let new = c.keep.new.done.items in
-    let given : AreGivenUp (of_pieces shape) c.args.from c.args.to (children n) (old ++ y ∷ []) new =
+    let mid = c.of_next.new.done.items in
+    let later : AreGivenUp (of_pieces shape) c.args.from c.args.to (children n) (mid ++ y ∷ []) new =
     search (rules, c.keep.ensures, c.if-is_err.false, c.is_err.ensures) in
+    let given = given_in_all (of_pieces shape) c.args.from c.args.to (children n) old mid new y c.in-Ok.ensures.given later in
     let st = subst (IsStack (of_pieces shape) c.args.from c.args.to nodes i) (sym c.self.view_is) c.requires.stands in
-    let sound = subst (AreSound (of_pieces shape) c.args.from c.args.to (reach_before nodes i)) (sym c.deref.ensures.value) st.sound in
     stack_on (of_pieces shape) c.args.from c.args.to nodes i (children n) old new y c.requires.inside given
     (subst (λ k. IsSound (of_pieces shape) c.args.from c.args.to k y) (sym (sum_on own_reach nodes i n c.node-next.ensures.node))
-    (c.in-Ok.ensures.sound (reach_before nodes i) sound)) st
+    (c.in-Ok.ensures.sound (reach_before nodes i) st.sound)) st
 
 pub returns-else-is_err-clause-told : goal.returns-else-is_err-clause-told
 returns-else-is_err-clause-told g c s over was =
@@ -70,9 +72,10 @@ returns-else-is_err-clause-told g c s over was =
     let order = c.len.ensures.well_formed.nodes.post_order in
     let st = subst (TellsStack (of_pieces shape) nodes s i) (sym c.self.view_is) was in
     let count = ap length c.self.view_is ∙ c.requires.stands.count in
-    let given : AreGivenUp (of_pieces shape) c.args.from c.args.to (children n) (old ++ y ∷ []) new =
+    let mid = c.of_next.new.done.items in
+    let later : AreGivenUp (of_pieces shape) c.args.from c.args.to (children n) (mid ++ y ∷ []) new =
     search (rules, c.keep.ensures, c.if-is_err.false, c.is_err.ensures) in
-    let before = subst (TellAt (of_pieces shape) s (kept nodes i)) (sym c.deref.ensures.value) st.told in
+    let given = given_in_all (of_pieces shape) c.args.from c.args.to (children n) old mid new y c.in-Ok.ensures.given later in
     let same : tree_of (kept nodes i) i n ≡ subformula nodes i =
     kept_agrees nodes i order n c.node-next.ensures.node ∙ sym c.node-next.ensures.subformula in
     stack_next (of_pieces shape) nodes s c.args.from c.args.to i n old new y (record {
@@ -81,7 +84,7 @@ returns-else-is_err-clause-told g c s over was =
       count = count;
       over = over;
       given = given;
-      own = subst (λ t. TellsValue (of_pieces shape) s t y) same (c.in-Ok.ensures.told s (kept nodes i) i over before);
+      own = subst (λ t. TellsValue (of_pieces shape) s t y) same (c.in-Ok.ensures.told s (kept nodes i) i over st.told);
     }) st
 
 pub returns-in-Err-clause-wide : goal.returns-in-Err-clause-wide
@@ -90,8 +93,7 @@ returns-in-Err-clause-wide g c s over was =
     let nodes = c.args.formula.now.nodes in
     let i = c.args.i in
     let n = c.node-next.result.now in
-    let before = subst (TellAt (of_pieces shape) s (kept nodes i)) (sym c.deref.ensures.value)
-    (subst (TellsStack (of_pieces shape) nodes s i) (sym c.self.view_is) was).told in
+    let before = (subst (TellsStack (of_pieces shape) nodes s i) (sym c.self.view_is) was).told in
     let same : tree_of (kept nodes i) i n ≡ subformula nodes i =
     kept_agrees nodes i c.len.ensures.well_formed.nodes.post_order n c.node-next.ensures.node ∙ sym c.node-next.ensures.subformula in
     subst (IsFault shape nodes s) (sym c.at_node.ensures)
