@@ -2,20 +2,19 @@
 use Rattle.std.proofs.Common.{refl, ap, ◌∙◌, ℕ, List, [], ◌∷◌, ◌++◌, codes}
 use Rattle.std.specs.Prelude.{if◌then◌else◌}
 use Rattle.rational.specs.Time.{Rational, ◌≈◌, BeginAlike, EndAlike}
-use Rattle.rational.specs.Extended.{Extended, minus_infinity, finite, infinity, ◌≈ᵉ◌}
 use Rattle.rational.proofs.Order.{same_sym, same_trans}
-use Rattle.rational.proofs.AffineLemmas.{same_of_finite}
 use Rattle.frac128.specs.Spans.{interval}
 use Rattle.frac128.specs.declared.span.Span.{Span}
 use Rattle.stl_syntax.specs.Formula.{Formula}
 use Rattle.stl_syntax.specs.Knots.{Knot, Piece, Knots}
 use Rattle.stl_syntax.specs.Verdicts.{AreAlike, KnotsAlike, PiecesAlike}
-use Rattle.stl_syntax.specs.Texts.{IsNumberText, IsValueText, bool_text, IsSpanText, newline}
+use Rattle.stl_syntax.specs.Texts.{IsNumberText, bool_text, IsSpanText, newline}
 use Rattle.stl_syntax.specs.Texts.{AreVerdictLines, IsKnotLine, ArePieceLines, AreMarginLines}
 use Rattle.stl_syntax.specs.declared.scale.Scale.{Scale}
 use Rattle.stl_syntax.specs.declared.items.Verdict.{Verdict}
 use Rattle.stl_syntax.specs.declared.items.Item.{Item}
 use Rattle.serde_json.specs.Data.{Items}
+use Rattle.answer_lines.proofs.KeptTexts.{value_of_same}
 use Rattle.report.specs.Json.{AreItemData}
 use Rattle.report.specs.Table.{AreRecords, IsTableText}
 use Rattle.report.specs.Report.{AreItemLines}
@@ -23,15 +22,6 @@ use Rattle.report.specs.Report.{AreItemLines}
 -- a number has the text of each other pair of its value
 pub number_alike : (digits : ℕ) {t u : Rational} {x : List ℕ} → t ≈ u → IsNumberText digits t x → IsNumberText digits u x
 number_alike digits e a = record { num = a.num; den = a.den; lowest = a.lowest; same = same_trans (same_sym e) a.same; is = a.is }
-
-value_alike : (digits : ℕ) (v w : Extended) (x : List ℕ) → v ≈ᵉ w → IsValueText digits v x → IsValueText digits w x
-value_alike digits minus_infinity minus_infinity x e a = a
-value_alike digits (finite v) minus_infinity x e a = absurd e.at_most
-value_alike digits (finite v) (finite w) x e a = number_alike digits (same_of_finite e) a
-value_alike digits infinity minus_infinity x e a = absurd e.at_most
-value_alike digits infinity (finite w) x e a = absurd e.at_most
-value_alike digits infinity infinity x e a = a
-value_alike digits _ _ x e a = absurd e.at_least
 
 span_alike : (scale : Scale) (a b : Span) {x : List ℕ} → BeginAlike (interval a) (interval b) → EndAlike (interval a) (interval b)
     → IsSpanText scale a x → IsSpanText scale b x
@@ -59,7 +49,7 @@ verdict_lines_alike scale (v ∷ vs) (w ∷ ws) x (begin, end, holds, e) (here, 
 
 knot_alike : (scale : Scale) (k l : Knot) {x : List ℕ} → KnotsAlike k l → IsKnotLine scale k x → IsKnotLine scale l x
 knot_alike scale k l e (time, value, time_is, value_is, is) =
-    (time, value, number_alike scale.time e.time time_is, value_alike scale.value k.value l.value value e.value value_is, is)
+    (time, value, number_alike scale.time e.time time_is, value_of_same scale.value k.value l.value value e.value value_is, is)
 
 -- the first knots and all pieces of two lists are alike
 pub record AllAlike (k l : Knot) (ps qs : List Piece) : Type 0 where
@@ -84,8 +74,8 @@ pieces_alike scale k l (a ∷ ps) (b ∷ qs) x e (piece, knot, later, (s, t, fro
         to,
         number_alike scale.time e.first.time s_is,
         number_alike scale.time next.time t_is,
-        value_alike scale.value a.from b.from from f from_is,
-        value_alike scale.value a.to b.to to g to_is,
+        value_of_same scale.value a.from b.from from f from_is,
+        value_of_same scale.value a.to b.to to g to_is,
         piece_is,
       ),
       knot_alike scale a.next b.next next knot_is,
@@ -107,7 +97,7 @@ margin_lines_alike scale ks ls x e (first, later, first_is, rest, is) = (
 records_alike : (scale : Scale) (k l : Knot) (ps qs : List Piece) (xs : List (List (List ℕ))) → AllAlike k l ps qs
     → AreRecords scale k ps xs → AreRecords scale l qs xs
 records_alike scale k l [] [] xs e (time, value, time_is, value_is, is) =
-    (time, value, number_alike scale.time e.first.time time_is, value_alike scale.value k.value l.value value e.first.value value_is, is)
+    (time, value, number_alike scale.time e.first.time time_is, value_of_same scale.value k.value l.value value e.first.value value_is, is)
 records_alike scale k l [] (b ∷ qs) xs e h = absurd e.pieces
 records_alike scale k l (a ∷ ps) [] xs e h = absurd e.pieces
 records_alike scale k l (a ∷ ps) (b ∷ qs) xs e (time, value, from, to, later, time_is, value_is, from_is, to_is, rest, is) =
@@ -118,9 +108,9 @@ records_alike scale k l (a ∷ ps) (b ∷ qs) xs e (time, value, from, to, later
       to,
       later,
       number_alike scale.time e.first.time time_is,
-      value_alike scale.value k.value l.value value e.first.value value_is,
-      value_alike scale.value a.from b.from from f from_is,
-      value_alike scale.value a.to b.to to g to_is,
+      value_of_same scale.value k.value l.value value e.first.value value_is,
+      value_of_same scale.value a.from b.from from f from_is,
+      value_of_same scale.value a.to b.to to g to_is,
       records_alike scale a.next b.next ps qs later (record { first = next; pieces = more }) rest,
       is,
     )

@@ -49,7 +49,7 @@ told_at p tr (w ∷ vs) (suc i) v a e = told_at p tr vs i v a.1 e
 -- ---- knots
 
 -- a trace is close to itself
-close_to_itself : (tr : Trace) (p : Subformula) → AreClose (whole (pos 0)) tr tr p
+pub close_to_itself : (tr : Trace) (p : Subformula) → AreClose (whole (pos 0)) tr tr p
 close_to_itself tr (constant b) = tt
 close_to_itself tr (atom i a) = λ t w. record { low = record { le = omega arith }; high = record { le = omega arith } }
 close_to_itself tr (negation p) = close_to_itself tr p

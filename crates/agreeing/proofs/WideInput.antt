@@ -2,6 +2,7 @@
 use Rattle.std.proofs.Common.{◌≡◌, refl, sym, ap, subst, ◌∙◌, ℕ, Bool, true, false, Some, List, [], ◌∷◌, ◌++◌, append_assoc, append-nil}
 use Rattle.std.proofs.lemmas.Bool.{false≢true}
 use Rattle.std.proofs.lemmas.Option.{same_Some}
+use Rattle.rational.proofs.Lists.{append_some}
 use Rattle.stl_syntax.specs.Formula.{Formula}
 use Rattle.stl_syntax.specs.Trace.{Header, Row, Trace, Continues}
 use Rattle.trace_reader.specs.InputFaults.{AreRowsBefore, sound}
@@ -16,11 +17,7 @@ use Rattle.agreeing.proofs.WideLaw.{by_cause}
 -- a refusal at a row has rows
 has_rows : {f : Formula} {header : Header} {closed : Bool} {rows : List Row} {i den : ℕ} {text : List ℕ} → IsWideRows f header closed rows i den text
     → closed ≡ false → rows ≡ [] → ⊥
-has_rows (at_row before r cause told) c e = some before e
-  where
-    some : (before : List Row) → before ++ r ∷ [] ≡ [] → ⊥
-    some [] e = cc
-    some (q ∷ before) e = cc
+has_rows (at_row before r cause told) c e = append_some before (r ∷ []) (λ k. cc) e
 has_rows (at_end cause told) c e = false≢true (sym c)
 
 module _ (f : Formula) (bytes more : List ℕ) (ended : Bool) (i den : ℕ) (text : List ℕ) (tr : Trace)

@@ -19,7 +19,7 @@ use Rattle.stl_syntax.specs.Scaling.{scaled}
 use Rattle.stl_syntax.specs.SupInf.{Setting, SupInf, margin_setting}
 use Rattle.stl_syntax.specs.WideCause.{negative, IsInPlayAt, IsCrossingCause, IsValueCause}
 use Rattle.stl_syntax.specs.declared.node.Node.{Node}
-use Rattle.stl_syntax.specs.declared.node.Node.TheVariants.{Const, Atom as Leaf, Not, And, Or, Implies, Until, Eventually, Always, Since, Once, Historically}
+use Rattle.stl_syntax.specs.declared.node.Node.TheVariants.{Until, Since}
 use Rattle.online_nodes.specs.StreamedWide.{IsUnstreamed, front_at, IsSettledConstant}
 use Rattle.trace_stream.specs.Streams.{margins, HasStream}
 use Rattle.trace_stream.specs.Wides.{IsNeededByThen, IsWideRows, at_row, at_end}
@@ -45,18 +45,9 @@ tops_push [] t h k = (k, tt)
 tops_push (x ∷ trees) t h k = (h.0, tops_push trees t h.1 k)
 
 top_of : (at : ℕ → Subformula) (i : ℕ) (n : Node) → ¬ IsUnstreamed n → IsTop (tree_of at i n)
-top_of at i (Const b) h = tt
-top_of at i (Leaf a) h = tt
-top_of at i (Not p) h = tt
-top_of at i (And p q) h = tt
-top_of at i (Or p q) h = tt
-top_of at i (Implies p q) h = tt
 top_of at i (Until p q a b) h = absurd (h tt)
-top_of at i (Eventually p a b a_in b_in) h = tt
-top_of at i (Always p a b a_in b_in) h = tt
 top_of at i (Since p q a b) h = absurd (h tt)
-top_of at i (Once p a b a_in b_in) h = tt
-top_of at i (Historically p a b a_in b_in) h = tt
+top_of at i n h = tt
 
 tops_after : (trees : List Subformula) (nodes : List Node) → AreTops trees → ((i : ℕ) (n : Node) → slice_get nodes i ≡ Some n → ¬ IsUnstreamed n)
     → AreTops (trees_after trees nodes)

@@ -1,8 +1,8 @@
 -- What several commands answer to one input is of one content, and what streams answer joins to it.
-use Rattle.std.proofs.Common.{◌≡◌, ◌⊎◌, inl, inr, refl, sym, ap, subst, ◌∙◌, ℕ, Bool, true, List, ◌++◌, arith}
+use Rattle.std.proofs.Common.{◌≡◌, ◌⊎◌, inl, inr, refl, ap, subst, ◌∙◌, ℕ, Bool, true, List, ◌++◌, arith}
 use Rattle.rational.specs.Time.{Within}
 use Rattle.rational.proofs.Order.{le_refl}
-use Rattle.stl_syntax.specs.Formula.{Formula, root}
+use Rattle.stl_syntax.specs.Formula.{root}
 use Rattle.stl_syntax.specs.Trace.{Trace, start, stop}
 use Rattle.stl_syntax.specs.Texts.{start_line}
 use Rattle.stl_syntax.proofs.RowsLemmas.{first_to_last}
@@ -25,16 +25,13 @@ use Rattle.workbench.specs.Requests.{Stream, verdicts, early, margins}
 use Rattle.workbench.specs.Ended.{TellsTruth, IsAnsweredWhole, IsAnsweredByRow}
 use Rattle.promises.specs.SureLines.{IsCoverText}
 use Rattle.promises.specs.SureMargins.{IsMarginCover}
-use Rattle.promises.proofs.OwedLaws.{explain_owed_once, json_owed_once}
+use Rattle.promises.proofs.CompleteRuns.{truth_once}
+use Rattle.promises.proofs.OwedLaws.{whole_once, explain_owed_once, json_owed_once}
 use Rattle.promises.proofs.SureLines.{watch_text}
 use Rattle.promises.proofs.SureMargins.{margin_text}
 use Rattle.agreeing_inputs.specs.Answers.{AnswersHaveOneContent, WatchJoinsToCheck, RwatchJoinsToRobust, JudgesStart, JudgesStartByRow}
 use Rattle.agreeing_inputs.specs.Answers.{IsOneStatus, AnswersHaveOneStatus}
 use Rattle.agreeing_inputs.proofs.PartsLaw.{parts_join}
-
--- the bytes are those of one trace
-whole_once : (f : Formula) (bytes : List ℕ) (t u : Trace) → IsWhole whole_limits f bytes t → IsWhole whole_limits f bytes u → t ≡ u
-whole_once f bytes t u a b = Trace-unique bytes f.scale t u a.trace.text b.trace.text
 
 -- one content
 pub answers_have_one_content : AnswersHaveOneContent
@@ -103,13 +100,6 @@ rwatch_joins_to_robust f bytes watched measured status other a b =
       parts_join (root (nodes_for f b.tr)) b.tr (stop b.tr) (start b.tr) m.parts knots c.covers c.told described,
     )
 
--- a status that tells the truth at the start is one
-told_once : (f : Formula) (tr : Trace) (status other : ℕ) → TellsTruth f tr status → TellsTruth f tr other → status ≡ other
-told_once f tr status other (inl a) (inl b) = a.0 ∙ sym b.0
-told_once f tr status other (inl a) (inr b) = absurd (b.1 a.1)
-told_once f tr status other (inr a) (inl b) = absurd (a.1 b.1)
-told_once f tr status other (inr a) (inr b) = a.0 ∙ sym b.0
-
 -- one status
 pub answers_have_one_status : AnswersHaveOneStatus
 answers_have_one_status f bytes tr t = by_truth (truth_is_decided (root (nodes_for f tr)) tr (start tr) at_start)
@@ -122,16 +112,16 @@ answers_have_one_status f bytes tr t = by_truth (truth_is_decided (root (nodes_f
 
     whole : (status : ℕ) → TellsTruth f tr status → (command : Command) (text : List ℕ) (other : ℕ) → JudgesStart command
         → IsAnsweredWhole command f bytes other text → other ≡ status
-    whole status told check text other judges a = told_once f tr other status (moved a.tr other a.trace.trace.text a.verdict) told
+    whole status told check text other judges a = truth_once f tr other status (moved a.tr other a.trace.trace.text a.verdict) told
     whole status told robust text other judges a = absurd judges
-    whole status told explain text other judges a = told_once f tr other status (moved a.tr other a.trace.trace.text a.verdict) told
-    whole status told json text other judges a = told_once f tr other status (moved a.tr other a.trace.trace.text a.verdict) told
+    whole status told explain text other judges a = truth_once f tr other status (moved a.tr other a.trace.trace.text a.verdict) told
+    whole status told json text other judges a = truth_once f tr other status (moved a.tr other a.trace.trace.text a.verdict) told
     whole status told table text other judges a = absurd judges
 
     by_row : (status : ℕ) → TellsTruth f tr status → (stream : Stream) (text : List ℕ) (other : ℕ) → JudgesStartByRow stream
         → IsAnsweredByRow stream f bytes other text → other ≡ status
-    by_row status told verdicts text other judges a = told_once f tr other status (moved a.tr other a.trace.trace.text a.verdict) told
-    by_row status told early text other judges a = told_once f tr other status (moved a.tr other a.trace.trace.text a.verdict) told
+    by_row status told verdicts text other judges a = truth_once f tr other status (moved a.tr other a.trace.trace.text a.verdict) told
+    by_row status told early text other judges a = truth_once f tr other status (moved a.tr other a.trace.trace.text a.verdict) told
     by_row status told margins text other judges a = absurd judges
 
     by_truth : HoldsAtStart f tr ⊎ (¬ HoldsAtStart f tr) → (status : ℕ) × TellsTruth f tr status × IsOneStatus f bytes status

@@ -10,7 +10,7 @@ use Rattle.stl_syntax.specs.Trace.{Trace, start, stop, first_time}
 use Rattle.stl_syntax.specs.Formula.{Subformula, constant, negation, conjunction, disjunction}
 use Rattle.stl_syntax.specs.Formula.{implication, until, eventually, always, since, once, historically}
 use Rattle.stl_syntax.specs.Truth.{Truth}
-use Rattle.bounds.proofs.NearTimes.{Move, by, ahead, behind, one_before, one_after, Near, IsNear}
+use Rattle.bounds.proofs.NearTimes.{Move, by, ahead, behind, one_before, one_after, Near, IsNear, soon}
 use Rattle.bounds.proofs.NearTimes.{between, within_both, lt_by, pulled, pushed, clear_of, stays}
 use Rattle.bounds.proofs.MovedWindows.{InWindow, Ordered, Beside, moved_on, moved_back}
 
@@ -190,10 +190,6 @@ beside_after {u = u} L m = elim m.beside [ inl same ↦ subst (λ z. u ≤ʳ z) 
 module _ (tr : Trace) where
   abbrev s : ℕ
   s = first_time tr.rows
-
-  -- the times less than one earlier or later than t
-  abbrev pub soon : (t : Rational) → Near t
-  soon t = record { from = by t (behind 1); to = by t (ahead 1); before = one_before t; after = one_after t }
 
   -- a constant has one truth
   pub calm_constant : (b : Bool) (t : Rational) → Calm (constant b) tr t

@@ -1,5 +1,5 @@
 -- Open stretches about a time, and times that lie in them.
-use Rattle.std.proofs.Common.{ℕ, ◌+◌, ◌*◌, arith, inl, inr}
+use Rattle.std.proofs.Common.{ℕ, ◌+◌, ◌*◌, ◌≤◌, arith, inl, inr}
 use Rattle.std.specs.Prelude.{◌⊎◌}
 use Rattle.rational.specs.Time.{Rational, ◌≤ʳ◌, ◌<ʳ◌, ◌≈◌, Within}
 use Rattle.rational.proofs.Order.{le_refl, le_of_lt, lt_of_lt_of_le, lt_of_le_of_lt, le_or_lt, not_lt_of_le, lt_or_same_or_gt}
@@ -55,6 +55,10 @@ pub record IsNear {t : Rational} (n : Near t) (u : Rational) : Type 0 where
 -- what lies between two times of it does too
 pub between : {t : Rational} (n : Near t) {x y u : Rational} → IsNear n x → IsNear n y → x ≤ʳ u → u ≤ʳ y → IsNear n u
 between n p q h k = record { above = lt_of_lt_of_le p.above h; below = lt_of_le_of_lt k q.below }
+
+-- the times less than one earlier or later than t
+abbrev pub soon : (t : Rational) → Near t
+soon t = record { from = by t (behind 1); to = by t (ahead 1); before = one_before t; after = one_after t }
 
 -- a time is near itself
 pub itself : {t : Rational} (n : Near t) → IsNear n t
@@ -178,3 +182,11 @@ stays {S} {T} s e f g u v p q w = record {
 -- two times of it lie on one side
 pub side : {s t : Rational} (c : Clear s t) {u v : Rational} → IsNear c.near u → IsNear c.near v → (u <ʳ s) × (v <ʳ s) ⊎ (s <ʳ u) × (s <ʳ v)
 side c {u} {v} p q = elim c.side [ inl f ↦ inl (f u p, f v q) | inr f ↦ inr (f u p, f v q) ]
+
+-- t is no fraction with a denominator up to N
+abbrev pub IsRare : ℕ → Rational → Type 0
+IsRare N t = (v : Rational) → v.den ≤ N → ¬ (t ≈ v)
+
+-- such a time stays so when it is moved
+pub rare_by : (N : ℕ) (t : Rational) (k : Move) → IsRare N t → IsRare N (by t k)
+rare_by N t k r v few e = r (by v (back k)) few (record { same = omega (arith, e.same) })

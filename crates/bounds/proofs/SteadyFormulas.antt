@@ -5,8 +5,8 @@ use Rattle.std.specs.Prelude.{max}
 use Rattle.std.proofs.lemmas.Bool.{cases_lt}
 use Rattle.std.proofs.Math.Nat.{mul-le-mul_right, mul-lt-mul_of_pos_left, mul-pos}
 use Rattle.rational.specs.Rational.{middle}
-use Rattle.rational.specs.Time.{Rational, ◌≤ʳ◌, ◌<ʳ◌, later, left_open, Within, Precedes}
-use Rattle.rational.specs.Places.{begins, ends, Same}
+use Rattle.rational.specs.Time.{Rational, ◌≤ʳ◌, ◌<ʳ◌, later, left_open, Within}
+use Rattle.rational.specs.Places.{begins, ends}
 use Rattle.frac128.specs.Spans.{interval}
 use Rattle.rational.specs.Windows.{Ahead, Behind}
 use Rattle.rational.proofs.Order.{le_refl, le_of_lt, lt_of_lt_of_le, lt_of_le_of_lt, le_trans, lt_trans, le_or_lt, not_lt_of_le, left_of_middle}
@@ -17,15 +17,13 @@ use Rattle.stl_syntax.specs.Formula.{Subformula, horizon, constant, atom, negati
 use Rattle.stl_syntax.specs.Formula.{implication, until, eventually, always, since, once, historically}
 use Rattle.rational.proofs.PlaceLemmas.{same_places}
 use Rattle.stl_syntax.specs.Truth.{Truth}
-use Rattle.stl_syntax.specs.Verdicts.{Describes}
-use Rattle.stl_syntax.specs.declared.items.Verdict.{Verdict}
 use Rattle.online_nodes.specs.Truths.{Is, AllAre}
 use Rattle.online_nodes.proofs.Stretches.{some_verdict}
 use Rattle.online_nodes.proofs.ToldSoFar.{told_same, lead_describes}
-use Rattle.bounds.specs.Turns.{looks_back, far}
+use Rattle.bounds.specs.Turns.{looks_back}
 use Rattle.bounds.specs.Steady.{StaysOn, AtomsStay, SteadyAtomsKeepTruths, SteadyAtomsAnswerOnce}
 use Rattle.bounds.proofs.NearTimes.{by, behind}
-use Rattle.bounds.proofs.FormulaTurns.{left_max, right_max, near_far, low_part, high_part, low_behind}
+use Rattle.bounds.proofs.FormulaTurns.{left_max, right_max, low_part, high_part, low_behind}
 
 -- a time between two others
 mid : {x y : Rational} → x <ʳ y → (t : Rational) × (x <ʳ t) × (t <ʳ y)

@@ -10,6 +10,7 @@ use Rattle.frac128.specs.Value.{value}
 use Rattle.frac128.specs.Spans.{interval}
 use Rattle.stl_syntax.specs.Trace.{Trace}
 use Rattle.stl_syntax.specs.Formula.{Subformula}
+use Rattle.stl_syntax.specs.Truth.{Truth}
 use Rattle.stl_syntax.specs.Verdicts.{IsTold, GoesOn}
 use Rattle.stl_syntax.specs.declared.items.Verdict.{Verdict}
 use Rattle.bounds.specs.Turns.{Turns, AreTurns, VerdictsAreFew}
@@ -67,18 +68,24 @@ differ true false other a b f g = b (f a)
 differ false true other a b f g = a (g b)
 differ false false other a b f g = other refl
 
--- between two verdicts the truth turns
+-- where one interval ends and another begins, and they differ in the truth, it turns
+pub turns_between : (p : Subformula) (tr : Trace) (on next : Interval) (x y : Bool) → IsNotEmpty on → IsNotEmpty next → x ≢ y
+    → ((u : Rational) → IsIn on u → MatchBool x (Truth p tr u) (¬ Truth p tr u)) → ((u : Rational) → IsIn next u → MatchBool y (Truth p tr u) (¬ Truth p tr u))
+    → next.from ≈ on.to → Turns p tr on.to
+turns_between p tr on next x y some more apart f g e from to before after alike =
+    let n : Near on.to = record { from = from; to = to; before = before; after = after } in
+    let m : Near next.from =
+    record { from = from; to = to; before = lt_of_lt_of_le before (ge_of_same e); after = lt_of_le_of_lt (le_of_same e) after } in
+    let a = near_end on some n in
+    let b = near_begin next more m in
+    differ x y apart (f a.time a.inside) (g b.time b.inside) (alike a.time b.time a.near.above a.near.below b.near.above b.near.below)
+    (alike b.time a.time b.near.above b.near.below a.near.above a.near.below)
+
+-- so it turns between two verdicts
 pub turns_at : (p : Subformula) (tr : Trace) (v w : Verdict) → IsTold p tr v → IsTold p tr w → v.holds ≢ w.holds → value w.on.from ≈ value v.on.to
     → Turns p tr (value v.on.to)
-turns_at p tr v w told next apart e from to before after alike =
-    let n : Near (value v.on.to) = record { from = from; to = to; before = before; after = after } in
-    let m : Near (value w.on.from) =
-    record { from = from; to = to; before = lt_of_lt_of_le before (ge_of_same e); after = lt_of_le_of_lt (le_of_same e) after } in
-    let a = near_end (interval v.on) told.not_empty n in
-    let b = near_begin (interval w.on) next.not_empty m in
-    differ v.holds w.holds apart (told.truth a.time a.inside) (next.truth b.time b.inside)
-    (alike a.time b.time a.near.above a.near.below b.near.above b.near.below)
-    (alike b.time a.time b.near.above b.near.below a.near.above a.near.below)
+turns_at p tr v w told next apart e =
+    turns_between p tr (interval v.on) (interval w.on) v.holds w.holds told.not_empty next.not_empty apart told.truth next.truth e
 
 -- the ends of the verdicts but the last, of those whose end is in or of those whose end is out
 unfoldable pub with_end : Bool → Bool → Rational → List Rational → List Rational

@@ -5,7 +5,8 @@ use Rattle.rational.specs.Rational.{Rational}
 use Rattle.rational.specs.Places.{Place, After, Upto, Before}
 use Rattle.frac128.specs.Cuts.{place}
 use Rattle.growing_sets.specs.Spans.{IsOn, AreTidy, BeginsAfter, EndBefore, Grows}
-use Rattle.growing_sets.specs.Windows.{Sees, low_place, high_place}
+use Rattle.growing_sets.specs.Windows.{Sees}
+use Rattle.time_sets.specs.Parts.{low_place, high_place}
 use Rattle.growing_sets.specs.Steps.{BySome, HeldAt, SeesOnly, Tells, Gains}
 use Rattle.growing_sets.specs.Lasting.{SeesNone, SeesOnlyBy, BeginsFrom, IsRunTo}
 use Rattle.growing_sets.specs.declared.stretch.Stretch.{Stretch}

@@ -5,7 +5,8 @@ use Rattle.rational.specs.Time.{Rational, ◌≤ʳ◌}
 use Rattle.rational.specs.Places.{Place, After, Upto, Before}
 use Rattle.frac128.specs.Cuts.{place}
 use Rattle.growing_sets.specs.Spans.{Lies, IsOn, IsAmong, AreTidy, Grows}
-use Rattle.growing_sets.specs.Windows.{Sees, SeesPart, IsHeld, low_place, high_place}
+use Rattle.growing_sets.specs.Windows.{Sees, SeesPart, IsHeld}
+use Rattle.time_sets.specs.Parts.{low_place, high_place}
 use Rattle.growing_sets.specs.Steps.{BySome, HoldsFrom, Common, HeldAt, SeesOnly, SeesOne, Tells, Gains}
 use Rattle.growing_sets.specs.declared.stretch.Stretch.{Stretch}
 use Rattle.growing_sets.specs.declared.window.Window.{Window}

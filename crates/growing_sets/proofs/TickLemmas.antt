@@ -8,13 +8,13 @@ use Rattle.rational.proofs.Shift.{le_whole}
 use Rattle.rational.specs.Places.{Place, After, Upto, Before, Same}
 use Rattle.frac128.specs.Cuts.{place}
 use Rattle.growing_sets.specs.Spans.{Lies}
-use Rattle.growing_sets.specs.Windows.{low_place, high_place}
+use Rattle.time_sets.specs.Parts.{low_place, high_place}
 use Rattle.growing_sets.specs.Steps.{HoldsFrom}
 use Rattle.growing_sets.specs.declared.stretch.Stretch.{Stretch}
 use Rattle.growing_sets.specs.declared.window.Window.{Window}
 use Rattle.rational.proofs.PlaceLemmas.{sides, not_both, between, before_through, same_before, same_places, upto_earlier}
 use Rattle.rational.proofs.PlaceLemmas.{after_later}
-use Rattle.growing_sets.proofs.WindowLemmas.{room_in, room_out}
+use Rattle.time_sets.proofs.WindowPlaces.{room_in, room_out}
 
 -- the place just before a time comes before each place that the time does not lie after
 pub before_time : (c : Place) (t : Rational) → Upto c t → Before (record { at = t; after = false }) c

@@ -3,7 +3,8 @@ use Rattle.std.specs.Prelude.{◌⊎◌, List, MatchOption}
 use Rattle.rational.specs.Time.{Rational}
 use Rattle.rational.specs.Places.{Place, After, Upto, Before, AtMost}
 use Rattle.growing_sets.specs.Spans.{IsOn}
-use Rattle.growing_sets.specs.Windows.{Sees, low_place}
+use Rattle.growing_sets.specs.Windows.{Sees}
+use Rattle.time_sets.specs.Parts.{low_place}
 use Rattle.growing_sets.specs.declared.stretch.Stretch.{Stretch}
 use Rattle.growing_sets.specs.declared.window.Window.{Window}
 

@@ -3,7 +3,6 @@ pub mod Growing
 pub mod Joining
 pub mod Ending
 pub mod Listed
-pub mod Bounds
 pub mod Windows
 pub mod Steps
 pub mod Sure

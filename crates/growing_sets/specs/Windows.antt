@@ -1,18 +1,12 @@
 -- Windows of time: what they see from a time, and the times that see something.
-use Rattle.std.specs.Prelude.{◌⊎◌, Bool, not, ℤ, MatchOption, IfSome}
-use Rattle.rational.specs.Time.{Rational, add, whole}
+use Rattle.std.specs.Prelude.{◌⊎◌, MatchOption, IfSome}
+use Rattle.rational.specs.Time.{Rational}
 use Rattle.rational.specs.Places.{Place, After, Upto, Before}
 use Rattle.frac128.specs.Cuts.{place}
+use Rattle.time_sets.specs.Parts.{low_place, high_place}
 use Rattle.growing_sets.specs.Spans.{Lies}
 use Rattle.growing_sets.specs.declared.stretch.Stretch.{Stretch}
 use Rattle.growing_sets.specs.declared.window.Window.{Window}
-
--- where a window that begins k after a time, and one that ends k after it, has that end, in or out
-abbrev pub low_place : ℤ → Bool → Rational → Place
-low_place k inside t = record { at = add t (whole k); after = not inside }
-
-abbrev pub high_place : ℤ → Bool → Rational → Place
-high_place k inside t = record { at = add t (whole k); after = inside }
 
 -- u lies in the window from t
 pub record Sees (w : Window) (t u : Rational) : Type 0 where

@@ -1,7 +1,7 @@
 //! Windows of time, ahead or behind.
 ghost use Rattle.std.specs.Prelude.{◌≡◌, ◌≤◌, ◌<ℤ◌, ◌^◌, ◌⊎◌, ◌↔◌, unsigned_abs, IsTrue};
 ghost use lib.IntN.{neg_ℤ};
-ghost use Rattle.growing_sets.specs.Bounds.{reach_of};
+ghost use Rattle.time_sets.specs.Bounds.{reach_of};
 
 use frac128::Cut;
 
@@ -40,7 +40,8 @@ impl Window {
     ghost use Rattle.frac128.specs.Value.{value};
     ghost use Rattle.rational.specs.Places.{After, Before, Upto};
     ghost use Rattle.frac128.specs.Cuts.{place};
-    ghost use Rattle.growing_sets.specs.Windows.{Sees, high_place, low_place};
+    ghost use Rattle.growing_sets.specs.Windows.{Sees};
+    ghost use Rattle.time_sets.specs.Parts.{low_place, high_place};
 
     /// Whether no window has a time.
     pub fn is_never(&self) -> bool

@@ -1,6 +1,6 @@
 -- What each bench hears in what `mux` writes: the stream of its own lines.
 use Rattle.std.proofs.Common.{◌≡◌, ℕ, ◌+◌, Bool, true, false, cond, List, [], ◌∷◌, ◌++◌, length, refl, sym, ap, ◌∙◌, subst}
-use Rattle.std.specs.Prelude.{All, codes, bytes_eq, ◌||◌, ◌&&◌, ◌==◌}
+use Rattle.std.specs.Prelude.{All, codes, bytes_eq, ◌||◌, ◌==◌}
 use Rattle.std.proofs.lemmas.Bool.{false≢true, eqb-true}
 use Rattle.std.proofs.lemmas.List.Elements.{All-nil, All-cons, All-head, All-tail, All-append}
 use Rattle.std.proofs.lemmas.Slice.Eq.{bytes_eq-Decides}
@@ -12,9 +12,8 @@ use Rattle.stl_syntax.specs.declared.atom.Term.{Term}
 use Rattle.stl_syntax.specs.declared.node.Node.{Node}
 use Rattle.stl_syntax.specs.declared.node.Node.TheVariants.{Const, Atom as Leaf, Not, And, Or, Implies, Until, Eventually, Always, Since, Once, Historically}
 use Rattle.stl_syntax.proofs.CharacterLemmas.{begins_goes_on}
-use Rattle.stl_grammar.specs.Tokens.{IsToken, a_word, an_integer, a_decimal, at_least, at_most}
-use Rattle.stl_grammar.specs.Tokens.{above, below, paren, paren_end, bracket, bracket_end, a_comma}
-use Rattle.stl_grammar.specs.Tokens.{a_star, a_plus, a_minus, nothing as no_tokens, blank, token}
+use Rattle.stl_grammar.specs.Tokens.{IsToken, a_word}
+use Rattle.stl_grammar.specs.Tokens.{nothing as no_tokens, blank, token}
 use Rattle.stl_grammar.specs.Grammar.{top, Token, word, number, relation, open_paren, close_paren, star, plus, minus, Lexes}
 use Rattle.stl_grammar.specs.Grammar.{IsTerm, name, scaled, AreTerms, none, more_plus, more_minus, IsAtom, first, signed}
 use Rattle.stl_grammar.specs.Grammar.{IsFormula, IsDisjunct, IsConjunct, IsTimed, IsOperand, disjunct, implies}
@@ -33,7 +32,7 @@ use Rattle.session_mux.proofs.TagLemmas.{tag_is}
 use Rattle.session_laws.proofs.EndsSaid.{as_alone_to_its_end}
 use Rattle.session_mux.proofs.OneText.{text_alone_once}
 use Rattle.session_laws.proofs.SessionsSaid.{own_of_lines}
-use Rattle.session_laws.proofs.HearingLemmas.{hears_its_end}
+use Rattle.session_laws.proofs.HearingLemmas.{both_are, hears_its_end}
 use Rattle.session_laws.proofs.OwedLines.{tagged_lines_once}
 use Rattle.workbench.specs.Requests.{sessions}
 use Rattle.workbench.specs.Ended.{IsAnswered}
@@ -62,28 +61,11 @@ plain_byte c h = by_test (c == 10) refl
 
 plain_word : (w : List ℕ) → all goes_on_word w ≡ true → is_plain w ≡ true
 plain_word [] h = refl
-plain_word (c ∷ w) h = let (here, later) = both (goes_on_word c) (all goes_on_word w) h in rw (plain_byte c here) (plain_word w later)
-  where
-    both : (a b : Bool) → (a && b) ≡ true → (a ≡ true) × (b ≡ true)
-    both true b e = (refl, e)
-    both false b e = absurd (false≢true e)
+plain_word (c ∷ w) h = let (here, later) = both_are (goes_on_word c) (all goes_on_word w) h in rw (plain_byte c here) (plain_word w later)
 
 plain_token : {bytes text : List ℕ} {t : Token} → IsToken bytes text t → IsPlainToken t
 plain_token (a_word {c} {rest} begins goes stops) = plain_word (c ∷ rest) (rw (begins_goes_on c begins) goes)
-plain_token (an_integer d s b) = tt
-plain_token (a_decimal c ds d es p q s) = tt
-plain_token at_least = tt
-plain_token at_most = tt
-plain_token (above s) = tt
-plain_token (below s) = tt
-plain_token paren = tt
-plain_token paren_end = tt
-plain_token bracket = tt
-plain_token bracket_end = tt
-plain_token a_comma = tt
-plain_token a_star = tt
-plain_token a_plus = tt
-plain_token a_minus = tt
+plain_token other = tt
 
 plain_tokens : {text : List ℕ} {ts : List Token} → Lexes text ts → All IsPlainToken ts
 plain_tokens no_tokens = All-nil IsPlainToken
@@ -180,13 +162,15 @@ read_names text f is i j owner part at within =
 
 -- ---- tags
 
-have_tags : {all : List Line} {tagged : List Tagged} → AreTagged all tagged → HaveTags tagged
+-- what lines give has tags
+pub have_tags : {all : List Line} {tagged : List Tagged} → AreTagged all tagged → HaveTags tagged
 have_tags none_tagged = tt
 have_tags (unfinished w) = tt
 have_tags (blank_line w b more) = have_tags more
 have_tags (next {line = l} {x = x} w b is more) = (tag_is _ x is, have_tags more)
 
-is_a_tag : (t : List ℕ) (known : List (List ℕ)) (all : List Tagged) → HaveTags all → is_among t (tags_after known all) ≡ true → IsTag t
+-- a tag of them is one
+pub is_a_tag : (t : List ℕ) (known : List (List ℕ)) (all : List Tagged) → HaveTags all → is_among t (tags_after known all) ≡ true → IsTag t
 is_a_tag t known [] h a = absurd (false≢true a)
 is_a_tag t known (x ∷ all) h a = by_known (is_among x.tag known) (λ b. is_a_tag t known all h.1 b) (λ b. is_a_tag t (x.tag ∷ known) all h.1 b) a
   where

@@ -37,6 +37,13 @@ pub truth_status : (f : Formula) (tr : Trace) (status : ℕ) → TellsTruth f tr
 truth_status f tr status (inl h) = let a = h.0 in omega (arith, a)
 truth_status f tr status (inr h) = let a = h.0 in omega (arith, a)
 
+-- and one status
+pub truth_once : (f : Formula) (tr : Trace) (status other : ℕ) → TellsTruth f tr status → TellsTruth f tr other → status ≡ other
+truth_once f tr status other (inl a) (inl b) = a.0 ∙ sym b.0
+truth_once f tr status other (inl a) (inr b) = absurd (b.1 a.1)
+truth_once f tr status other (inr a) (inl b) = absurd (a.1 b.1)
+truth_once f tr status other (inr a) (inr b) = a.0 ∙ sym b.0
+
 -- the status of an answer is the command's own
 verdict_own : (c : Command) (f : Formula) (tr : Trace) (status : ℕ) → IsVerdict c f tr status → (status ≤ 1) × IsOwnStatus (whole c f) status
 verdict_own check f tr status v = let h = truth_status f tr status v in (h, inl h)

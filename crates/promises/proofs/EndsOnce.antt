@@ -5,7 +5,7 @@ use Rattle.io_edge.specs.Calls.{Drained, Filled, IsAskedOnce}
 use Rattle.stl_syntax.specs.Formula.{Formula}
 use Rattle.report.specs.Report.{Command}
 use Rattle.workbench.specs.Requests.{Request, no_form, refused, whole, stream, sessions, generated, Asks, has_input}
-use Rattle.workbench.specs.Ended.{none, bad, faulty, answered, wide, overfull, IsAnswered}
+use Rattle.workbench.specs.Ended.{faulty, answered, wide, overfull, IsAnswered}
 use Rattle.workbench.specs.Running.{IsEnd, by_itself, unread, unwritten, no_memory, HasEnded, asked, unknown, HasSaidItsEnd}
 use Rattle.promises.proofs.Due.{begun_sound}
 use Rattle.promises.proofs.OneRequest.{one_request}
@@ -25,15 +25,8 @@ answer_ended (generated n rows) bytes text ended status has is = absurd (let k =
 -- an answer came after the end
 small_end : (request : Request) (i : Drained) (o : Filled) (bytes text line : List ℕ) (status : ℕ) → has_input request ≡ true
     → status ≤ 1 → IsEnd request i o bytes text status line → i.ended ≡ true
-small_end request i o bytes text line _ has small (by_itself none) = absurd (omega (arith, small))
-small_end request i o bytes text line _ has small (by_itself bad) = absurd (omega (arith, small))
-small_end request i o bytes text line _ has small (by_itself (faulty fault prompt owed)) = absurd (omega (arith, small))
 small_end request i o bytes text line status has small (by_itself (answered is)) = answer_ended request bytes text i.ended status has is
-small_end request i o bytes text line _ has small (by_itself (wide n den is)) = absurd (omega (arith, small))
-small_end request i o bytes text line _ has small (by_itself (overfull n is)) = absurd (omega (arith, small))
-small_end request i o bytes text line _ has small (unread input ended failed sound owed) = absurd (omega (arith, small))
-small_end request i o bytes text line _ has small (unwritten rest some failed begun) = absurd (omega (arith, small))
-small_end request i o bytes text line _ has small (no_memory known begun) = absurd (omega (arith, small))
+small_end request i o bytes text line _ has small end = absurd (omega (arith, small))
 
 -- so did 6, 8 and 9 of a command that holds the trace
 whole_end : (c : Command) (f : Formula) (i : Drained) (o : Filled) (bytes text line : List ℕ) (status : ℕ)

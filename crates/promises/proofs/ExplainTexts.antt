@@ -1,9 +1,10 @@
 -- An explanation is one text.
-use Rattle.std.proofs.Common.{◌≡◌, inl, inr, ℕ, suc, Bool, true, false, List, [], ◌∷◌, ◌++◌, refl, sym, ap, subst, ◌∙◌, reverse, Some}
+use Rattle.std.proofs.Common.{◌≡◌, inl, inr, ℕ, suc, List, [], ◌∷◌, ◌++◌, sym, ap, subst, ◌∙◌, reverse, Some}
 use Rattle.std.specs.Prelude.{MatchBool, codes, slice_get}
 use Rattle.std.proofs.lemmas.List.{reverse-append}
 use Rattle.rational.specs.Time.{Interval}
 use Rattle.rational.proofs.Order.{same_sym, same_trans}
+use Rattle.rational.proofs.Tests.{one_truth as one_truth_at}
 use Rattle.frac128.specs.Spans.{interval}
 use Rattle.frac128.proofs.Wholes.{span_time}
 use Rattle.stl_syntax.specs.Trace.{Trace, start}
@@ -16,7 +17,7 @@ use Rattle.stl_syntax.specs.Texts.{newline, bool_text}
 use Rattle.stl_syntax.specs.declared.atom.Atom.{Atom}
 use Rattle.stl_syntax.specs.declared.items.Item.{Item}
 use Rattle.stl_syntax.specs.declared.node.Node.{Node}
-use Rattle.stl_syntax.specs.declared.node.Node.TheVariants.{Const, Atom as Leaf, Not, And, Or, Implies, Until, Eventually, Always, Since, Once, Historically}
+use Rattle.stl_syntax.specs.declared.node.Node.TheVariants.{Atom as Leaf}
 use Rattle.stl_syntax.specs.declared.scale.Scale.{Scale}
 use Rattle.stl_syntax.specs.Print.{IsAtomText}
 use Rattle.stl_syntax.proofs.PrintLaw.{one_printed}
@@ -77,15 +78,9 @@ module _ (nodes : List Node) (tr : Trace) where
   one_truth : (e g : Item) → e.node ≡ g.node → AreAlike (interval e.on) (interval g.on) → IsSo nodes tr e → IsSo nodes tr g → e.holds ≡ g.holds
   one_truth e g same on so also =
       let t = span_time e.on in
-      by_truth (Truth (subformula nodes e.node) tr t.0) e.holds g.holds (so t.0 t.1)
+      one_truth_at (Truth (subformula nodes e.node) tr t.0) e.holds g.holds (so t.0 t.1)
       (subst (λ (i : ℕ). MatchBool g.holds (Truth (subformula nodes i) tr t.0) (¬ Truth (subformula nodes i) tr t.0)) (sym same)
       (also t.0 (in_alike (interval e.on) (interval g.on) t.0 on t.1)))
-    where
-      by_truth : (P : Type 0) (a b : Bool) → MatchBool a P (¬ P) → MatchBool b P (¬ P) → a ≡ b
-      by_truth P true true h k = refl
-      by_truth P false false h k = refl
-      by_truth P true false h k = absurd (k h)
-      by_truth P false true h k = absurd (h k)
 
   items_same : (i : ℕ) (spans others : List Interval) (xs ys : List Item) → AreAllAlike spans others → ItemsOn nodes tr i spans xs
       → ItemsOn nodes tr i others ys → AreAllSame xs ys
@@ -111,17 +106,7 @@ module _ (nodes : List Node) (tr : Trace) where
       subst (λ zs. AreAllSame zs ys) (sym e) (subst (λ zs. AreAllSame (here ++ later) zs) (sym f)
       (same_both here there later after (items_same i (cells times) (cells others) here there
       (same_cells times others (cuts_are_same nodes tr i times others cuts slits)) on off) (cells_same (suc i) ns later after rest more)))
-  cells_same i (Const b ∷ ns) xs ys a c = cells_same (suc i) ns xs ys a c
-  cells_same i (Not p ∷ ns) xs ys a b = cells_same (suc i) ns xs ys a b
-  cells_same i (And p q ∷ ns) xs ys a b = cells_same (suc i) ns xs ys a b
-  cells_same i (Or p q ∷ ns) xs ys a b = cells_same (suc i) ns xs ys a b
-  cells_same i (Implies p q ∷ ns) xs ys a b = cells_same (suc i) ns xs ys a b
-  cells_same i (Until p q x y ∷ ns) xs ys a b = cells_same (suc i) ns xs ys a b
-  cells_same i (Eventually p x y c d ∷ ns) xs ys a b = cells_same (suc i) ns xs ys a b
-  cells_same i (Always p x y c d ∷ ns) xs ys a b = cells_same (suc i) ns xs ys a b
-  cells_same i (Since p q x y ∷ ns) xs ys a b = cells_same (suc i) ns xs ys a b
-  cells_same i (Once p x y c d ∷ ns) xs ys a b = cells_same (suc i) ns xs ys a b
-  cells_same i (Historically p x y c d ∷ ns) xs ys a b = cells_same (suc i) ns xs ys a b
+  cells_same i (n ∷ ns) xs ys a b = cells_same (suc i) ns xs ys a b
 
   -- what is certainly false without one cell is so without the same one
   fails_same : (p : Subformula) (xs ys before after : List Item) → AreAllSame xs ys → AreAllSame before after

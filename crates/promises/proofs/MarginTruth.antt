@@ -5,8 +5,7 @@ use Rattle.rational.specs.Extended.{Extended, finite, value_at, ◌<ᵉ◌, ◌�
 use Rattle.rational.proofs.Order.{le_refl, le_of_lt, le_of_same, ge_of_same, le_trans, same_sym, same_trans}
 use Rattle.rational.proofs.ExtendedLemmas.{lt_of_lt_of_leᵉ, lt_of_le_of_ltᵉ}
 use Rattle.rational.proofs.AffineLemmas.{same_symᵉ, same_transᵉ, affine_unique}
-use Rattle.stl_syntax.specs.Formula.{Formula, Subformula, root, constant, atom, negation, conjunction, disjunction}
-use Rattle.stl_syntax.specs.Formula.{implication, until, eventually, always, since, once, historically}
+use Rattle.stl_syntax.specs.Formula.{Formula, Subformula, root}
 use Rattle.stl_syntax.specs.Trace.{Trace, IsLike, start, stop}
 use Rattle.stl_syntax.specs.Truth.{Truth}
 use Rattle.stl_syntax.specs.Closeness.{AreClose}
@@ -18,23 +17,9 @@ use Rattle.stl_syntax.specs.Scaling.{nodes_for}
 use Rattle.report.specs.Report.{Command, robust, json, table}
 use Rattle.workbench.specs.Ended.{TellTruth, IsAnsweredWhole}
 use Rattle.promises.specs.Measured.{IsBelowSize, AreTrueKnots, HasKnots, IsMeasured}
+use Rattle.agreeing.proofs.SignLaw.{close_to_itself}
 use Rattle.workbench.specs.InputFaults.{whole_limits}
 use Rattle.trace_stream.specs.CaseReader.{IsWhole}
-
--- a trace is like itself, and close to itself
-close_to_itself : (tr : Trace) (p : Subformula) → AreClose (whole (pos 0)) tr tr p
-close_to_itself tr (constant b) = tt
-close_to_itself tr (atom i a) = λ t w. record { low = record { le = omega arith }; high = record { le = omega arith } }
-close_to_itself tr (negation p) = close_to_itself tr p
-close_to_itself tr (conjunction p q) = (close_to_itself tr p, close_to_itself tr q)
-close_to_itself tr (disjunction p q) = (close_to_itself tr p, close_to_itself tr q)
-close_to_itself tr (implication p q) = (close_to_itself tr p, close_to_itself tr q)
-close_to_itself tr (until a b p q) = (close_to_itself tr p, close_to_itself tr q)
-close_to_itself tr (eventually a b a_in b_in p) = close_to_itself tr p
-close_to_itself tr (always a b a_in b_in p) = close_to_itself tr p
-close_to_itself tr (since a b p q) = (close_to_itself tr p, close_to_itself tr q)
-close_to_itself tr (once a b a_in b_in p) = close_to_itself tr p
-close_to_itself tr (historically a b a_in b_in p) = close_to_itself tr p
 
 -- inside a piece there is one value
 pub one_inside : (k : Knot) (q : Piece) (t : Rational) (r v : Extended) → k.time <ʳ q.next.time → IsInside k q t r → IsInside k q t v → r ≈ᵉ v

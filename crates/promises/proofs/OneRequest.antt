@@ -87,14 +87,7 @@ asked_as words (generated n rows) a = as_made n rows a refl
 -- a text is refused with one line
 one_unserved : (j : Verb) (f : Formula) (i k : ℕ) → IsUnserved j f i → IsUnserved j f k → i ≡ k
 one_unserved word.rwatch f i k a b = one_first IsUnstreamed f.nodes i k a b
-one_unserved word.check f i k a b = absurd a
-one_unserved word.watch f i k a b = absurd a
-one_unserved word.robust f i k a b = absurd a
-one_unserved word.explain f i k a b = absurd a
-one_unserved word.json f i k a b = absurd a
-one_unserved word.table f i k a b = absurd a
-one_unserved word.early f i k a b = absurd a
-one_unserved word.mux f i k a b = absurd a
+one_unserved j f i k a b = absurd a
 
 one_line : (j : Verb) (text line other : List ℕ) → IsRefusal j text line → IsRefusal j text other → line ≡ other
 one_line j text line other (inl (r, fault, e)) (inl (q, fault', e')) = e ∙ ap formula_fault_text (one_refusal text r q fault fault') ∙ sym e'

@@ -79,10 +79,11 @@ begun_of_lines f bytes ended text rest all b owed = by_end b.seen_end b.at_end b
 -- ---- commands that hold the whole trace
 
 -- the bytes are those of one trace
-whole_once : (f : Formula) (bytes : List ℕ) (t u : Trace) → IsWhole whole_limits f bytes t → IsWhole whole_limits f bytes u → t ≡ u
+pub whole_once : (f : Formula) (bytes : List ℕ) (t u : Trace) → IsWhole whole_limits f bytes t → IsWhole whole_limits f bytes u → t ≡ u
 whole_once f bytes t u a b = Trace-unique bytes f.scale t u a.trace.text b.trace.text
 
-check_once : (f : Formula) (tr : Trace) (x y : List ℕ) → Out check f tr x → Out check f tr y → x ≡ y
+-- `check` writes one text
+pub check_once : (f : Formula) (tr : Trace) (x y : List ℕ) → Out check f tr x → Out check f tr y → x ≡ y
 check_once f tr x y (vs, body, line, a, lines, start, is) (ws, body', line', a', lines', start', is') =
     is ∙ ap (λ t. t ++ line) (verdicts_once tr.header.scale vs ws body body' (Describes-unique _ tr _ vs ws a a') lines lines')
     ∙ ap (λ t. body' ++ t) (start_once _ tr line line' start start') ∙ sym is'

@@ -1,7 +1,7 @@
 -- The lines of a stream of verdicts are the truth in each trace that goes on from the rows, and in the end they cover the trace.
-use Rattle.std.proofs.Common.{◌≡◌, refl, sym, ap, subst, ◌∙◌, ℕ, zero, suc}
-use Rattle.std.proofs.Common.{Bool, true, false, Option, Some, None, List, [], ◌∷◌, ◌++◌, ℤ, pos, ◌≤ℤ◌, arith}
-use Rattle.std.specs.Prelude.{MatchBool, int_lt, slice_get}
+use Rattle.std.proofs.Common.{◌≡◌, refl, sym, ap, subst, ◌∙◌, ℕ}
+use Rattle.std.proofs.Common.{Bool, true, false, Option, Some, None, List, [], ◌++◌, ℤ, pos, ◌≤ℤ◌, arith}
+use Rattle.std.specs.Prelude.{MatchBool, int_lt}
 use Rattle.std.proofs.lemmas.Int.{ints}
 use Rattle.rational.specs.Time.{whole, closed, left_open}
 use Rattle.rational.specs.Places.{Same}
@@ -11,7 +11,6 @@ use Rattle.rational.proofs.Tests.{one_truth, int_order}
 use Rattle.stl_syntax.specs.Trace.{Header, Row, Trace, first_time, start, stop}
 use Rattle.stl_syntax.specs.Formula.{Formula, Subformula, root}
 use Rattle.stl_syntax.specs.Truth.{Truth}
-use Rattle.stl_syntax.specs.Verdicts.{IsTold}
 use Rattle.stl_syntax.specs.Stream.{IsStretchText, IsNewText, IsStreamText}
 use Rattle.stl_syntax.specs.Texts.{AreVerdictLines}
 use Rattle.stl_syntax.specs.declared.items.Verdict.{Verdict}
@@ -22,6 +21,7 @@ use Rattle.online_nodes.proofs.ToldSoFar.{same_itself}
 use Rattle.online_nodes.proofs.EmittedLaw.{describes_tiles, tiles_append}
 use Rattle.stl_syntax.specs.Scaling.{nodes_for}
 use Rattle.answer_lines.proofs.Lines.{lines_join}
+use Rattle.agreeing.proofs.SignLaw.{told_at}
 use Rattle.workbench.specs.Requests.{verdicts}
 use Rattle.workbench.specs.Ended.{IsAnsweredByRow}
 use Rattle.promises.specs.SureLines.{AreSure, AreSureByRow, AreSureToEnd, IsCoverText, TellAlike, IsWatchText}
@@ -122,11 +122,6 @@ covered p header rows text (are, (during, rest, line, t, at_end, first, is)) =
     )
 
 -- ---- what `check` tells
-
-told_at : (p : Subformula) (tr : Trace) (vs : List Verdict) (i : ℕ) (v : Verdict) → AreTold p tr vs → slice_get vs i ≡ Some v → IsTold p tr v
-told_at p tr [] i v a e = absurd (let k = e in cc)
-told_at p tr (w ∷ vs) zero v a e = let same : w ≡ v = (let k = e in cc) in subst (λ (x : Verdict). IsTold p tr x) same a.0
-told_at p tr (w ∷ vs) (suc i) v a e = told_at p tr vs i v a.1 e
 
 tell_alike : (p : Subformula) (tr : Trace) (vs ws : List Verdict) → AreTold p tr vs → AreTold p tr ws → TellAlike vs ws
 tell_alike p tr vs ws a b = λ i j v w t e f x y.

@@ -1,15 +1,15 @@
 -- What a run may come to beside one over the same input that was refused for a denominator.
-use Rattle.std.proofs.Common.{◌≡◌, ◌≢◌, inl, ℕ, ◌≤◌, Bool, true, false, List, [], ◌++◌, refl, sym, ap, ◌∙◌, subst, arith}
+use Rattle.std.proofs.Common.{◌≡◌, ◌≢◌, inl, ℕ, Bool, true, false, List, [], ◌++◌, refl, sym, ap, ◌∙◌, subst, arith}
 use Rattle.std.proofs.lemmas.Bool.{false≢true}
 use Rattle.stl_syntax.specs.Formula.{Formula}
 use Rattle.stl_syntax.specs.Trace.{Trace}
-use Rattle.report.specs.Report.{Command, check, robust, explain, json, table}
+use Rattle.report.specs.Report.{Command}
 use Rattle.trace_reader.proofs.TraceRefusalLaw.{Trace-unique}
 use Rattle.workbench.specs.Requests.{Request, no_form, refused, whole, stream, sessions, generated, has_input}
-use Rattle.workbench.specs.Requests.{Stream, verdicts, early, margins}
+use Rattle.workbench.specs.Requests.{verdicts, early, margins}
 use Rattle.workbench.specs.Owed.{Owes, HasTooMany}
-use Rattle.workbench.specs.Ended.{IsVerdict, IsLastVerdict, IsAnswered, IsWide, IsWideWhole, HasFault, IsOverfull, EndsWith}
-use Rattle.promises.proofs.CompleteRuns.{truth_status}
+use Rattle.workbench.specs.Ended.{IsWide, IsWideWhole, HasFault, IsOverfull, EndsWith}
+use Rattle.promises.proofs.Due.{small_answer}
 use Rattle.promises.proofs.OneRequest.{one_request}
 use Rattle.run_laws.specs.OneAnswer.{IsFront, AreOnOneLine, IsBesideWide, wide_too, answered, faulty, BesideAWide}
 use Rattle.run_laws.proofs.FaultsOfAll.{all_read}
@@ -17,31 +17,10 @@ use Rattle.run_laws.proofs.Endings.{IsEnding, at_fault, answer, too_wide, too_fu
 use Rattle.run_laws.proofs.Fronts.{nil_front, before_wide}
 use Rattle.run_laws.proofs.OneEnding.{answer_is_owed}
 use Rattle.run_laws.proofs.OwnEnds.{HasOwnEnd, has_own_end, own_ending}
-use Rattle.run_laws.proofs.Unread.{none_end, bad_end, made_end}
+use Rattle.run_laws.proofs.NoInput.{none_end, bad_end, made_end}
 use Rattle.run_laws.proofs.Wides.{wides_on_one_line}
 
 -- ---- statuses
-
-verdict_small : (c : Command) (f : Formula) (tr : Trace) (n : ℕ) → IsVerdict c f tr n → n ≤ 1
-verdict_small check f tr n v = truth_status f tr n v
-verdict_small robust f tr n v = let e = v in omega (arith, e)
-verdict_small explain f tr n v = truth_status f tr n v
-verdict_small json f tr n v = truth_status f tr n v
-verdict_small table f tr n v = let e = v in omega (arith, e)
-
-last_small : (s : Stream) (f : Formula) (tr : Trace) (n : ℕ) → IsLastVerdict s f tr n → n ≤ 1
-last_small verdicts f tr n v = truth_status f tr n v
-last_small early f tr n v = truth_status f tr n v
-last_small margins f tr n v = let e = v in omega (arith, e)
-
--- an answer has status 0 or 1
-answer_small : (request : Request) (bytes text : List ℕ) (ended : Bool) (n : ℕ) → IsAnswered request bytes ended n text → n ≤ 1
-answer_small no_form bytes text ended n h = absurd h
-answer_small (refused l) bytes text ended n h = absurd h
-answer_small (whole c f) bytes text ended n (e, h) = verdict_small c f h.tr n h.verdict
-answer_small (stream s f) bytes text ended n (e, h) = last_small s f h.tr n h.verdict
-answer_small (sessions f) bytes text ended n h = let e = h.1 in omega (arith, e)
-answer_small (generated k rows) bytes text ended n h = let e = h.0 in omega (arith, e)
 
 -- a request without input is not refused for a denominator
 unread_not_wide : (request : Request) {read line text : List ℕ} {ended : Bool} {n : ℕ} → has_input request ≡ false → EndsWith read ended request n line text
@@ -68,7 +47,7 @@ record IsWideAt (request : Request) (bytes text : List ℕ) : Type 0 where
 
 wide_at : {request : Request} {bytes line text : List ℕ} {n : ℕ} → n ≡ 8 → IsEnding request bytes n line text → IsWideAt request bytes text
 wide_at e (at_fault h owed) = absurd (omega (arith, e))
-wide_at {request} {bytes} {text = text} {n = n} e (answer h) = let small = answer_small request bytes text true n h in absurd (omega (arith, e, small))
+wide_at {request} {bytes} {text = text} {n = n} e (answer h) = let small = small_answer request bytes text true n h in absurd (omega (arith, e, small))
 wide_at e (too_wide read left ended i den parts at h) =
     record { read = read; left = left; ended = ended; node = i; den = den; parts = parts; at = at; is = h }
 wide_at e (too_full count h) = absurd (omega (arith, e))
@@ -129,7 +108,7 @@ module _ (bytes text : List ℕ) where
       → IsEnding request bytes n line said → IsBesideWide request text n said
   beside request has w (at_fault {line = line} {text = said} h owed) = beside_fault request line said w h owed
   beside request has w (answer {status = n} {text = said} h) =
-      answered (answer_small request bytes said true n h) (wide_front request bytes text said w (answer_is_owed request bytes said n has h))
+      answered (small_answer request bytes said true n h) (wide_front request bytes text said w (answer_is_owed request bytes said n has h))
   beside request has w (too_wide read left ended i den {text = said} parts at h) =
       wide_too refl (both_wide request said w (record { read = read; left = left; ended = ended; node = i; den = den; parts = parts; at = at; is = h }))
   beside request has w (too_full count h) = absurd (not_full request count w h)

@@ -1,36 +1,34 @@
 -- The laws of a bench in a crowd.
-use Rattle.std.proofs.Common.{◌≡◌, ◌≢◌, ◌⊎◌, inl, inr, ℕ, Bool, true, false, cond, List, [], ◌∷◌, ◌++◌, refl, sym, ap, ◌∙◌, subst, arith}
+use Rattle.std.proofs.Common.{◌≡◌, ◌≢◌, ◌⊎◌, inl, inr, ℕ, Bool, true, false, List, [], ◌++◌, refl, sym, ap, ◌∙◌, subst, arith}
 use Rattle.std.proofs.Common.{append_assoc, append-nil, Some}
 use Rattle.std.specs.Io.KnownBytes.{IsAtEnd}
-use Rattle.std.specs.Prelude.{◌||◌, bytes_eq}
 use Rattle.std.proofs.lemmas.Bool.{false≢true}
-use Rattle.std.proofs.lemmas.Slice.Eq.{bytes_eq-Decides}
 use Rattle.io_edge.specs.Calls.{Drained, Filled}
 use Rattle.stl_syntax.specs.Characters.{is_among}
 use Rattle.stl_syntax.specs.Formula.{Formula}
 use Rattle.stl_grammar.specs.FormulaRefusals.{IsFormulaOf}
-use Rattle.trace_reader.specs.TraceText.{Line, lines}
+use Rattle.trace_reader.specs.TraceText.{lines}
 use Rattle.session_laws.specs.Hearing.{heard, HaveTags}
 use Rattle.session_mux.specs.Inputs.{InputFault, FaultOfInput, AreLinesBefore, sound, faulted, OwesLines}
 use Rattle.session_mux.specs.Saying.{texts}
-use Rattle.session_mux.specs.Sessions.{Tagged, IsTag, AreTagged, none, unfinished, blank, next, own, is_stopped, tags_after, Alone, AreAnswers, MuxText}
+use Rattle.session_mux.specs.Sessions.{Tagged, IsTag, AreTagged, own, is_stopped, tags_after, Alone, AreAnswers, MuxText}
 use Rattle.session_laws.proofs.HearingLemmas.{hears_what_is_said}
+use Rattle.session_laws.proofs.OwedLines.{answers_alone, lines_before_once, lines_before_grow}
 use Rattle.session_mux.proofs.OneText.{text_alone_once}
 use Rattle.session_laws.proofs.SessionsSaid.{as_alone}
-use Rattle.session_mux.proofs.TagLemmas.{tag_is}
 use Rattle.session_mux.proofs.TextLemmas.{EndsInFeed, alone_ends, texts_joined}
 use Rattle.workbench.specs.Requests.{Request, has_input, Asks, stream, sessions, verdicts}
 use Rattle.workbench.specs.Ended.{IsAnswered, faulty, answered, wide, overfull}
-use Rattle.workbench.specs.Running.{IsBegun, IsEnd, by_itself, unread, unwritten, no_memory, IsReadOut, IsRun}
-use Rattle.promises.proofs.BenchesHear.{hears_own_stream, hears_the_same, read_names}
+use Rattle.workbench.specs.Running.{IsBegun, IsEnd, by_itself, unread, unwritten, no_memory, IsRun}
+use Rattle.promises.proofs.BenchesHear.{have_tags, is_a_tag, hears_own_stream, hears_the_same, read_names}
 use Rattle.promises.proofs.CompleteRuns.{rest_of}
 use Rattle.promises.proofs.OneRequest.{one_request}
 use Rattle.run_laws.specs.OneAnswer.{IsOwn, IsFront}
 use Rattle.run_laws.specs.Crowd.{heard_whole, HearsItsOwnRun, OthersChangeNothing, HearsAFront}
 use Rattle.run_laws.proofs.Crowd.{watch_alone, alone_goes_on}
 use Rattle.run_laws.proofs.Endings.{IsEnding, at_fault, answer, too_wide, too_full}
-use Rattle.run_laws.proofs.FirstLines.{before_once, before_goes_on, own_grows, own_stays}
-use Rattle.run_laws.proofs.OwnEnds.{has_own_end, own_ending, HowEnded, known, starved, how_ended, seven}
+use Rattle.run_laws.proofs.FirstLines.{own_grows, own_stays}
+use Rattle.run_laws.proofs.OwnEnds.{has_own_end, own_ending, HowEnded, known, starved, how_ended, none_left_at_end}
 use Rattle.run_laws.proofs.WholeLines.{heard_first, heard_nothing}
 
 -- ---- runs of one request
@@ -73,29 +71,9 @@ others_change_nothing words asked f bytes also seen others t i j o e p g ask ask
 
 -- ---- tags
 
-have_tags : {all : List Line} {tagged : List Tagged} → AreTagged all tagged → HaveTags tagged
-have_tags none = tt
-have_tags (unfinished w) = tt
-have_tags (blank w b more) = have_tags more
-have_tags (next {x = x} w b is more) = (tag_is _ x is, have_tags more)
-
 before_tags : {bytes : List ℕ} {ended whole : Bool} {seen : List Tagged} → AreLinesBefore bytes ended seen whole → HaveTags seen
 before_tags (sound calm are) = have_tags are
 before_tags (faulted x fault are) = have_tags are
-
--- a tag of the lines is one
-is_tag : (t : List ℕ) (before : List (List ℕ)) (all : List Tagged) → HaveTags all → is_among t (tags_after before all) ≡ true → IsTag t
-is_tag t before [] h a = absurd (false≢true a)
-is_tag t before (x ∷ all) h a = by_before (is_among x.tag before) (λ b. is_tag t before all h.1 b) (λ b. is_tag t (x.tag ∷ before) all h.1 b) a
-  where
-    by_before : (k : Bool) → (is_among t (tags_after before all) ≡ true → IsTag t) → (is_among t (tags_after (x.tag ∷ before) all) ≡ true → IsTag t)
-        → is_among t (cond k (tags_after before all) (x.tag ∷ tags_after (x.tag ∷ before) all)) ≡ true → IsTag t
-    by_before true same more b = same b
-    by_before false same more b = by_tag (bytes_eq t x.tag) refl b
-      where
-        by_tag : (e : Bool) → bytes_eq t x.tag ≡ e → (e || is_among t (tags_after (x.tag ∷ before) all)) ≡ true → IsTag t
-        by_tag true e c = subst IsTag (sym ((bytes_eq-Decides t x.tag).0 e)) h.0
-        by_tag false e c = more c
 
 -- ---- a run that was cut short
 
@@ -182,12 +160,8 @@ module _ (formula : List ℕ) (f : Formula) (bytes : List ℕ) (seen : List Tagg
       → (ended ≡ true → beyond ≡ []) → AreLinesBefore bytes true seen w → AreLinesBefore first ended tagged whole → MuxText f tagged whole text
       → OwesLines f first ended text → HearsFront text
   of_owed {first} {beyond} {text} {w = w} {tagged = tagged} false e at all before m owed =
-      let (others, k) = before_goes_on first beyond before (subst (λ bs. AreLinesBefore bs true seen w) e all) in
-      of_answers tagged others text k (before_tags before) (answers_open before m)
-    where
-      answers_open : {whole : Bool} → AreLinesBefore first false tagged whole → MuxText f tagged whole text → AreAnswers f [] tagged text
-      answers_open (sound calm are) m = m
-      answers_open (faulted x fault are) m = m
+      let (others, k) = lines_before_grow first beyond true before (subst (λ bs. AreLinesBefore bs true seen w) e all) in
+      of_answers tagged others text k (before_tags before) (answers_alone f first text before m)
   of_owed {first} {beyond} {text} {w = w} {tagged = tagged} true e at all before m owed = by_fault here before m
     where
       same : first ≡ bytes
@@ -198,7 +172,7 @@ module _ (formula : List ℕ) (f : Formula) (bytes : List ℕ) (seen : List Tagg
 
       by_fault : {v whole : Bool} → AreLinesBefore first true seen v → AreLinesBefore first true tagged whole → MuxText f tagged whole text → HearsFront text
       by_fault mine (faulted x fault are) m =
-          of_answers tagged [] text (before_once mine (faulted x fault are) ∙ sym (append-nil tagged)) (have_tags are) m
+          of_answers tagged [] text ((lines_before_once first true mine (faulted x fault are)).0 ∙ sym (append-nil tagged)) (have_tags are) m
       by_fault (faulted x fault are) (sound calm also) m = absurd (calm x fault)
       by_fault (sound calm are) (sound quiet also) m =
           of_whole text (subst (λ bs. OwesLines f bs true text) same owed)
@@ -217,17 +191,13 @@ hears_a_front words alone f bytes seen whole t i j o e p g status other ask also
 
     of_part : IsOfFirst f bytes a.text → (later : List (List ℕ)) × (texts (b.text ++ b.line) ≡ heard_whole t a.text ++ later)
     of_part x =
-        let (said, heard_is, ends, (more, e)) = of_owed ask.text f bytes seen t (b.text ++ b.line) ask.is among (is_tag t [] seen (before_tags before) among)
+        let (said, heard_is, ends, (more, e)) = of_owed ask.text f bytes seen t (b.text ++ b.line) ask.is among (is_a_tag t [] seen (before_tags before) among)
         watched x.seen_end x.parts x.at_end before x.owed.before x.owed.is x.owed in
         let (later, first) = heard_first t a.text x.rest in (
           later ++ texts more,
           ap texts e ∙ texts_joined said more ends ∙ ap (λ ts. ts ++ texts more) (sym heard_is ∙ first)
               ∙ append_assoc (heard_whole t a.text) later (texts more),
         )
-
-    by_status : (status ≡ 7) ⊎ (status ≢ 7) → (status ≢ 7 → IsReadOut i) → i.ended ≡ true → IsAtEnd i.after
-    by_status (inl e) out said = truly e said
-    by_status (inr n) out said = (out n).none_left said
 
     by_end : HowEnded words i o a.bytes a.text status a.line → (later : List (List ℕ)) × (texts (b.text ++ b.line) ≡ heard_whole t a.text ++ later)
     by_end (starved none_written e) = nothing none_written
@@ -236,7 +206,7 @@ hears_a_front words alone f bytes seen whole t i j o e p g status other ask also
         let mine = subst (λ (q : Request). IsEnd q i o a.bytes a.text status a.line) same end in
         let (left, after, parts) = rest_of i.before i.after bytes a.bytes held a.moved in
         let at : i.ended ≡ true → left ≡ [] =
-        λ said. subst IsAtEnd after (by_status (seven status) (λ n. out n (ap has_input same)) said) in
+        λ said. subst IsAtEnd after (none_left_at_end truly (λ n. out n (ap has_input same)) said) in
         elim (of_first left at mine) [
           | inl none_written ↦ nothing none_written
           | inr x ↦ of_part (subst (λ bs. IsOfFirst f bs a.text) (sym parts) x)

@@ -16,7 +16,7 @@ use Rattle.promises.proofs.OwedLaws.{begun_of_all, begun_of_lines}
 use Rattle.run_laws.specs.OneAnswer.{IsFront}
 use Rattle.run_laws.proofs.Endings.{IsEnding, at_fault, answer, too_wide, too_full, ending_of_all}
 use Rattle.run_laws.proofs.OneEnding.{owed_once, answer_is_owed}
-use Rattle.run_laws.proofs.Unread.{made_end, summary_once, unread_once}
+use Rattle.run_laws.proofs.NoInput.{made_end, summary_once, unread_once}
 
 -- ---- texts
 

@@ -1,5 +1,5 @@
 -- The laws of runs.
-use Rattle.std.proofs.Common.{◌≡◌, ◌≢◌, ◌⊎◌, inl, inr, ℕ, Bool, true, false, List, ◌++◌, refl, sym, ap, ◌∙◌, subst}
+use Rattle.std.proofs.Common.{◌≡◌, ◌≢◌, ℕ, Bool, true, false, List, ◌++◌, refl, sym, ap, ◌∙◌, subst}
 use Rattle.std.proofs.Common.{[], append_assoc, append-nil, Some}
 use Rattle.std.proofs.lemmas.Bool.{false≢true}
 use Rattle.std.specs.Io.KnownBytes.{IsAtEnd}
@@ -15,8 +15,8 @@ use Rattle.run_laws.specs.OneAnswer.{FrontOfTheAnswer, FrontOfMore}
 use Rattle.run_laws.proofs.Endings.{IsEnding}
 use Rattle.run_laws.proofs.OneEnding.{AreOne, one_ending}
 use Rattle.run_laws.proofs.Fronts.{ending_is_owed, front_of_end, front_of_unread}
-use Rattle.run_laws.proofs.Unread.{unread_once}
-use Rattle.run_laws.proofs.OwnEnds.{HasOwnEnd, has_own_end, own_ending, HowEnded, known, starved, how_ended, seven}
+use Rattle.run_laws.proofs.NoInput.{unread_once}
+use Rattle.run_laws.proofs.OwnEnds.{HasOwnEnd, has_own_end, own_ending, HowEnded, known, starved, how_ended, none_left_at_end}
 
 module _ {words asked : List (List ℕ)} {i j : Drained} {o e p g : Filled} {status other : ℕ} (a : IsRun words i o e status) (b : IsRun asked j p g other)
     (narrow : status ≢ 8) (thin : other ≢ 8) where
@@ -96,15 +96,11 @@ module _ {words asked : List (List ℕ)} {i j : Drained} {o e p g : Filled} {sta
 pub front_of_the_answer : FrontOfTheAnswer
 front_of_the_answer request words asked i j o e p g status other ask also held a b truly own thin = of_any a b request ask also own thin with_input
   where
-    by_status : (status ≡ 7) ⊎ (status ≢ 7) → (status ≢ 7 → IsReadOut i) → i.ended ≡ true → IsAtEnd i.after
-    by_status (inl e) out said = truly e said
-    by_status (inr n) out said = (out n).none_left said
-
     with_input : has_input request ≡ true → (status ≢ 7 → IsReadOut i) → IsEnd request i o a.bytes a.text status a.line → IsFront a.text b.text
     with_input has out end =
         let h = held has in
         of_more a b request ask also own thin h.bytes [] h.first (subst (λ bs. j.before ≡ Some bs) (sym (append-nil h.bytes)) h.second) has
-        (λ left after said. append-nil left ∙ subst IsAtEnd after (by_status (seven status) out said)) end
+        (λ left after said. append-nil left ∙ subst IsAtEnd after (none_left_at_end truly out said)) end
 
 -- what a run wrote before the end of its source was known is the front of the answer to more
 pub front_of_more : FrontOfMore

@@ -2,7 +2,7 @@ pub mod FaultsOfAll
 pub mod LinesOfAll
 pub mod Endings
 pub mod OneEnding
-pub mod Unread
+pub mod NoInput
 pub mod OwnEnds
 pub mod Fronts
 pub mod LawProofs

@@ -1,5 +1,5 @@
 -- A request with input ends in one way, but for refusals for a denominator.
-use Rattle.std.proofs.Common.{◌≡◌, ◌≢◌, inl, inr, ℕ, true, false, List, [], refl, sym, ap, ◌∙◌, subst, Some}
+use Rattle.std.proofs.Common.{◌≡◌, ◌≢◌, ℕ, true, false, List, [], refl, sym, ap, ◌∙◌, subst, Some}
 use Rattle.stl_syntax.specs.Formula.{Formula}
 use Rattle.stl_syntax.specs.Kept.{most_cells}
 use Rattle.stl_syntax.specs.Trace.{Trace}
@@ -16,10 +16,11 @@ use Rattle.trace_stream.proofs.OwedRows.{stream_owed_once}
 use Rattle.trace_stream.specs.CaseReader.{IsWhole}
 use Rattle.session_laws.proofs.OwedLines.{input_fault_once, lines_owed_once}
 use Rattle.session_mux.specs.Inputs.{input_fault_text}
+use Rattle.promises.proofs.CompleteRuns.{truth_once}
 use Rattle.promises.proofs.OwedLaws.{check_owed_once, robust_owed_once, explain_owed_once, json_owed_once, table_owed_once}
 use Rattle.workbench.specs.Requests.{Request, no_form, refused, whole, stream, sessions, generated, has_input, Stream, verdicts, early, margins}
 use Rattle.workbench.specs.Owed.{limits_of, OwesAtEnd, at_end, Owes, HasTooMany}
-use Rattle.workbench.specs.Ended.{TellsTruth, IsVerdict, IsLastVerdict, HasFault, IsAnswered, IsOverfull}
+use Rattle.workbench.specs.Ended.{IsVerdict, IsLastVerdict, HasFault, IsAnswered, IsOverfull}
 use Rattle.command_line.specs.ErrTexts.{too_many_cells_text}
 use Rattle.run_laws.proofs.Endings.{IsEnding, at_fault, answer, too_wide, too_full}
 
@@ -81,12 +82,6 @@ answered_sound (sessions f) bytes text line status h (x, fault, is) = h.3 x faul
 answered_sound (generated n rows) bytes text line status h k = k
 
 -- ---- the status
-
-truth_once : (f : Formula) (tr : Trace) (m n : ℕ) → TellsTruth f tr m → TellsTruth f tr n → m ≡ n
-truth_once f tr m n (inl (e, h)) (inl (d, k)) = e ∙ sym d
-truth_once f tr m n (inl (e, h)) (inr (d, k)) = absurd (k h)
-truth_once f tr m n (inr (e, h)) (inl (d, k)) = absurd (h k)
-truth_once f tr m n (inr (e, h)) (inr (d, k)) = e ∙ sym d
 
 verdict_once : (c : Command) (f : Formula) (tr : Trace) (m n : ℕ) → IsVerdict c f tr m → IsVerdict c f tr n → m ≡ n
 verdict_once check f tr m n a b = truth_once f tr m n a b

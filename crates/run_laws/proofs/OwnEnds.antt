@@ -66,3 +66,8 @@ seven n = by_test (n == 7) refl
     by_test : (b : Bool) → (n == 7) ≡ b → (n ≡ 7) ⊎ (n ≢ 7)
     by_test true e = inl (eqb-true n 7 e)
     by_test false e = inr (λ same. false≢true (sym e ∙ eq-eqb n 7 same))
+
+-- nothing is left where the source said its end, where that is known of want of memory too
+pub none_left_at_end : {i : Drained} {status : ℕ} → (status ≡ 7 → i.ended ≡ true → IsAtEnd i.after) → (status ≢ 7 → IsReadOut i)
+    → i.ended ≡ true → IsAtEnd i.after
+none_left_at_end {status = status} truly out said = elim (seven status) [ inl e ↦ truly e said | inr n ↦ (out n).none_left said ]

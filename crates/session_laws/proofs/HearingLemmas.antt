@@ -19,7 +19,7 @@ use Rattle.session_mux.specs.Sessions.{Tagged, IsTag, is_tag_byte, is_query, own
 use Rattle.session_mux.specs.SessionsAlone.{is_of, IsAdded, AreSaidTo, AreSaidAtEnd}
 use Rattle.session_mux.specs.Saying.{texts}
 use Rattle.session_mux.proofs.TagLemmas.{bytes_of}
-use Rattle.session_mux.proofs.TextLemmas.{EndsInFeed, one_line, alone_ends, ends_tail, lines_joined, texts_joined}
+use Rattle.session_mux.proofs.TextLemmas.{EndsInFeed, one_line, alone_ends, ends_joined, ends_tail, lines_joined, texts_joined}
 use Rattle.session_laws.proofs.PlainTexts.{plain_both, plain_free, AreFree, IsSaid, AreSaid, lines_free, said_back, said_alone}
 
 -- ---- what a line says
@@ -29,35 +29,28 @@ begins_after : (front prefix line : List ℕ) → begins_with (front ++ prefix) 
 begins_after [] prefix line = refl
 begins_after (c ∷ front) prefix line = ap (λ b. b && begins_with (front ++ prefix) (front ++ line)) (eq-eqb c c refl) ∙ begins_after front prefix line
 
+-- both parts of what is true are
+pub both_are : (a b : Bool) → (a && b) ≡ true → (a ≡ true) × (b ≡ true)
+both_are true b e = (refl, e)
+both_are false b e = absurd (false≢true e)
+
 -- two tags, each with a space after it
 begins_apart : (t u prefix line : List ℕ) → all is_tag_byte t ≡ true → all is_tag_byte u ≡ true → t ≢ u
     → begins_with (t ++ 32 ∷ prefix) (u ++ 32 ∷ line) ≡ false
 begins_apart [] [] prefix line h k ne = absurd (ne refl)
 begins_apart [] (d ∷ u) prefix line h k ne = by_byte (32 == d) refl
   where
-    first_is : (b : Bool) → (b && all is_tag_byte u) ≡ true → b ≡ true
-    first_is true e = refl
-    first_is false e = absurd (false≢true e)
-
     by_byte : (b : Bool) → (32 == d) ≡ b → (b && begins_with prefix (u ++ 32 ∷ line)) ≡ false
     by_byte false e = refl
-    by_byte true e = absurd (false≢true (ap is_tag_byte (eqb-true 32 d e) ∙ first_is (is_tag_byte d) k))
+    by_byte true e = absurd (false≢true (ap is_tag_byte (eqb-true 32 d e) ∙ (both_are (is_tag_byte d) (all is_tag_byte u) k).0))
 begins_apart (c ∷ t) [] prefix line h k ne = by_byte (c == 32) refl
   where
-    first_is : (b : Bool) → (b && all is_tag_byte t) ≡ true → b ≡ true
-    first_is true e = refl
-    first_is false e = absurd (false≢true e)
-
     by_byte : (b : Bool) → (c == 32) ≡ b → (b && begins_with (t ++ 32 ∷ prefix) line) ≡ false
     by_byte false e = refl
-    by_byte true e = absurd (false≢true (ap is_tag_byte (sym (eqb-true c 32 e)) ∙ first_is (is_tag_byte c) h))
+    by_byte true e = absurd (false≢true (ap is_tag_byte (sym (eqb-true c 32 e)) ∙ (both_are (is_tag_byte c) (all is_tag_byte t) h).0))
 begins_apart (c ∷ t) (d ∷ u) prefix line h k ne = by_byte (c == d) refl
-    (begins_apart t u prefix line (rest_is (is_tag_byte c) (all is_tag_byte t) h) (rest_is (is_tag_byte d) (all is_tag_byte u) k))
+    (begins_apart t u prefix line (both_are (is_tag_byte c) (all is_tag_byte t) h).1 (both_are (is_tag_byte d) (all is_tag_byte u) k).1)
   where
-    rest_is : (a b : Bool) → (a && b) ≡ true → b ≡ true
-    rest_is true b e = e
-    rest_is false b e = absurd (false≢true e)
-
     by_byte : (b : Bool) → (c == d) ≡ b → (t ≢ u → begins_with (t ++ 32 ∷ prefix) (u ++ 32 ∷ line) ≡ false)
         → (b && begins_with (t ++ 32 ∷ prefix) (u ++ 32 ∷ line)) ≡ false
     by_byte false e rest = refl
@@ -110,11 +103,7 @@ plain_tag (c ∷ t) h = by_byte (c == 10) refl (is_tag_byte c) refl h (plain_tag
   where
     by_byte : (n : Bool) → (c == 10) ≡ n → (b : Bool) → is_tag_byte c ≡ b → (b && all is_tag_byte t) ≡ true
         → (all is_tag_byte t ≡ true → is_plain t ≡ true) → (not n && is_plain t) ≡ true
-    by_byte true e b k h rest = absurd (false≢true (ap is_tag_byte (sym (eqb-true c 10 e)) ∙ k ∙ first_is b h))
-      where
-        first_is : (b : Bool) → (b && all is_tag_byte t) ≡ true → b ≡ true
-        first_is true e = refl
-        first_is false e = absurd (false≢true e)
+    by_byte true e b k h rest = absurd (false≢true (ap is_tag_byte (sym (eqb-true c 10 e)) ∙ k ∙ (both_are b (all is_tag_byte t) h).0))
     by_byte false e true k h rest = rest h
     by_byte false e false k h rest = absurd (false≢true h)
 
@@ -254,17 +243,13 @@ module _ (f : Formula) (t : List ℕ) (names : HasPlainNames f) (is : IsTag t) w
       ∙ ap (λ w. w ++ heard t rest) here.0 ∙ ap (λ w. texts added ++ w) (heard_said (seen ++ x ∷ []) more rest later tags.1 on)
       ∙ sym (ap texts k ∙ texts_joined added later here.2)
 
-  both_end : (a b text : List ℕ) → EndsInFeed a → EndsInFeed b → text ≡ a ++ b → EndsInFeed text
-  both_end a b text p (inl e) k = subst (λ w. EndsInFeed w) (sym (k ∙ ap (λ w. a ++ w) e ∙ append-nil a)) p
-  both_end a b text p (inr (x, e)) k = inr (a ++ x, k ∙ ap (λ w. a ++ w) e ∙ sym (append_assoc a x newline))
-
   -- both are whole lines
   said_end : (seen more : List Tagged) (text said : List ℕ) → HaveTags more → AreSaidTo f t seen more text said → EndsInFeed text × EndsInFeed said
   said_end seen [] text said tags (e, k) = (inl e, inl k)
   said_end seen (x ∷ more) text said tags (answer, rest, added, later, a, h, on, e, k) =
       let here = heard_answer seen x answer added tags.0 a h in
       let others = said_end (seen ++ x ∷ []) more rest later tags.1 on in
-      (both_end answer rest text here.1 others.0 e, both_end added later said here.2 others.1 k)
+      (ends_joined answer rest text here.1 others.0 e, ends_joined added later said here.2 others.1 k)
 
   -- at the end
   heard_at_end : (all : List Tagged) (tags : List (List ℕ)) (text said : List ℕ) → AreTags tags

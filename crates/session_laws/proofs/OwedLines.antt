@@ -8,7 +8,6 @@ use Rattle.std.proofs.lemmas.List.Elements.{All-head, All-tail}
 use Rattle.stl_syntax.specs.Characters.{is_among}
 use Rattle.stl_syntax.specs.Formula.{Formula}
 use Rattle.trace_reader.specs.TraceText.{Line, lines, content, is_blank_line}
-use Rattle.trace_reader.specs.Feeds.{IsOpenLine}
 use Rattle.trace_reader.proofs.LineLemmas.{IsDone, rest}
 use Rattle.trace_reader.proofs.OpenLines.{Parts, parts, lines-now, open_line}
 use Rattle.answer_lines.proofs.StreamTexts.{IsLonger}
@@ -108,6 +107,7 @@ module _ (n : ℕ) (known : List (List ℕ)) (line : Line) (more : List Line) (x
       by_blank true e = beyond known (at_true (Later n known line more x) (InLine n known line more x) (is_blank_line line) e f)
       by_blank false e = place_of_line (at_false (Later n known line more x) (InLine n known line more x) (is_blank_line line) e f)
 
+-- a first fault is in one of the lines
 fault_place : (n : ℕ) (known : List (List ℕ)) (all : List Line) (x : InputFault) → FaultOfInput n known all x → IsWithin n all x
 fault_place n known [] x f = absurd f
 fault_place n known (l ∷ all) x f = first_place n known l all x (λ tags g. fault_place (suc n) tags all x g) f
@@ -235,7 +235,7 @@ mux_once f all true a b (during, rest, answers, ends, e) (during', rest', answer
 -- ---- what is owed
 
 -- the lines before the first fault are one list
-lines_before_once : (bytes : List ℕ) (ended : Bool) {a b : List Tagged} {v w : Bool} → AreLinesBefore bytes ended a v
+pub lines_before_once : (bytes : List ℕ) (ended : Bool) {a b : List Tagged} {v w : Bool} → AreLinesBefore bytes ended a v
     → AreLinesBefore bytes ended b w → (a ≡ b) × (v ≡ w)
 lines_before_once bytes ended {a} {b} (sound calm are) (sound quiet others) = (tagged_lines_once (lines ended bytes) a b are others, refl)
 lines_before_once bytes ended (sound calm are) (faulted y g others) = absurd (calm y g)
@@ -260,7 +260,7 @@ answers_of f all false text m = (text, [], m, sym (append-nil text))
 answers_of f all true text (during, rest, answers, ends, e) = (during, rest, answers, e)
 
 -- before the end it is that alone
-answers_alone : (f : Formula) (bytes : List ℕ) {all : List Tagged} {whole : Bool} (text : List ℕ)
+pub answers_alone : (f : Formula) (bytes : List ℕ) {all : List Tagged} {whole : Bool} (text : List ℕ)
     → AreLinesBefore bytes false all whole → MuxText f all whole text → AreAnswers f [] all text
 answers_alone f bytes text (sound calm are) m = m
 answers_alone f bytes text (faulted x g are) m = m
@@ -276,6 +276,18 @@ module _ (bytes more : List ℕ) (ended : Bool) (line : List ℕ) (p : Parts byt
 
   later_lines : lines ended (bytes ++ more) ≡ p.front ++ lines ended (line ++ more)
   later_lines = p.joins ended more
+
+  -- the lines before a fault of the first bytes are those of more bytes
+  pub lines_before : (x : InputFault) → FaultOfInput 1 [] (lines false bytes) x
+      → take (fault_line x - 1) (lines ended (bytes ++ more)) ≡ take (fault_line x - 1) (lines false bytes)
+  lines_before x f =
+      let place = (fault_place 1 [] (lines false bytes) x f).1 in
+      let size = ap length now in
+      let both = length-append p.front (rest false line) in
+      let one = short_rest line in
+      let within : fault_line x - 1 ≤ length p.front = omega (arith, place, size, both, one) in
+      ap (take (fault_line x - 1)) later_lines ∙ take-append-le (fault_line x - 1) p.front (lines ended (line ++ more)) within
+      ∙ sym (ap (take (fault_line x - 1)) now ∙ take-append-le (fault_line x - 1) p.front (rest false line) within)
 
   -- the lines that have ended give the first of them
   first_of : (all : List Line) (later : List Line) (a b : List Tagged) → AreTagged (lines false bytes) a → all ≡ p.front ++ later
@@ -299,31 +311,21 @@ module _ (bytes more : List ℕ) (ended : Bool) (line : List ℕ) (p : Parts byt
           (early_fault 1 [] p.front (lines ended (line ++ more)) (rest false line) y low (subst (λ ls. FaultOfInput 1 [] ls y) later_lines g)))
   tagged_grow (faulted x f are) (sound quiet others) = absurd (quiet x (input_fault_stays bytes more ended x f))
   tagged_grow {a} {b} (faulted x f are) (faulted y g others) =
-      let same = input_fault_once 1 [] (lines ended (bytes ++ more)) x y (input_fault_stays bytes more ended x f) g in
-      let place = (fault_place 1 [] (lines false bytes) x f).1 in
-      let size = ap length now in
-      let both = length-append p.front (rest false line) in
-      let one = short_rest line in
-      let within : fault_line x - 1 ≤ length p.front = omega (arith, place, size, both, one) in
-      let before : take (fault_line x - 1) (lines false bytes) ≡ take (fault_line x - 1) p.front =
-      ap (take (fault_line x - 1)) now ∙ take-append-le (fault_line x - 1) p.front (rest false line) within in
-      let after : take (fault_line y - 1) (lines ended (bytes ++ more)) ≡ take (fault_line x - 1) p.front =
-      ap (λ (z : InputFault). take (fault_line z - 1) (lines ended (bytes ++ more))) (sym same)
-      ∙ ap (take (fault_line x - 1)) later_lines ∙ take-append-le (fault_line x - 1) p.front (lines ended (line ++ more)) within in (
-        [],
-        tagged_lines_once (take (fault_line x - 1) p.front) b a (subst (λ ls. AreTagged ls b) after others)
-            (subst (λ ls. AreTagged ls a) before are) ∙ sym (append-nil a),
-      )
+      let here : AreLinesBefore (bytes ++ more) ended a false =
+      faulted x (input_fault_stays bytes more ended x f) (subst (λ ls. AreTagged ls a) (sym (lines_before x f)) are) in
+      ([], sym (lines_before_once (bytes ++ more) ended here (faulted y g others)).0 ∙ sym (append-nil a))
+
+-- those of the first bytes are the first of those of more bytes
+pub lines_before_grow : (bytes more : List ℕ) (ended : Bool) {a b : List Tagged} {v w : Bool} → AreLinesBefore bytes false a v
+    → AreLinesBefore (bytes ++ more) ended b w → (others : List Tagged) × (b ≡ a ++ others)
+lines_before_grow bytes more ended a b = let (line, o) = open_line bytes in tagged_grow bytes more ended line (parts o) a b
 
 -- and it is a front of what is owed for more bytes
 pub lines_owed_grow : (f : Formula) (bytes more : List ℕ) (ended : Bool) (x y : List ℕ) → OwesLines f bytes false x
     → OwesLines f (bytes ++ more) ended y → IsLonger x y
-lines_owed_grow f bytes more ended x y a b = by_line (open_line bytes)
-  where
-    by_line : ((line : List ℕ) × IsOpenLine bytes line) → IsLonger x y
-    by_line (line, o) =
-        let (others, same) = tagged_grow bytes more ended line (parts o) a.before b.before in
-        let (during, rest, answers, e) = answers_of f b.tagged b.whole y b.is in
-        let (short, beyond, are, k) = answers_split f [] a.tagged others during (subst (λ ts. AreAnswers f [] ts during) same answers) in
-        let one : short ≡ x = answers_once f [] a.tagged short x are (answers_alone f bytes x a.before a.is) in
-        (beyond ++ rest, e ∙ ap (λ t. t ++ rest) k ∙ append_assoc short beyond rest ∙ ap (λ t. t ++ (beyond ++ rest)) one)
+lines_owed_grow f bytes more ended x y a b =
+    let (others, same) = lines_before_grow bytes more ended a.before b.before in
+    let (during, rest, answers, e) = answers_of f b.tagged b.whole y b.is in
+    let (short, beyond, are, k) = answers_split f [] a.tagged others during (subst (λ ts. AreAnswers f [] ts during) same answers) in
+    let one : short ≡ x = answers_once f [] a.tagged short x are (answers_alone f bytes x a.before a.is) in
+    (beyond ++ rest, e ∙ ap (λ t. t ++ rest) k ∙ append_assoc short beyond rest ∙ ap (λ t. t ++ (beyond ++ rest)) one)

@@ -16,7 +16,8 @@ use Rattle.time_sets.specs.declared.turn.Turn.{Turn}
 use Rattle.time_sets.specs.declared.times.Times.{Times}
 use Rattle.time_sets.specs.declared.window.Window.{Window}
 use Rattle.time_sets.specs.declared.domain.Domain.{Domain}
-use Rattle.time_sets.proofs.WindowLemmas.{ends_past, meets_between, IsLast}
+use Rattle.time_sets.proofs.WindowPlaces.{ends_past}
+use Rattle.time_sets.proofs.WindowLemmas.{meets_between, IsLast}
 use Rattle.time_sets.proofs.SeeingLemmas.{regroup, bare_grown}
 
 not_true : (x : Bool) → x ≡ false → IsTrue x → ⊥

@@ -14,7 +14,8 @@ use Rattle.time_sets.specs.declared.turn.Turn.{Turn}
 use Rattle.time_sets.specs.declared.times.Times.{Times}
 use Rattle.time_sets.specs.declared.window.Window.{Window}
 use Rattle.time_sets.specs.declared.domain.Domain.{Domain}
-use Rattle.time_sets.proofs.WindowLemmas.{ends_past, meets_between, IsLast, sees_none}
+use Rattle.time_sets.proofs.WindowPlaces.{ends_past}
+use Rattle.time_sets.proofs.WindowLemmas.{meets_between, IsLast, sees_none}
 
 not_true : (x : Bool) → x ≡ false → IsTrue x → ⊥
 not_true x e h = false≢true (sym e ∙ h)

@@ -3,7 +3,7 @@ use Rattle.std.proofs.Common.{ℕ, ◌+◌, ◌*◌, ◌<◌, ◌≤◌, Bool, t
 use Rattle.std.proofs.Math.Nat.{mul-pos, mul-le-mul_left, le_of_mul-le-mul_left, mul-lt-mul_of_pos_left, lt_of_mul-lt-mul_left}
 use Rattle.rational.specs.Time.{Rational, ◌≤ʳ◌, ◌<ʳ◌, ◌≈◌, Within, Precedes, later}
 use Rattle.rational.proofs.Order.{same_of_le, le_of_same, ge_of_same, same_sym, same_trans, lt_of_le_of_lt, lt_of_lt_of_le}
-use Rattle.unit_laws.proofs.NearTimes.{Move}
+use Rattle.bounds.proofs.NearTimes.{Move}
 
 -- what the clock shows at t
 abbrev pub clock : ℕ → Move → Rational → Rational

@@ -14,7 +14,7 @@ use Rattle.stl_syntax.specs.Scaling.{nodes_for}
 use Rattle.report.specs.Report.{Out, check}
 use Rattle.answer_lines.proofs.KeptTexts.{number_of_same}
 use Rattle.unit_laws.specs.Units.{finer, LawOfUnits, TruthTurnsAtFractions}
-use Rattle.unit_laws.proofs.NearTimes.{ahead}
+use Rattle.bounds.proofs.NearTimes.{ahead}
 use Rattle.unit_laws.proofs.Clocks.{unclock}
 use Rattle.unit_laws.proofs.FinerTrees.{root_finer}
 use Rattle.unit_laws.proofs.FinerRows.{some_power, finer_counts}
@@ -64,7 +64,7 @@ module _ (f : Formula) (tr : Trace) (k m : ℕ) (formed : IsWellFormed f) (ok : 
   tree = root (nodes_for f tr)
 
   atoms_calm : HasCalmAtoms (2 ^ 31) tr tree
-  atoms_calm = root_calm tr ok range _ _ f.nodes formed.nodes.atoms
+  atoms_calm = root_calm tr range _ _ f.nodes formed.nodes.atoms
 
   -- what `check` writes in smaller ticks it writes in the trace's own
   pub check_came_from : (text : List ℕ) → Out check f (finer k m tr) text → Out check f tr text
@@ -93,7 +93,7 @@ law_of_units f tr k m formed ok range ft fv =
 -- truth turns at numbers that the program keeps
 pub truth_turns_at_fractions : TruthTurnsAtFractions
 truth_turns_at_fractions f tr t formed ok range rare =
-    let c = calm (2 ^ 31) (omega arith) tr (root (nodes_for f tr)) (root_calm tr ok range _ _ f.nodes formed.nodes.atoms) t rare in (
+    let c = calm (2 ^ 31) (omega arith) tr (root (nodes_for f tr)) (root_calm tr range _ _ f.nodes formed.nodes.atoms) t rare in (
       c.near.from,
       c.near.to,
       c.near.before,

@@ -15,8 +15,8 @@ use Rattle.stl_syntax.specs.Formula.{Subformula, subformula}
 use Rattle.stl_syntax.specs.Cells as cuts
 use Rattle.stl_syntax.specs.Cells.{IsChange, IsCut, root_start, first, last, change, moved}
 use Rattle.stl_syntax.specs.declared.node.Node.{Node}
-use Rattle.unit_laws.proofs.NearTimes.{Near, IsNear}
-use Rattle.unit_laws.proofs.CalmTruth.{IsRare, HasCalmAtoms, calm}
+use Rattle.bounds.proofs.NearTimes.{Near, IsNear, IsRare}
+use Rattle.unit_laws.proofs.CalmTruth.{HasCalmAtoms, calm}
 use Rattle.unit_laws.proofs.SmallFractions.{HasFrac, has_frac, has_whole, at_most_its_own}
 
 -- a distance from a time within which all lies in an open stretch about it

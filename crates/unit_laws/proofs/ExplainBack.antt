@@ -25,7 +25,7 @@ use Rattle.report.specs.Report.{Out, explain, json, Join, AreJoined, IsItemLines
 use Rattle.report.specs.Json.{AreItemData, AreVerdictData}
 use Rattle.answer_lines.proofs.KeptTexts.{number_of_same}
 use Rattle.unit_laws.specs.Units.{finer, ExplainIsOfUnits, JsonIsOfUnits}
-use Rattle.unit_laws.proofs.NearTimes.{Move, ahead}
+use Rattle.bounds.proofs.NearTimes.{Move, ahead}
 use Rattle.unit_laws.proofs.Clocks.{clock, unclock, clock_same, same_of_clock, unclock_same, unclock-clock, precedes_of_clock}
 use Rattle.unit_laws.proofs.CalmTruth.{HasCalmAtoms}
 use Rattle.unit_laws.proofs.CalmFormulas.{root_calm, subformula_calm}
@@ -234,7 +234,7 @@ module _ (f : Formula) (tr : Trace) (k m : ℕ) (formed : IsWellFormed f) (ok : 
   same = root_finer f tr.header.scale k m ft fv
 
   calms : (i : ℕ) → HasCalmAtoms (2 ^ 31) tr (subformula (nodes_for f tr) i)
-  calms i = subformula_calm tr ok range _ _ f.nodes i formed.nodes.atoms
+  calms i = subformula_calm tr range _ _ f.nodes i formed.nodes.atoms
 
   start_back_by : Truth (root (nodes_for f ur)) ur (start ur) → Truth tree tr (start tr)
   start_back_by h =
@@ -279,7 +279,7 @@ module _ (f : Formula) (tr : Trace) (k m : ℕ) (formed : IsWellFormed f) (ok : 
       let mp = some_power m in
       let c = finer_counts k m tr ok in
       let fine_told = subst (λ p. Describes verdicts p ur (closed (start ur) (stop ur))) same told in
-      let ends = has_ends (10 ^ k) (ahead 0) (10 ^ m) kp mp c tree (root_calm tr ok range _ _ f.nodes formed.nodes.atoms) verdicts fine_told in
+      let ends = has_ends (10 ^ k) (ahead 0) (10 ^ m) kp mp c tree (root_calm tr range _ _ f.nodes formed.nodes.atoms) verdicts fine_told in
       let (items, s, back) = explained_back items' explained in
       let change = from_clock (10 ^ k) (ahead 0) (10 ^ m) kp mp c tree in
       let (printed, entries, knot_entries, spans, printed_is, entries_are, knots_are, spans_are, object_is) = data_is in (

@@ -19,12 +19,13 @@ use Rattle.stl_syntax.specs.declared.node.Node.{Node}
 use Rattle.stl_syntax.specs.declared.node.Node.TheVariants.{Const, Until, Eventually, Always, Since, Once, Historically}
 use Rattle.stl_syntax.proofs.ScalingLemmas.{scaled_at}
 use Rattle.stl_syntax.proofs.TruthLemmas.{Truth-same}
-use Rattle.unit_laws.proofs.NearTimes.{Move}
+use Rattle.bounds.proofs.NearTimes.{Move}
 use Rattle.unit_laws.proofs.Multiples.{stretch, shrink, above-times, below-times}
 use Rattle.unit_laws.proofs.Clocks.{clock, unclock, clock_lt, clock_same, same_of_clock, clock-unclock, unclock-clock, unclock_lt, unclock_same}
 use Rattle.unit_laws.proofs.Recounts.{IsRecount}
 use Rattle.unit_laws.proofs.FinerTrees.{finer_tree, minus_times, subformula_by}
-use Rattle.unit_laws.proofs.FinerTruth.{AreEnds, ends, inside_by, inside_back, truth_by}
+use Rattle.unit_laws.proofs.ClockWindows.{AreEnds, inside_by, inside_back}
+use Rattle.unit_laws.proofs.FinerTruth.{ends, truth_by}
 
 -- ---- elements of a mapped list
 

@@ -3,7 +3,6 @@ use Rattle.std.proofs.Common.{◌≡◌, ℕ, ◌<◌, Bool, true, false, IsTrue
 use Rattle.std.specs.Prelude.{◌↔◌, IsFalse}
 use Rattle.std.proofs.lemmas.Bool.{false≢true}
 use Rattle.rational.specs.Time.{Rational}
-use Rattle.rational.specs.Windows.{Window}
 use Rattle.rational.proofs.Tests.{either}
 use Rattle.stl_syntax.specs.Trace.{Trace, start, stop}
 use Rattle.stl_syntax.specs.Formula.{Subformula, constant, atom, negation, conjunction, disjunction}
@@ -13,12 +12,13 @@ use Rattle.stl_syntax.specs.Kleene.{IsCovered, Must, MustNot}
 use Rattle.stl_syntax.specs.Scaling.{scaled_atom}
 use Rattle.stl_syntax.specs.declared.items.Item.{Item}
 use Rattle.stl_syntax.proofs.LawProofs.{certainty_is_of_times}
-use Rattle.unit_laws.proofs.NearTimes.{Move}
+use Rattle.bounds.proofs.NearTimes.{Move}
 use Rattle.unit_laws.proofs.Clocks.{clock}
 use Rattle.unit_laws.proofs.Recounts.{IsRecount, holds_by}
 use Rattle.unit_laws.proofs.FinerTrees.{finer_tree}
-use Rattle.unit_laws.proofs.FinerTruth.{AreEnds, ends}
-use Rattle.unit_laws.proofs.Shown.{Carries, AreShown, some_by, some_back, every_by, every_back, ahead_shown, behind_shown, up_by, down_by, up_or, down_or}
+use Rattle.unit_laws.proofs.ClockWindows.{AreEnds}
+use Rattle.unit_laws.proofs.FinerTruth.{ends}
+use Rattle.unit_laws.proofs.ByTheClock.{Carries, some_of, every_of, ahead_shown, behind_shown, until_of, since_of, up_or, down_or}
 
 not_true : (b : Bool) → ¬ (b ≡ true) → b ≡ false
 not_true true h = absurd (h refl)
@@ -54,14 +54,6 @@ module _ (K : ℕ) (o : Move) (M : ℕ) (kp : 0 < K) (mp : 0 < M) {tr ur : Trace
   the_ends : AreEnds K o (start tr) (stop tr) (start ur) (stop ur)
   the_ends = ends K o M kp mp c
 
-  -- some time of a window, and each
-  module _ {V W P Q : Window} (w : AreShown K o kp V W) (g : Carries K o kp P Q) where
-    some_of : ((u : Rational) × V u × P u) ↔ ((u : Rational) × W u × Q u)
-    some_of = (some_by K o kp w g, some_back K o kp w g)
-
-    every_of : ((u : Rational) → V u → P u) ↔ ((u : Rational) → W u → Q u)
-    every_of = (every_by K o kp w g, every_back K o kp w g)
-
   -- what is certain by the items is certain by the clock
   pub certain_by : (p : Subformula) (t : Rational) → IsCertainBy p t
   certain_by (constant b) t = record { must = (λ h. h, λ h. h); must_not = (λ h. h, λ h. h) }
@@ -91,31 +83,23 @@ module _ (K : ℕ) (o : Move) (M : ℕ) (kp : 0 < K) (mp : 0 < M) {tr ur : Trace
       }
   certain_by (eventually a b i j p) t =
       let w = ahead_shown K o kp the_ends a b i j t in
-      record { must = some_of w (must_carries p (λ u. certain_by p u)); must_not = every_of w (not_carries p (λ u. certain_by p u)) }
+      record { must = some_of K o kp w (must_carries p (λ u. certain_by p u)); must_not = every_of K o kp w (not_carries p (λ u. certain_by p u)) }
   certain_by (always a b i j p) t =
       let w = ahead_shown K o kp the_ends a b i j t in
-      record { must = every_of w (must_carries p (λ u. certain_by p u)); must_not = some_of w (not_carries p (λ u. certain_by p u)) }
+      record { must = every_of K o kp w (must_carries p (λ u. certain_by p u)); must_not = some_of K o kp w (not_carries p (λ u. certain_by p u)) }
   certain_by (once a b i j p) t =
       let w = behind_shown K o kp the_ends a b i j t in
-      record { must = some_of w (must_carries p (λ u. certain_by p u)); must_not = every_of w (not_carries p (λ u. certain_by p u)) }
+      record { must = some_of K o kp w (must_carries p (λ u. certain_by p u)); must_not = every_of K o kp w (not_carries p (λ u. certain_by p u)) }
   certain_by (historically a b i j p) t =
       let w = behind_shown K o kp the_ends a b i j t in
-      record { must = every_of w (must_carries p (λ u. certain_by p u)); must_not = some_of w (not_carries p (λ u. certain_by p u)) }
+      record { must = every_of K o kp w (must_carries p (λ u. certain_by p u)); must_not = some_of K o kp w (not_carries p (λ u. certain_by p u)) }
   certain_by (until a b p q) t =
-      let w = ahead_shown K o kp the_ends a b true true t in
-      let m = up_by K o kp (must_carries p (λ u. certain_by p u)) (must_carries q (λ u. certain_by q u)) t in record {
-        must = (
-          λ (u, k, h, f). let r = some_by K o kp w m (u, k, (h, f)) in (r.0, r.1, r.2.0, r.2.1),
-          λ (u, k, h, f). let r = some_back K o kp w m (u, k, (h, f)) in (r.0, r.1, r.2.0, r.2.1),
-        );
-        must_not = every_of w (up_or K o kp (not_carries p (λ u. certain_by p u)) (not_carries q (λ u. certain_by q u)) t);
+      let w = ahead_shown K o kp the_ends a b true true t in record {
+        must = until_of K o kp w (must_carries p (λ u. certain_by p u)) (must_carries q (λ u. certain_by q u)) t;
+        must_not = every_of K o kp w (up_or K o kp (not_carries p (λ u. certain_by p u)) (not_carries q (λ u. certain_by q u)) t);
       }
   certain_by (since a b p q) t =
-      let w = behind_shown K o kp the_ends a b true true t in
-      let m = down_by K o kp (must_carries p (λ u. certain_by p u)) (must_carries q (λ u. certain_by q u)) t in record {
-        must = (
-          λ (u, k, h, f). let r = some_by K o kp w m (u, k, (h, f)) in (r.0, r.1, r.2.0, r.2.1),
-          λ (u, k, h, f). let r = some_back K o kp w m (u, k, (h, f)) in (r.0, r.1, r.2.0, r.2.1),
-        );
-        must_not = every_of w (down_or K o kp (not_carries p (λ u. certain_by p u)) (not_carries q (λ u. certain_by q u)) t);
+      let w = behind_shown K o kp the_ends a b true true t in record {
+        must = since_of K o kp w (must_carries p (λ u. certain_by p u)) (must_carries q (λ u. certain_by q u)) t;
+        must_not = every_of K o kp w (down_or K o kp (not_carries p (λ u. certain_by p u)) (not_carries q (λ u. certain_by q u)) t);
       }

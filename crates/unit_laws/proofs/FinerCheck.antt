@@ -4,7 +4,7 @@ use Rattle.stl_syntax.specs.Formula.{root}
 use Rattle.stl_syntax.specs.Scaling.{nodes_for}
 use Rattle.report.specs.Report.{check}
 use Rattle.unit_laws.specs.Units.{finer, KeepsItsText}
-use Rattle.unit_laws.proofs.NearTimes.{ahead}
+use Rattle.bounds.proofs.NearTimes.{ahead}
 use Rattle.unit_laws.proofs.FinerTrees.{root_finer}
 use Rattle.unit_laws.proofs.FinerRows.{some_power, finer_counts}
 use Rattle.unit_laws.proofs.FinerVerdicts.{verdicts_by, verdicts_describe, start_line_by, verdict_lines_by}

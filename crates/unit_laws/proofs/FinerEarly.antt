@@ -13,7 +13,7 @@ use Rattle.stl_syntax.specs.Texts.{IsNumberText}
 use Rattle.stl_syntax.specs.declared.scale.Scale.{Scale}
 use Rattle.stl_syntax.proofs.SettledTimes.{settled_is_of_times}
 use Rattle.answer_lines.proofs.KeptTexts.{number_of_same}
-use Rattle.unit_laws.proofs.NearTimes.{ahead}
+use Rattle.bounds.proofs.NearTimes.{ahead}
 use Rattle.unit_laws.proofs.Clocks.{clock, unclock, unclock_same, unclock-clock}
 use Rattle.unit_laws.proofs.FinerTraces.{row_by, rows_counted}
 use Rattle.unit_laws.proofs.FinerVerdicts.{start_line_by}

@@ -14,7 +14,7 @@ use Rattle.stl_syntax.proofs.TruthLemmas.{Truth-same}
 use Rattle.stl_syntax.specs.Scaling.{nodes_for}
 use Rattle.report.specs.Report.{AreJoined, IsItemLines, AreItemLines, IsExplained, explain}
 use Rattle.unit_laws.specs.Units.{finer, KeepsItsText}
-use Rattle.unit_laws.proofs.NearTimes.{Move, ahead}
+use Rattle.bounds.proofs.NearTimes.{Move, ahead}
 use Rattle.unit_laws.proofs.Clocks.{clock_same, same_of_clock}
 use Rattle.unit_laws.proofs.FinerTrees.{finer_tree, root_finer, nodes_finer}
 use Rattle.unit_laws.proofs.FinerTruth.{truth_by}

@@ -17,9 +17,9 @@ use Rattle.stl_syntax.specs.Kept.{IsSo, ItemsOn, AllCells, KeptFrom, Kept}
 use Rattle.stl_syntax.specs.Scaling.{scaled_node}
 use Rattle.stl_syntax.specs.declared.items.Item.{Item}
 use Rattle.stl_syntax.specs.declared.node.Node.{Node}
-use Rattle.stl_syntax.specs.declared.node.Node.TheVariants.{Const, Atom as Leaf, Not, And, Or, Implies, Until, Eventually, Always, Since, Once, Historically}
+use Rattle.stl_syntax.specs.declared.node.Node.TheVariants.{Atom as Leaf}
 use Rattle.stl_syntax.proofs.LawProofs.{certainty_is_of_times}
-use Rattle.unit_laws.proofs.NearTimes.{Move}
+use Rattle.bounds.proofs.NearTimes.{Move}
 use Rattle.unit_laws.proofs.Clocks.{clock, unclock, clock_same, clock-unclock, unclock-clock, precedes_clock}
 use Rattle.unit_laws.proofs.Recounts.{IsRecount}
 use Rattle.unit_laws.proofs.FinerTrees.{finer_tree, subformula_by, root_by}
@@ -100,17 +100,7 @@ module _ (K : ℕ) (o : Move) (M : ℕ) (kp : 0 < K) (mp : 0 < M) {tr ur : Trace
     ap moved_items is ∙ map-append (item_by K o kp) here later,
     all_cells_by (suc i) rest later others,
   )
-  all_cells_by i (Const b ∷ rest) items h = all_cells_by (suc i) rest items h
-  all_cells_by i (Not p ∷ rest) items h = all_cells_by (suc i) rest items h
-  all_cells_by i (And p q ∷ rest) items h = all_cells_by (suc i) rest items h
-  all_cells_by i (Or p q ∷ rest) items h = all_cells_by (suc i) rest items h
-  all_cells_by i (Implies p q ∷ rest) items h = all_cells_by (suc i) rest items h
-  all_cells_by i (Until p q a b ∷ rest) items h = all_cells_by (suc i) rest items h
-  all_cells_by i (Eventually p a b a_in b_in ∷ rest) items h = all_cells_by (suc i) rest items h
-  all_cells_by i (Always p a b a_in b_in ∷ rest) items h = all_cells_by (suc i) rest items h
-  all_cells_by i (Since p q a b ∷ rest) items h = all_cells_by (suc i) rest items h
-  all_cells_by i (Once p a b a_in b_in ∷ rest) items h = all_cells_by (suc i) rest items h
-  all_cells_by i (Historically p a b a_in b_in ∷ rest) items h = all_cells_by (suc i) rest items h
+  all_cells_by i (n ∷ rest) items h = all_cells_by (suc i) rest items h
 
   module _ (p : Subformula) where
     abbrev q : Subformula

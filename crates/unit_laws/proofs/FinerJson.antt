@@ -10,7 +10,7 @@ use Rattle.stl_syntax.specs.Scaling.{nodes_for}
 use Rattle.report.specs.Report.{json}
 use Rattle.report.specs.Json.{AreVerdictData, AreItemData}
 use Rattle.unit_laws.specs.Units.{finer, KeepsItsText}
-use Rattle.unit_laws.proofs.NearTimes.{ahead}
+use Rattle.bounds.proofs.NearTimes.{ahead}
 use Rattle.unit_laws.proofs.FinerTrees.{root_finer}
 use Rattle.unit_laws.proofs.FinerRows.{some_power, finer_counts}
 use Rattle.unit_laws.proofs.FinerTexts.{time_text_by, value_text_by}

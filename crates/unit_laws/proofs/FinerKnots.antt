@@ -11,7 +11,7 @@ use Rattle.stl_syntax.specs.Formula.{Subformula}
 use Rattle.stl_syntax.specs.SupInf.{margin_setting}
 use Rattle.stl_syntax.proofs.TimeLaw.{SupInf-same}
 use Rattle.stl_syntax.proofs.SupInfLemmas.{value_alike}
-use Rattle.unit_laws.proofs.NearTimes.{Move}
+use Rattle.bounds.proofs.NearTimes.{Move}
 use Rattle.unit_laws.proofs.Clocks.{clock, unclock, clock_same, clock_lt, clock-unclock, unclock-clock, unclock_same, unclock_lt}
 use Rattle.unit_laws.proofs.Recounts.{IsRecount}
 use Rattle.unit_laws.proofs.FinerTrees.{finer_tree}

@@ -10,7 +10,7 @@ use Rattle.stl_syntax.specs.Knots.{Knot, Piece}
 use Rattle.stl_syntax.specs.Texts.{IsNumberText, IsValueText, ArePieceLines}
 use Rattle.stl_syntax.specs.declared.scale.Scale.{Scale}
 use Rattle.online_nodes.specs.MarginStream.{TellsLeftOpen, IsNewMargins, IsMarginStream}
-use Rattle.unit_laws.proofs.NearTimes.{ahead}
+use Rattle.bounds.proofs.NearTimes.{ahead}
 use Rattle.unit_laws.proofs.Clocks.{clock, unclock, clock_same, unclock_same, unclock-clock}
 use Rattle.unit_laws.proofs.FinerTraces.{rows_counted}
 use Rattle.unit_laws.proofs.FinerValues.{stretchᵉ, shrinkᵉ}

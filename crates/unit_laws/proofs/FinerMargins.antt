@@ -1,10 +1,10 @@
 -- The robustness by another clock.
-use Rattle.std.proofs.Common.{ℕ, ◌*◌, ◌<◌, Bool, true, false, sym, subst, Option}
+use Rattle.std.proofs.Common.{Bool, Option, ℕ, ◌*◌, ◌<◌, true, false, sym, subst}
 use Rattle.std.specs.Prelude.{◌↔◌, option_map}
 use Rattle.rational.specs.Time.{Rational, ◌≈◌, Within}
 use Rattle.rational.specs.Extended.{Extended, minus_infinity, finite, infinity, opposite, ◌≈ᵉ◌, IsLeast, IsGreatest}
 use Rattle.rational.specs.Windows.{Ahead, Behind, Function, Window, IsSupOver, IsInfOver, IsUpTo, IsDownTo}
-use Rattle.rational.proofs.Order.{same_sym, le_trans, le_of_same, ge_of_same}
+use Rattle.rational.proofs.Order.{same_sym}
 use Rattle.rational.proofs.Field.{same_negate}
 use Rattle.rational.proofs.AffineLemmas.{same_reflᵉ, same_symᵉ, same_transᵉ, finite_same, opposite_same}
 use Rattle.rational.proofs.Sups.{inf_value_same}
@@ -20,12 +20,13 @@ use Rattle.stl_syntax.specs.declared.rel.Rel.{Rel}
 use Rattle.stl_syntax.specs.declared.rel.Rel.TheVariants.{AtLeast, Above, AtMost, Below}
 use Rattle.stl_syntax.proofs.TimeLaw.{SupInf-same}
 use Rattle.stl_syntax.proofs.SupInfLemmas.{value_alike}
-use Rattle.unit_laws.proofs.NearTimes.{Move}
+use Rattle.bounds.proofs.NearTimes.{Move}
 use Rattle.unit_laws.proofs.Multiples.{stretch}
-use Rattle.unit_laws.proofs.Clocks.{clock, unclock, clock-unclock, within_clock, within_of_clock}
+use Rattle.unit_laws.proofs.Clocks.{clock, unclock, clock-unclock}
 use Rattle.unit_laws.proofs.Recounts.{IsRecount}
 use Rattle.unit_laws.proofs.FinerTrees.{finer_tree}
-use Rattle.unit_laws.proofs.FinerTruth.{ends, ahead_by, ahead_back, ahead_at, behind_by, behind_back, behind_at}
+use Rattle.unit_laws.proofs.ByTheClock.{AreShown, within_shown, ahead_shown, behind_shown}
+use Rattle.unit_laws.proofs.FinerTruth.{ends}
 use Rattle.unit_laws.proofs.FinerValues.{stretchᵉ, shrinkᵉ, opposite_stretch, stretch-shrinkᵉ, same_stretchᵉ}
 use Rattle.unit_laws.proofs.FinerValues.{same_backᵉ, least_by, least_back, greatest_by, greatest_back}
 use Rattle.unit_laws.proofs.FinerValues.{AreTimes, sup_by, sup_back, inf_by, inf_back}
@@ -47,12 +48,7 @@ module _ (K : ℕ) (o : Move) (M : ℕ) (kp : 0 < K) (mp : 0 < M) where
     times : (t u : Rational) (v : Extended) → t ≈ u → G t v → G u v
     values : (t : Rational) (v w : Extended) → v ≈ᵉ w → G t v → G t w
 
-  -- windows of the times by the clock
-  record AreFinerWindows (V W : Window) : Type 0 where
-    forth : (u : Rational) → V u → W (clock K o u)
-    back : (u : Rational) → W u → V (unclock K o kp u)
-
-  times_of : (V W : Window) (F G : Function) → AreFinerWindows V W → IsOfNumbers G → ((u : Rational) → V u → AreFiner F G u)
+  times_of : (V W : Window) (F G : Function) → AreShown K o kp V W → IsOfNumbers G → ((u : Rational) → V u → AreFiner F G u)
       → ((u : Rational) → u ≈ clock K o (unclock K o kp u))
       → AreTimes M mp (λ v. (u : Rational) × V u × F u v) (λ v. (u : Rational) × W u × G u v)
   times_of V W F G w g f same = record {
@@ -64,18 +60,6 @@ module _ (K : ℕ) (o : Move) (M : ℕ) (kp : 0 < K) (mp : 0 < M) where
           (same_symᵉ (stretchᵉ M (shrinkᵉ M mp v)) v (stretch-shrinkᵉ M mp v)) (g.times u (clock K o (unclock K o kp u)) v (same u) h)),
     );
   }
-
-  module _ (t u : Rational) where
-    stretches : AreFinerWindows (Within t u) (Within (clock K o t) (clock K o u))
-    stretches = record {
-      forth = λ v n. within_clock K o n;
-      back = λ v n. within_of_clock K o kp (at_part v n);
-    }
-      where
-        at_part : (v : Rational) → Within (clock K o t) (clock K o u) v → Within (clock K o t) (clock K o u) (clock K o (unclock K o kp v))
-        at_part v n =
-            let e = clock-unclock K o kp v in
-            record { above = le_trans n.above (ge_of_same e); below = le_trans (le_of_same e) n.below }
 
   part_same : (u : Rational) → u ≈ clock K o (unclock K o kp u)
   part_same u = same_sym (clock-unclock K o kp u)
@@ -89,7 +73,7 @@ module _ (K : ℕ) (o : Move) (M : ℕ) (kp : 0 < K) (mp : 0 < M) where
       stretchᵉ M x,
       stretchᵉ M y,
       g.forth x q,
-      inf_by M mp (times_of (Within a b) (Within (clock K o a) (clock K o b)) P P' (stretches a b) number f part_same) y i,
+      inf_by M mp (times_of (Within a b) (Within (clock K o a) (clock K o b)) P P' (within_shown K o kp a b) number f part_same) y i,
       least_by M x y v l,
     )
 
@@ -102,7 +86,7 @@ module _ (K : ℕ) (o : Move) (M : ℕ) (kp : 0 < K) (mp : 0 < M) where
           shrinkᵉ M mp x,
           shrinkᵉ M mp y,
           g.back (shrinkᵉ M mp x) (number'.values (clock K o u) x (stretchᵉ M (shrinkᵉ M mp x)) c q),
-          inf_back M mp (times_of (Within a b) (Within (clock K o a) (clock K o b)) P P' (stretches a b) number f part_same) (shrinkᵉ M mp y)
+          inf_back M mp (times_of (Within a b) (Within (clock K o a) (clock K o b)) P P' (within_shown K o kp a b) number f part_same) (shrinkᵉ M mp y)
               (inf_value_same y (stretchᵉ M (shrinkᵉ M mp y)) d i),
           least_back M mp (shrinkᵉ M mp x) (shrinkᵉ M mp y) v
               (least_same x (stretchᵉ M (shrinkᵉ M mp x)) y (stretchᵉ M (shrinkᵉ M mp y)) (stretchᵉ M v) (stretchᵉ M v) c d (same_reflᵉ (stretchᵉ M v)) l),
@@ -136,33 +120,30 @@ module _ (K : ℕ) (o : Move) (M : ℕ) (kp : 0 < K) (mp : 0 < M) where
       values = λ t v w e h. value_alike (finer_tree K M p) ur t v w e h;
     }
 
-    ahead_windows : (a b : ℕ) (i j : Bool) (t : Rational)
-        → AreFinerWindows (Ahead (start tr) (stop tr) a b i j t) (Ahead (start ur) (stop ur) (K * a) (K * b) i j (clock K o t))
-    ahead_windows a b i j t = record {
-      forth = λ u w. ahead_by K o kp (ends K o M kp mp c) w;
-      back = λ u w. ahead_back K o kp (ends K o M kp mp c) a b i j t (unclock K o kp u) (ahead_at (part_same u) w);
-    }
-
-    behind_windows : (a : ℕ) (b : Option ℕ) (i j : Bool) (t : Rational)
-        → AreFinerWindows (Behind (start tr) (stop tr) a b i j t)
-        (Behind (start ur) (stop ur) (K * a) (option_map (λ b. K * b) b) i j (clock K o t))
-    behind_windows a b i j t = record {
-      forth = λ u w. behind_by K o kp (ends K o M kp mp c) w;
-      back = λ u w. behind_back K o kp (ends K o M kp mp c) a b i j t (unclock K o kp u) (behind_at (part_same u) w);
-    }
-
     -- a value is M times its M-th part
     whole_of : (x : Extended) → x ≈ᵉ stretchᵉ M (shrinkᵉ M mp x)
     whole_of x = same_symᵉ (stretchᵉ M (shrinkᵉ M mp x)) x (stretch-shrinkᵉ M mp x)
 
     -- the Sup over a window, and the Inf
-    sup_finer : (V W : Window) (A B : Function) (t : Rational) → AreFinerWindows V W → IsOfNumbers B → ((u : Rational) → V u → AreFiner A B u) → (v : Extended)
+    sup_finer : {V W : Window} {A B : Function} → AreShown K o kp V W → IsOfNumbers B → ((u : Rational) → V u → AreFiner A B u) → (v : Extended)
         → IsSupOver minus_infinity V A v ↔ IsSupOver minus_infinity W B (stretchᵉ M v)
-    sup_finer V W A B t w n f v = let e = times_of V W A B w n f part_same in (sup_by M mp e v, sup_back M mp e v)
+    sup_finer {V} {W} {A} {B} w n f v = let e = times_of V W A B w n f part_same in (sup_by M mp e v, sup_back M mp e v)
 
-    inf_finer : (V W : Window) (A B : Function) (t : Rational) → AreFinerWindows V W → IsOfNumbers B → ((u : Rational) → V u → AreFiner A B u) → (v : Extended)
+    inf_finer : {V W : Window} {A B : Function} → AreShown K o kp V W → IsOfNumbers B → ((u : Rational) → V u → AreFiner A B u) → (v : Extended)
         → IsInfOver infinity V A v ↔ IsInfOver infinity W B (stretchᵉ M v)
-    inf_finer V W A B t w n f v = let e = times_of V W A B w n f part_same in (inf_by M mp e v, inf_back M mp e v)
+    inf_finer {V} {W} {A} {B} w n f v = let e = times_of V W A B w n f part_same in (inf_by M mp e v, inf_back M mp e v)
+
+    -- the windows by the clock
+    ahead : (a b : ℕ) (i j : Bool) (t : Rational)
+        → AreShown K o kp (Ahead (start tr) (stop tr) a b i j t) (Ahead (start ur) (stop ur) (K * a) (K * b) i j (clock K o t))
+    ahead a b i j t = ahead_shown K o kp (ends K o M kp mp c) a b i j t
+
+    behind : (a : ℕ) (b : Option ℕ) (i j : Bool) (t : Rational)
+        → AreShown K o kp (Behind (start tr) (stop tr) a b i j t) (Behind (start ur) (stop ur) (K * a) (option_map (λ b. K * b) b) i j (clock K o t))
+    behind a b i j t = behind_shown K o kp (ends K o M kp mp c) a b i j t
+
+    finer : (p : Subformula) → ((u : Rational) (x : Extended) → F p u x ↔ G p (clock K o u) (stretchᵉ M x)) → (u : Rational) → AreFiner (F p) (G p) u
+    finer p h u = record { forth = λ x. (h u x).0; back = λ x. (h u x).1 }
 
     -- the robustness is M times as large where the clock shows its time
     pub margins_by : (p : Subformula) (t : Rational) (v : Extended) → F p t v ↔ G p (clock K o t) (stretchᵉ M v)
@@ -222,40 +203,21 @@ module _ (K : ℕ) (o : Move) (M : ℕ) (kp : 0 < K) (mp : 0 < M) where
             (opposite_same x (stretchᵉ M (shrinkᵉ M mp x)) (whole_of x)) (whole_of y) (same_reflᵉ (stretchᵉ M v)) l)),
       ),
     )
-    margins_by (eventually a b i j p) t v =
-        sup_finer (Ahead (start tr) (stop tr) a b i j t) (Ahead (start ur) (stop ur) (K * a) (K * b) i j (clock K o t)) (F p) (G p) t
-        (ahead_windows a b i j t) (of_numbers p) (λ u m. record { forth = λ x. (margins_by p u x).0; back = λ x. (margins_by p u x).1 }) v
-    margins_by (always a b i j p) t v =
-        inf_finer (Ahead (start tr) (stop tr) a b i j t) (Ahead (start ur) (stop ur) (K * a) (K * b) i j (clock K o t)) (F p) (G p) t
-        (ahead_windows a b i j t) (of_numbers p) (λ u m. record { forth = λ x. (margins_by p u x).0; back = λ x. (margins_by p u x).1 }) v
-    margins_by (once a b i j p) t v =
-        sup_finer (Behind (start tr) (stop tr) a b i j t)
-        (Behind (start ur) (stop ur) (K * a) (option_map (λ b. K * b) b) i j (clock K o t)) (F p) (G p) t
-        (behind_windows a b i j t) (of_numbers p) (λ u m. record { forth = λ x. (margins_by p u x).0; back = λ x. (margins_by p u x).1 }) v
-    margins_by (historically a b i j p) t v =
-        inf_finer (Behind (start tr) (stop tr) a b i j t)
-        (Behind (start ur) (stop ur) (K * a) (option_map (λ b. K * b) b) i j (clock K o t)) (F p) (G p) t
-        (behind_windows a b i j t) (of_numbers p) (λ u m. record { forth = λ x. (margins_by p u x).0; back = λ x. (margins_by p u x).1 }) v
+    margins_by (eventually a b i j p) t v = sup_finer (ahead a b i j t) (of_numbers p) (λ u m. finer p (λ s x. margins_by p s x) u) v
+    margins_by (always a b i j p) t v = inf_finer (ahead a b i j t) (of_numbers p) (λ u m. finer p (λ s x. margins_by p s x) u) v
+    margins_by (once a b i j p) t v = sup_finer (behind a b i j t) (of_numbers p) (λ u m. finer p (λ s x. margins_by p s x) u) v
+    margins_by (historically a b i j p) t v = inf_finer (behind a b i j t) (of_numbers p) (λ u m. finer p (λ s x. margins_by p s x) u) v
     margins_by (until a b p q) t v =
-        sup_finer (Ahead (start tr) (stop tr) a b true true t) (Ahead (start ur) (stop ur) (K * a) (K * b) true true (clock K o t))
-        (IsUpTo infinity (F p) (F q) t) (IsUpTo infinity (G p) (G q) (clock K o t)) t (ahead_windows a b true true t)
-        (up_of_numbers (G p) (G q) (clock K o t) (of_numbers q)) (λ u m. record {
-          forth = λ x. run_by (F p) (F q) (G p) (G q) (of_numbers p) (of_numbers q) t u u
-              (λ s n. record { forth = λ y. (margins_by p s y).0; back = λ y. (margins_by p s y).1 })
-              (record { forth = λ y. (margins_by q u y).0; back = λ y. (margins_by q u y).1 }) x;
-          back = λ x. run_back (F p) (F q) (G p) (G q) (of_numbers p) (of_numbers q) t u u
-              (λ s n. record { forth = λ y. (margins_by p s y).0; back = λ y. (margins_by p s y).1 })
-              (record { forth = λ y. (margins_by q u y).0; back = λ y. (margins_by q u y).1 }) x;
+        let f = finer p (λ s x. margins_by p s x) in
+        let g = finer q (λ s x. margins_by q s x) in
+        sup_finer {A = IsUpTo infinity (F p) (F q) t} (ahead a b true true t) (up_of_numbers (G p) (G q) (clock K o t) (of_numbers q)) (λ u m. record {
+          forth = λ x. run_by (F p) (F q) (G p) (G q) (of_numbers p) (of_numbers q) t u u (λ s n. f s) (g u) x;
+          back = λ x. run_back (F p) (F q) (G p) (G q) (of_numbers p) (of_numbers q) t u u (λ s n. f s) (g u) x;
         }) v
     margins_by (since a b p q) t v =
-        sup_finer (Behind (start tr) (stop tr) a b true true t)
-        (Behind (start ur) (stop ur) (K * a) (option_map (λ b. K * b) b) true true (clock K o t))
-        (IsDownTo infinity (F p) (F q) t) (IsDownTo infinity (G p) (G q) (clock K o t)) t (behind_windows a b true true t)
-        (down_of_numbers (G p) (G q) (clock K o t) (of_numbers q)) (λ u m. record {
-          forth = λ x. run_by (F p) (F q) (G p) (G q) (of_numbers p) (of_numbers q) u t u
-              (λ s n. record { forth = λ y. (margins_by p s y).0; back = λ y. (margins_by p s y).1 })
-              (record { forth = λ y. (margins_by q u y).0; back = λ y. (margins_by q u y).1 }) x;
-          back = λ x. run_back (F p) (F q) (G p) (G q) (of_numbers p) (of_numbers q) u t u
-              (λ s n. record { forth = λ y. (margins_by p s y).0; back = λ y. (margins_by p s y).1 })
-              (record { forth = λ y. (margins_by q u y).0; back = λ y. (margins_by q u y).1 }) x;
+        let f = finer p (λ s x. margins_by p s x) in
+        let g = finer q (λ s x. margins_by q s x) in
+        sup_finer {A = IsDownTo infinity (F p) (F q) t} (behind a b true true t) (down_of_numbers (G p) (G q) (clock K o t) (of_numbers q)) (λ u m. record {
+          forth = λ x. run_by (F p) (F q) (G p) (G q) (of_numbers p) (of_numbers q) u t u (λ s n. f s) (g u) x;
+          back = λ x. run_back (F p) (F q) (G p) (G q) (of_numbers p) (of_numbers q) u t u (λ s n. f s) (g u) x;
         }) v

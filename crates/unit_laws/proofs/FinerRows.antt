@@ -11,7 +11,7 @@ use Rattle.stl_syntax.specs.SupInf.{margin_setting}
 use Rattle.stl_syntax.proofs.TruthLemmas.{Truth-same}
 use Rattle.stl_syntax.proofs.TimeLaw.{SupInf-same}
 use Rattle.unit_laws.specs.Units.{finer_row, finer, finer_value, TruthIsOfUnits, RobustnessIsOfUnits}
-use Rattle.unit_laws.proofs.NearTimes.{ahead}
+use Rattle.bounds.proofs.NearTimes.{ahead}
 use Rattle.unit_laws.proofs.Recounts.{IsRecount}
 use Rattle.unit_laws.proofs.FinerTrees.{finer_tree, root_finer}
 use Rattle.unit_laws.proofs.FinerTraces.{row_by, counted_anew}

@@ -13,13 +13,13 @@ use Rattle.stl_syntax.specs.Truth.{holds_at}
 use Rattle.stl_syntax.specs.Scaling.{scaled_atom}
 use Rattle.stl_syntax.specs.Early.{OpenAhead, OpenBehind, IsSure, Settled, SettledNot}
 use Rattle.stl_syntax.proofs.SettledTimes.{settled_is_of_times}
-use Rattle.unit_laws.proofs.NearTimes.{Move}
+use Rattle.bounds.proofs.NearTimes.{Move}
 use Rattle.unit_laws.proofs.Clocks.{clock, unclock, clock_le, le_of_clock, clock-unclock}
 use Rattle.unit_laws.proofs.Recounts.{IsRecount, holds_by}
 use Rattle.unit_laws.proofs.FinerTrees.{finer_tree}
-use Rattle.unit_laws.proofs.FinerTruth.{begins_by, ends_by, begins_back, ends_back}
+use Rattle.unit_laws.proofs.ClockWindows.{begins_by, ends_by, begins_back, ends_back}
 use Rattle.unit_laws.proofs.FinerCertainty.{false_alike}
-use Rattle.unit_laws.proofs.Shown.{Carries, AreShown, some_by, some_back, every_by, every_back, up_by, down_by, up_or, down_or}
+use Rattle.unit_laws.proofs.ByTheClock.{Carries, AreShown, some_of, every_of, up_by, down_by, up_or, down_or}
 
 open_ahead_at : {from : Rational} {a b : ℕ} {i j : Bool} {t u v : Rational} → u ≈ v → OpenAhead from a b i j t u → OpenAhead from a b i j t v
 open_ahead_at {a = a} {b = b} {i = i} {j = j} {t = t} {u = u} {v = v} e w = record {
@@ -110,12 +110,9 @@ module _ (K : ℕ) (o : Move) (M : ℕ) (kp : 0 < K) (mp : 0 < M) {tr ur : Trace
 
     some_sure : ((u : Rational) × V u × IsSure tr t u × P u) ↔ ((u : Rational) × W u × IsSure ur (clock K o t) u × Q u)
     some_sure = (
-      λ (u, m, s, h). let r = some_by K o kp sure_shown g (u, (m, s), h) in (r.0, r.1.0, r.1.1, r.2),
-      λ (u, m, s, h). let r = some_back K o kp sure_shown g (u, (m, s), h) in (r.0, r.1.0, r.1.1, r.2),
+      λ (u, m, s, h). let r = (some_of K o kp sure_shown g).0 (u, (m, s), h) in (r.0, r.1.0, r.1.1, r.2),
+      λ (u, m, s, h). let r = (some_of K o kp sure_shown g).1 (u, (m, s), h) in (r.0, r.1.0, r.1.1, r.2),
     )
-
-    every_of : ((u : Rational) → V u → P u) ↔ ((u : Rational) → W u → Q u)
-    every_of = (every_by K o kp w g, every_back K o kp w g)
 
   -- what rows settle at t they settle by the clock
   pub record IsSettledBy (p : Subformula) (t : Rational) : Type 0 where
@@ -161,16 +158,16 @@ module _ (K : ℕ) (o : Move) (M : ℕ) (kp : 0 < K) (mp : 0 < M) {tr ur : Trace
       }
   settled_by (eventually a b i j p) t =
       let w = open_ahead_shown a b i j t in
-      record { so = some_sure t w (so_carries p (λ u. settled_by p u)); not_so = every_of t w (not_carries p (λ u. settled_by p u)) }
+      record { so = some_sure t w (so_carries p (λ u. settled_by p u)); not_so = every_of K o kp w (not_carries p (λ u. settled_by p u)) }
   settled_by (always a b i j p) t =
       let w = open_ahead_shown a b i j t in
-      record { so = every_of t w (so_carries p (λ u. settled_by p u)); not_so = some_sure t w (not_carries p (λ u. settled_by p u)) }
+      record { so = every_of K o kp w (so_carries p (λ u. settled_by p u)); not_so = some_sure t w (not_carries p (λ u. settled_by p u)) }
   settled_by (once a b i j p) t =
       let w = open_behind_shown a b i j t in
-      record { so = some_sure t w (so_carries p (λ u. settled_by p u)); not_so = every_of t w (not_carries p (λ u. settled_by p u)) }
+      record { so = some_sure t w (so_carries p (λ u. settled_by p u)); not_so = every_of K o kp w (not_carries p (λ u. settled_by p u)) }
   settled_by (historically a b i j p) t =
       let w = open_behind_shown a b i j t in
-      record { so = every_of t w (so_carries p (λ u. settled_by p u)); not_so = some_sure t w (not_carries p (λ u. settled_by p u)) }
+      record { so = every_of K o kp w (so_carries p (λ u. settled_by p u)); not_so = some_sure t w (not_carries p (λ u. settled_by p u)) }
   settled_by (until a b p q) t =
       let w = open_ahead_shown a b true true t in
       let m = up_by K o kp (so_carries p (λ u. settled_by p u)) (so_carries q (λ u. settled_by q u)) t in record {
@@ -178,7 +175,7 @@ module _ (K : ℕ) (o : Move) (M : ℕ) (kp : 0 < K) (mp : 0 < M) {tr ur : Trace
           λ (u, k, s, h, f). let r = (some_sure t w m).0 (u, k, s, (h, f)) in (r.0, r.1, r.2, r.3.0, r.3.1),
           λ (u, k, s, h, f). let r = (some_sure t w m).1 (u, k, s, (h, f)) in (r.0, r.1, r.2, r.3.0, r.3.1),
         );
-        not_so = every_of t w (up_or K o kp (not_carries p (λ u. settled_by p u)) (not_carries q (λ u. settled_by q u)) t);
+        not_so = every_of K o kp w (up_or K o kp (not_carries p (λ u. settled_by p u)) (not_carries q (λ u. settled_by q u)) t);
       }
   settled_by (since a b p q) t =
       let w = open_behind_shown a b true true t in
@@ -187,5 +184,5 @@ module _ (K : ℕ) (o : Move) (M : ℕ) (kp : 0 < K) (mp : 0 < M) {tr ur : Trace
           λ (u, k, s, h, f). let r = (some_sure t w m).0 (u, k, s, (h, f)) in (r.0, r.1, r.2, r.3.0, r.3.1),
           λ (u, k, s, h, f). let r = (some_sure t w m).1 (u, k, s, (h, f)) in (r.0, r.1, r.2, r.3.0, r.3.1),
         );
-        not_so = every_of t w (down_or K o kp (not_carries p (λ u. settled_by p u)) (not_carries q (λ u. settled_by q u)) t);
+        not_so = every_of K o kp w (down_or K o kp (not_carries p (λ u. settled_by p u)) (not_carries q (λ u. settled_by q u)) t);
       }

@@ -6,7 +6,7 @@ use Rattle.stl_syntax.specs.Verdicts.{DescribesMargins}
 use Rattle.stl_syntax.specs.Scaling.{nodes_for}
 use Rattle.report.specs.Table.{IsTableText}
 use Rattle.unit_laws.specs.Units.{finer, TableIsOfUnits}
-use Rattle.unit_laws.proofs.NearTimes.{ahead}
+use Rattle.bounds.proofs.NearTimes.{ahead}
 use Rattle.unit_laws.proofs.FinerTrees.{finer_tree, root_finer}
 use Rattle.unit_laws.proofs.FinerRows.{some_power, finer_counts}
 use Rattle.unit_laws.proofs.KnotsChange.{knots_by, describes_by}

@@ -8,7 +8,7 @@ use Rattle.rational.specs.Extended.{Extended, minus_infinity, finite, infinity}
 use Rattle.rational.proofs.Order.{same_sym, same_trans}
 use Rattle.stl_syntax.specs.Texts.{IsNumberText, IsValueText}
 use Rattle.answer_lines.proofs.KeptTexts.{number_of_same}
-use Rattle.unit_laws.proofs.NearTimes.{ahead}
+use Rattle.bounds.proofs.NearTimes.{ahead}
 use Rattle.unit_laws.proofs.Multiples.{stretch, shrink, stretch_same, same_back, stretch-shrink, above_of, below_of}
 use Rattle.unit_laws.proofs.Clocks.{clock, unclock}
 use Rattle.unit_laws.proofs.FinerValues.{stretchᵉ, shrinkᵉ}

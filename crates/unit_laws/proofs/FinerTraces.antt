@@ -17,7 +17,7 @@ use Rattle.stl_syntax.specs.Scaling.{scaled_atom}
 use Rattle.stl_syntax.specs.declared.scale.Scale.{Scale}
 use Rattle.stl_syntax.specs.declared.atom.Atom.{Atom}
 use Rattle.stl_syntax.specs.declared.atom.Term.{Term}
-use Rattle.unit_laws.proofs.NearTimes.{Move, ahead}
+use Rattle.bounds.proofs.NearTimes.{Move, ahead}
 use Rattle.unit_laws.proofs.Multiples.{stretch, add_stretch, times_stretch, above-times, below-times, whole_stretch}
 use Rattle.unit_laws.proofs.Clocks.{clock, clock_lt, lt_of_clock}
 use Rattle.unit_laws.proofs.Recounts.{IsRecount}

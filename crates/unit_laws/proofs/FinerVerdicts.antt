@@ -25,7 +25,7 @@ use Rattle.stl_syntax.specs.declared.scale.Scale.{Scale}
 use Rattle.stl_syntax.specs.declared.items.Verdict.{Verdict}
 use Rattle.stl_syntax.proofs.TruthLemmas.{Truth-same}
 use Rattle.answer_lines.proofs.KeptTexts.{number_of_same}
-use Rattle.unit_laws.proofs.NearTimes.{Move, by, ahead}
+use Rattle.bounds.proofs.NearTimes.{Move, by, ahead}
 use Rattle.unit_laws.proofs.Multiples.{stretch}
 use Rattle.unit_laws.proofs.Clocks.{clock, unclock, clock_same, clock-unclock, precedes_clock, precedes_of_clock}
 use Rattle.unit_laws.proofs.Recounts.{IsRecount}

@@ -11,7 +11,7 @@ use Rattle.rational.proofs.Tests.{int_order}
 use Rattle.stl_syntax.specs.Formula.{Subformula, constant, atom, negation, conjunction, disjunction, horizon}
 use Rattle.stl_syntax.specs.Formula.{implication, until, eventually, always, since, once, historically}
 use Rattle.stl_syntax.specs.Stream.{answered_by}
-use Rattle.unit_laws.proofs.NearTimes.{ahead}
+use Rattle.bounds.proofs.NearTimes.{ahead}
 use Rattle.unit_laws.proofs.Clocks.{clock, clock_lt, clock_same, lt_of_clock}
 use Rattle.unit_laws.proofs.FinerTrees.{finer_tree}
 

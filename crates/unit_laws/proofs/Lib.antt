@@ -3,6 +3,8 @@ pub mod Clocks
 pub mod Recounts
 pub mod FinerTrees
 pub mod FinerTraces
+pub mod ClockWindows
+pub mod ByTheClock
 pub mod FinerTruth
 pub mod FinerValues
 pub mod FinerMargins
@@ -15,17 +17,13 @@ pub mod FinerVerdicts
 pub mod FinerCheck
 pub mod ChangedTables
 pub mod FinerTable
-pub mod Shown
 pub mod FinerCertainty
 pub mod FinerCells
 pub mod FinerItems
 pub mod FinerExplain
 pub mod FinerJson
 pub mod TextsKept
-pub mod NearTimes
-pub mod MovedWindows
 pub mod CalmTruth
-pub mod GapLines
 pub mod SmallFractions
 pub mod CalmFormulas
 pub mod VerdictsBack

@@ -13,7 +13,7 @@ use Rattle.stl_syntax.specs.declared.node.Node.TheVariants.{Atom as Leaf, Until,
 use Rattle.stl_syntax.proofs.TruthLemmas.{Truth-same}
 use Rattle.report.specs.Report.{IsItemLines}
 use Rattle.unit_laws.specs.Origins.{AreDelayedItems, ExplanationsMove}
-use Rattle.unit_laws.proofs.NearTimes.{Move, ahead, behind}
+use Rattle.bounds.proofs.NearTimes.{Move, ahead, behind}
 use Rattle.unit_laws.proofs.Clocks.{clock}
 use Rattle.unit_laws.proofs.Recounts.{IsRecount}
 use Rattle.unit_laws.proofs.FinerTrees.{finer_tree}

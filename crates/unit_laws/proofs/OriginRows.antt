@@ -16,7 +16,7 @@ use Rattle.stl_syntax.proofs.TruthLemmas.{Truth-same, same_expression}
 use Rattle.stl_syntax.proofs.TimeLaw.{SupInf-same}
 use Rattle.stl_syntax.proofs.SupInfLemmas.{value_alike}
 use Rattle.unit_laws.specs.Origins.{delayed_row, delayed, TruthMoves, RobustnessMoves}
-use Rattle.unit_laws.proofs.NearTimes.{ahead, behind}
+use Rattle.bounds.proofs.NearTimes.{ahead, behind}
 use Rattle.unit_laws.proofs.Multiples.{stretch}
 use Rattle.unit_laws.proofs.Clocks.{clock, clock_same}
 use Rattle.unit_laws.proofs.Recounts.{IsRecount}

@@ -20,7 +20,7 @@ use Rattle.answer_lines.proofs.KeptTexts.{number_of_same}
 use Rattle.unit_laws.specs.Origins.{delayed_row, IsDelayedKnot, AreDelayedPieces}
 use Rattle.unit_laws.specs.StreamOrigins.{IsStretchLater, IsNewTextLater, IsNewMarginsLater, IsEarlyTextLater, at_row_later, at_end_too, not_yet_too}
 use Rattle.unit_laws.specs.StreamOrigins.{StreamTextLater, StreamsMove}
-use Rattle.unit_laws.proofs.NearTimes.{ahead, behind}
+use Rattle.bounds.proofs.NearTimes.{ahead, behind}
 use Rattle.unit_laws.proofs.Clocks.{clock, unclock, clock_same, unclock_same, clock-unclock, unclock-clock}
 use Rattle.unit_laws.proofs.FinerTrees.{finer_tree}
 use Rattle.unit_laws.proofs.FinerTraces.{row_by}

@@ -7,7 +7,7 @@ use Rattle.frac128.specs.Value.{value}
 use Rattle.frac128.specs.declared.frac.Frac.{Frac}
 use Rattle.stl_syntax.specs.declared.items.Verdict.{Verdict}
 use Rattle.unit_laws.specs.Origins.{delayed, AreDelayed, AreVerdicts, VerdictsMove}
-use Rattle.unit_laws.proofs.NearTimes.{ahead, behind}
+use Rattle.bounds.proofs.NearTimes.{ahead, behind}
 use Rattle.unit_laws.proofs.Clocks.{clock}
 use Rattle.unit_laws.proofs.FinerVerdicts.{frac_of, frac_same, verdict_by, verdicts_by, verdicts_describe}
 use Rattle.unit_laws.proofs.OriginRows.{same_tree, some_one, delayed_counts, trace_counts, clock_later, later_behind}

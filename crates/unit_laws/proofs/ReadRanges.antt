@@ -8,7 +8,7 @@ use Rattle.std.proofs.lemmas.List.Elements.{All-cons, All-nil}
 use Rattle.stl_syntax.specs.Choice.{◌or_else◌}
 use Rattle.stl_syntax.specs.Trace.{Header, Row, Trace, IsInRange, AreInRange}
 use Rattle.stl_syntax.specs.declared.scale.Scale.{Scale}
-use Rattle.trace_reader.specs.TraceText.{Line, lines, is_blank_line, fields, Heading, IsHeading, scale_of, IsInTicks, AreInTicks, IsRow}
+use Rattle.trace_reader.specs.TraceText.{Line, fields, Heading, IsHeading, scale_of, IsInTicks, AreInTicks, IsRow}
 use Rattle.trace_reader.specs.TraceText.{AreRowLines, none, unfinished, row, AreTraceLines, heading}
 use Rattle.trace_reader.specs.TraceText.{greatest}
 use Rattle.trace_reader.specs.TraceText as texts

@@ -8,7 +8,7 @@ use Rattle.stl_syntax.specs.Truth.{expression, holds_at}
 use Rattle.stl_syntax.specs.Scaling.{scaled_atom}
 use Rattle.stl_syntax.specs.declared.atom.Atom.{Atom}
 use Rattle.stl_syntax.proofs.TruthLemmas.{compares_same}
-use Rattle.unit_laws.proofs.NearTimes.{Move}
+use Rattle.bounds.proofs.NearTimes.{Move}
 use Rattle.unit_laws.proofs.Multiples.{stretch, compares_stretch, compares_back}
 use Rattle.unit_laws.proofs.Clocks.{clock}
 

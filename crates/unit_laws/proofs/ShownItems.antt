@@ -16,9 +16,9 @@ use Rattle.stl_syntax.specs.Kept.{IsSo, ItemsOn, AllCells, KeptFrom, Kept}
 use Rattle.stl_syntax.specs.Scaling.{scaled_node}
 use Rattle.stl_syntax.specs.declared.items.Item.{Item}
 use Rattle.stl_syntax.specs.declared.node.Node.{Node}
-use Rattle.stl_syntax.specs.declared.node.Node.TheVariants.{Const, Atom as Leaf, Not, And, Or, Implies, Until, Eventually, Always, Since, Once, Historically}
+use Rattle.stl_syntax.specs.declared.node.Node.TheVariants.{Atom as Leaf}
 use Rattle.stl_syntax.proofs.LawProofs.{certainty_is_of_times}
-use Rattle.unit_laws.proofs.NearTimes.{Move}
+use Rattle.bounds.proofs.NearTimes.{Move}
 use Rattle.unit_laws.proofs.Clocks.{clock, unclock, clock_same, clock-unclock, unclock_same, precedes_clock, precedes_of_clock}
 use Rattle.unit_laws.proofs.Recounts.{IsRecount}
 use Rattle.unit_laws.proofs.CalmTruth.{HasCalmAtoms}
@@ -185,17 +185,7 @@ module _ (K : ℕ) (o : Move) (M : ℕ) (kp : 0 < K) (mp : 0 < M) {tr ur : Trace
           cells_fs,
         ),
       )
-  all_cells_back i (Const b ∷ rest) gs h = all_cells_back (suc i) rest gs h
-  all_cells_back i (Not p ∷ rest) gs h = all_cells_back (suc i) rest gs h
-  all_cells_back i (And p q ∷ rest) gs h = all_cells_back (suc i) rest gs h
-  all_cells_back i (Or p q ∷ rest) gs h = all_cells_back (suc i) rest gs h
-  all_cells_back i (Implies p q ∷ rest) gs h = all_cells_back (suc i) rest gs h
-  all_cells_back i (Until p q a b ∷ rest) gs h = all_cells_back (suc i) rest gs h
-  all_cells_back i (Eventually p a b a_in b_in ∷ rest) gs h = all_cells_back (suc i) rest gs h
-  all_cells_back i (Always p a b a_in b_in ∷ rest) gs h = all_cells_back (suc i) rest gs h
-  all_cells_back i (Since p q a b ∷ rest) gs h = all_cells_back (suc i) rest gs h
-  all_cells_back i (Once p a b a_in b_in ∷ rest) gs h = all_cells_back (suc i) rest gs h
-  all_cells_back i (Historically p a b a_in b_in ∷ rest) gs h = all_cells_back (suc i) rest gs h
+  all_cells_back i (n ∷ rest) gs h = all_cells_back (suc i) rest gs h
 
   module _ (p : Subformula) where
     not_iff : (es gs : List Item) → AreShownItems K o kp es gs → MustNot p es tr (start tr) ↔ MustNot (finer_tree K M p) gs ur (start ur)

@@ -99,7 +99,7 @@ watch_is_of_units f tr k m ended formed ok range ft fv text = (
   streams_are_kept verdicts f tr k m ended ok ft fv text,
   λ h. stream_back (10 ^ k) 0 (10 ^ m) (some_power k) (some_power m) (root (nodes_for f tr)) tr.header (finer k m tr).header.scale
       (λ told e t lines. lines_back k (some_power k) tr.header.scale (finer k m tr).header.scale refl told e t lines)
-      (λ rows rows_ok rows_range. root_calm (record { header = tr.header; rows = rows }) (record { rows = rows_ok }) rows_range _ _ f.nodes formed.nodes.atoms)
+      (λ rows rows_ok rows_range. root_calm (record { header = tr.header; rows = rows }) rows_range _ _ f.nodes formed.nodes.atoms)
       tr.rows ended text ok.rows range (counted_back f tr k m IsStreamText ended text (root_finer f tr.header.scale k m ft fv) h),
 )
 

@@ -13,7 +13,7 @@ use Rattle.stl_syntax.specs.Texts.{IsStartLine}
 use Rattle.stl_syntax.specs.Verdicts.{IsTold, GoesOn, Describes}
 use Rattle.stl_syntax.specs.declared.items.Verdict.{Verdict}
 use Rattle.stl_syntax.proofs.TruthLemmas.{Truth-same}
-use Rattle.unit_laws.proofs.NearTimes.{Move}
+use Rattle.bounds.proofs.NearTimes.{Move}
 use Rattle.unit_laws.proofs.Clocks.{clock, unclock, clock-unclock, same_of_clock, precedes_clock, precedes_of_clock, unclock_same}
 use Rattle.unit_laws.proofs.Recounts.{IsRecount}
 use Rattle.unit_laws.proofs.FinerTrees.{finer_tree}

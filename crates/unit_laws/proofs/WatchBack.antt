@@ -10,7 +10,7 @@ use Rattle.stl_syntax.specs.Stream.{IsStretchText, IsNewText, IsStreamText}
 use Rattle.stl_syntax.specs.Texts.{AreVerdictLines}
 use Rattle.stl_syntax.specs.declared.scale.Scale.{Scale}
 use Rattle.stl_syntax.specs.declared.items.Verdict.{Verdict}
-use Rattle.unit_laws.proofs.NearTimes.{ahead}
+use Rattle.bounds.proofs.NearTimes.{ahead}
 use Rattle.unit_laws.proofs.CalmTruth.{HasCalmAtoms}
 use Rattle.unit_laws.proofs.SmallFractions.{has_whole, has_int}
 use Rattle.unit_laws.proofs.TurningTimes.{stretch_ends}

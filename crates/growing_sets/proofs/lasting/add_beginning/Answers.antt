@@ -1,10 +1,10 @@
 use Rattle.std.proofs.Common.{inl, inr, sym, subst, ◌≤◌, ◌^◌}
 use Rattle.std.specs.Prelude.{◌↔◌, unsigned_abs, MatchOption}
 use Rattle.rational.specs.Time.{Rational}
-use Rattle.growing_sets.specs.Bounds.{reach_of}
+use Rattle.time_sets.specs.Bounds.{reach_of}
 use Rattle.rational.specs.Places.{After, Upto, Before}
 use Rattle.frac128.specs.Cuts.{place}
-use Rattle.growing_sets.specs.Windows.{low_place}
+use Rattle.time_sets.specs.Parts.{low_place}
 use Rattle.growing_sets.specs.Lasting.{BeginsFrom}
 use Rattle.rational.proofs.PlaceLemmas.{sides, not_both}
 use Rattle.growing_sets.proofs.AddLemmas.{adds_none, adds_alike}

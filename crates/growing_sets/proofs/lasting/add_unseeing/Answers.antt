@@ -1,7 +1,7 @@
 use Rattle.std.proofs.Common.{inl, inr, sym, subst}
 use Rattle.rational.specs.Places.{After, Upto}
 use Rattle.frac128.specs.Cuts.{place}
-use Rattle.growing_sets.specs.Windows.{high_place}
+use Rattle.time_sets.specs.Parts.{high_place}
 use Rattle.rational.proofs.PlaceLemmas.{sides, not_both, before_through}
 use Rattle.growing_sets.proofs.AddLemmas.{adds_alike}
 use Rattle.growing_sets.proofs.LastingLemmas.{seen_from}

@@ -1,11 +1,12 @@
 use Rattle.std.proofs.Common.{sym, subst}
 use Rattle.std.proofs.Common.{◌≤◌, ◌^◌}
 use Rattle.rational.specs.Time.{Rational}
-use Rattle.growing_sets.specs.Bounds.{reach_of}
+use Rattle.time_sets.specs.Bounds.{reach_of}
 use Rattle.std.specs.Prelude.{◌↔◌, unsigned_abs, IfSome}
 use Rattle.rational.specs.Places.{Upto, Before}
 use Rattle.frac128.specs.Cuts.{place}
-use Rattle.growing_sets.specs.Windows.{SeesPart, low_place}
+use Rattle.growing_sets.specs.Windows.{SeesPart}
+use Rattle.time_sets.specs.Parts.{low_place}
 use Rattle.growing_sets.proofs.AddLemmas.{adds_none, adds_alike}
 use Rattle.growing_sets.proofs.WindowLemmas.{sees_part, part_seen, on_good, near_fits}
 use Rattle.growing_sets.proofs.seeing.add_seeing.Goals as goal

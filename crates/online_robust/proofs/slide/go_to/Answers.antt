@@ -193,8 +193,8 @@ drops c =
 
 pub put_told-requires : goal.put_told-requires
 put_told-requires c =
-    subst (λ n. c.args.node < n) (sym ((drops (goal.at.put_told-requires c).After-drop_by).lost.edges ∙ (reads_both c.in_ok-take_in.ensures.read c.read_under.ensures.read).edges))
-    c.requires.edge
+    let lost = (drops (goal.at.put_told-requires c).After-drop_by).lost in
+    subst (λ n. c.args.node < n) (sym (lost.edges ∙ (reads_both c.in_ok-take_in.ensures.read c.read_under.ensures.read).edges)) c.requires.edge
 
 pub returns-in_err-put_told-clause-wide : goal.returns-in_err-put_told-clause-wide
 returns-in_err-put_told-clause-wide c x from can window to =
@@ -206,6 +206,7 @@ returns-clause-gone c =
     let (some, since, may, its, there) = c.requires.can in
     let told = c.tell.new.self in
     let point = c.point-point.result in
+    let drop = drops (goal.at.returns-clause-gone c).After-drop_by in
     let (at, begins, put) = c.in_ok-put_told.ensures in
     let (ks, lines, is) = told_stretch told.sliding.out (value c.args.to.now) point at c.args.with_first (told_up_to k some since may its there).normal
     (begun k some since may its there).1 (is_at k some since may its there).at (begins ∙ ap (λ (o : Chain Margin). o.from.at) c.told.ensures) in
@@ -232,12 +233,12 @@ returns-clause-gone c =
           gone x w c.read_under.result c.read_under.new.edges u.0 u.1 u.2 told c.restart.new.self c.drop_by.new.self (whole c.args.limit)
           (λ line known all. subst (IsAt margin_shape line told) (sym to) (tells.at line known (subst (HasAll margin_shape line w) to all)))
           again.follows (again.way ∙ tells.way) (again.met ∙ tells.met) again.told
-          (subst (λ n. DropsBy (whole c.args.limit) n c.read_under.new.edges c.drop_by.new.self) (sym (ap (λ (v : Window). v.of) window)) (drops (goal.at.returns-clause-gone c).After-drop_by))
+          (subst (λ n. DropsBy (whole c.args.limit) n c.read_under.new.edges c.drop_by.new.self) (sym (ap (λ (v : Window). v.of) window)) drop)
           (subst (λ t. whole c.args.limit ≈ shifted t (back_offset x.window)) (sym to)
           (subst (λ (v : Window). whole c.args.limit ≈ shifted (value c.args.to.now) (back_offset v)) (sym window) c.requires.limit));
       way = c.restart.ensures.way ∙ c.in_ok-tell.ensures.way ∙ c.in_ok-take_in.ensures.kept.way ∙ c.in_ok-meet_kept.ensures.kept.way;
       read = read_same (whole c.args.limit) (shifted (value c.args.to.now) (back_offset c.args.window.now)) c.requires.limit
-          (read_drops (reads_both c.in_ok-take_in.ensures.read c.read_under.ensures.read) (drops (goal.at.returns-clause-gone c).After-drop_by));
+          (read_drops (reads_both c.in_ok-take_in.ensures.read c.read_under.ensures.read) drop);
       put = subst (λ l. HasPut c.args.node l c.drop_by.new.self c.put_told.new.edges)
           (ap (λ (o : Chain Margin). all_told c.args.with_first at o.pieces point) c.told.ensures ∙ sym lines) put;
     }

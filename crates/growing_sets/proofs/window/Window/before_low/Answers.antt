@@ -6,7 +6,8 @@ use Rattle.rational.specs.Places.{moved_end, Same}
 use Rattle.frac128.specs.Cuts.{place}
 use Rattle.rational.proofs.PlaceLemmas.{upto_same, same_places}
 use Rattle.rational.proofs.Mixed.{move_fits}
-use Rattle.growing_sets.proofs.WindowLemmas.{near_fits, begins_before}
+use Rattle.time_sets.proofs.WindowPlaces.{begins_before}
+use Rattle.growing_sets.proofs.WindowLemmas.{near_fits}
 use Rattle.growing_sets.proofs.window.Window.before_low.Goals as goal
 
 pub shift_end-requires : goal.shift_end-requires

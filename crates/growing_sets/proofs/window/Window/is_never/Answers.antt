@@ -1,11 +1,12 @@
 use Rattle.std.proofs.Common.{◌≡◌, ◌≤◌, ◌^◌, ◌⊎◌, Bool, true, false, not, refl, sym, subst, to_z, of_z}
 use Rattle.std.specs.Prelude.{IfSome, IsTrue, IsFalse, unsigned_abs, ◌<ℤ◌}
 use Rattle.std.specs.Int.{w64}
-use Rattle.growing_sets.specs.Bounds.{reach_of}
+use Rattle.time_sets.specs.Bounds.{reach_of}
 use Rattle.rational.specs.Places.{After, Before}
-use Rattle.growing_sets.specs.Windows.{low_place, high_place}
+use Rattle.time_sets.specs.Parts.{low_place, high_place}
 use Rattle.rational.proofs.PlaceLemmas.{before_through}
-use Rattle.growing_sets.proofs.WindowLemmas.{near_fits, room_in, room_out}
+use Rattle.time_sets.proofs.WindowPlaces.{room_in, room_out}
+use Rattle.growing_sets.proofs.WindowLemmas.{near_fits}
 use Rattle.growing_sets.proofs.window.Window.is_never.Goals as goal
 
 not_true : (b : Bool) → IsTrue (not b) → IsTrue b → ⊥

@@ -6,7 +6,8 @@ use Rattle.rational.specs.Places.{moved_begin, Same}
 use Rattle.frac128.specs.Cuts.{place}
 use Rattle.rational.proofs.PlaceLemmas.{after_same, same_places}
 use Rattle.rational.proofs.Mixed.{move_fits}
-use Rattle.growing_sets.proofs.WindowLemmas.{near_fits, ends_past}
+use Rattle.time_sets.proofs.WindowPlaces.{ends_past}
+use Rattle.growing_sets.proofs.WindowLemmas.{near_fits}
 use Rattle.growing_sets.proofs.window.Window.past_high.Goals as goal
 
 pub shift_begin-requires : goal.shift_begin-requires

@@ -1,8 +1,8 @@
 use Rattle.std.proofs.Common.{◌≡◌, ◌≤◌, ◌^◌, ◌⊎◌, true, sym, subst, ℤ, pos}
 use Rattle.std.specs.Prelude.{IfSome, IsTrue, unsigned_abs, ◌<ℤ◌}
-use Rattle.growing_sets.specs.Bounds.{reach_of}
+use Rattle.time_sets.specs.Bounds.{reach_of}
 use Rattle.rational.specs.Places.{After}
-use Rattle.growing_sets.specs.Windows.{low_place}
+use Rattle.time_sets.specs.Parts.{low_place}
 use Rattle.growing_sets.proofs.WindowLemmas.{near_fits}
 use Rattle.growing_sets.proofs.TickLemmas.{ends_at, begins_at, ended_at, begun_at}
 use Rattle.growing_sets.proofs.window.Window.sees_itself.Goals as goal

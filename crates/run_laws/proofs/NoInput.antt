@@ -5,24 +5,18 @@ use Rattle.std.proofs.lemmas.Bool.{false≢true}
 use Rattle.stl_syntax.specs.Formula.{Formula, root}
 use Rattle.stl_syntax.specs.Stream.{IsStreamText}
 use Rattle.stl_syntax.specs.Texts.{newline, IsStartLine}
-use Rattle.stl_syntax.specs.Trace.{Trace}
-use Rattle.stl_syntax.proofs.VerdictsLaw.{Describes-unique}
 use Rattle.stl_grammar.proofs.LawProofs.{one_formula}
 use Rattle.stl_syntax.specs.Scaling.{nodes_for}
 use Rattle.report.specs.Report.{check, Out}
-use Rattle.answer_lines.proofs.OneText.{verdicts_once, start_once}
+use Rattle.answer_lines.proofs.OneText.{start_once}
 use Rattle.answer_lines.proofs.StreamTexts.{stream_once}
 use Rattle.workbench.specs.Requests.{Request, no_form, refused, whole, stream, sessions, generated, has_input, usage_line}
 use Rattle.workload_summary.specs.Generator.{IsSummary, generated as generated_trace, judged, line_count}
 use Rattle.workbench.specs.Ended.{EndsWith, none, bad, faulty, answered, wide, overfull}
+use Rattle.promises.proofs.OwedLaws.{check_once}
 use Rattle.run_laws.proofs.OneEnding.{AreOne}
 
 -- ---- the summary of a generated trace
-
-check_once : (f : Formula) (tr : Trace) (x y : List ℕ) → Out check f tr x → Out check f tr y → x ≡ y
-check_once f tr x y (vs, body, line, a, lines, start, is) (ws, body', line', a', lines', start', is') =
-    is ∙ ap (λ t. t ++ line) (verdicts_once tr.header.scale vs ws body body' (Describes-unique _ tr _ vs ws a a') lines lines')
-    ∙ ap (λ t. body' ++ t) (start_once _ tr line line' start start') ∙ sym is'
 
 abbrev summary_text : ℕ → ℕ → ℕ → List ℕ → List ℕ
 summary_text rows checked watched line =
