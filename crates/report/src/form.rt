@@ -1,5 +1,5 @@
 //! Objects of JSON that are made once and take the texts of one entry after another, so that their keys and their memory are taken once.
-ghost use Rattle.std.specs.Prelude.{◌≡◌, ◌≤◌, ℕ, List, Bool, IsSome, IfOk, OnOk, slice_range};
+ghost use Rattle.std.specs.Prelude.{◌≡◌, ◌≤◌, ℕ, List, Bool, IsSome, IfOk, OnOk, IsUtf8, IsCharBoundary, slice_range};
 ghost use Rattle.serde_json.specs.Data.{string, boolean, put};
 ghost use Rattle.serde_json.specs.Find.{as_bool, as_str};
 ghost use Rattle.serde_json.specs.View.{view, members_view};
@@ -15,7 +15,8 @@ pub(crate) const SPAN_ROOM: usize = 256;
 
 /// The bytes as a text.
 pub(crate) fn text_of(content: &[u8]) -> Result<&str, Memory>
-    ensures { IfOk result (λ s. s.now ≡ content.now) }
+    ensures same { IfOk result (λ s. s.now ≡ content.now) }
+    ensures utf8 { IfOk result (λ s. IsUtf8 s.now) }
 {
     // Numbers are ASCII, and the names in a formula are text, so what is printed of them is. No proof says so; tools/read_back tries it.
     match str::from_utf8(content) {
@@ -24,16 +25,15 @@ pub(crate) fn text_of(content: &[u8]) -> Result<&str, Memory>
     }
 }
 
-/// A part of a text.
-pub(crate) fn part(text: &str, from: usize, to: usize) -> Result<&str, Memory>
-    requires { from ≤ to }
-    ensures { IfOk result (λ s. s.now ≡ slice_range text.now from to) }
+/// A part of a text, between places at which it may be cut.
+#[inline(always)]
+pub(crate) fn part(text: &str, from: usize, to: usize) -> &str
+    requires order { from ≤ to }
+    requires begins { IsCharBoundary text.now from }
+    requires ends { IsCharBoundary text.now to }
+    ensures { result.now ≡ slice_range text.now from to }
 {
-    // Numbers are ASCII, so a text of numbers may be cut before and behind each. No proof says so.
-    if !text.is_char_boundary(from) || !text.is_char_boundary(to) {
-        return Err(Memory);
-    }
-    Ok(&text[from..to])
+    &text[from..to]
 }
 
 /// Puts a text in the place of another, whose memory it takes over.

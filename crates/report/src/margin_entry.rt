@@ -41,7 +41,7 @@ struct StepTexts<'a> {
     margin: &'a str,
 }
 
-/// The time and the value of a knot. They are seen to be text together.
+/// The time and the value of a knot. They are seen to be text together, and a comma between them is where that is cut.
 fn knot_texts<'a>(
     room: &'a mut [u8; STEP_ROOM],
     last: &mut KnotTexts,
@@ -54,16 +54,18 @@ fn knot_texts<'a>(
     ensures at { IfOk result (λ t. IsNumberText scale.time (value k.now.time) t.0.now) }
     ensures margin { IfOk result (λ t. IsValueText scale.value (value_at (margin_function k.now.point) (value k.now.time)) t.1.now) }
 {
-    let middle = last.time.put(room, 0, &k.time, scale.time);
-    let end = last.value.put(room, middle, &k.point, &k.time, scale.value);
+    let comma = last.time.put(room, 0, &k.time, scale.time);
+    let point = add_byte(room, comma, b',');
+    let end = last.value.put(room, point, &k.point, &k.time, scale.value);
     let all = text_of(&room[..end])?;
-    let at = part(all, 0, middle)?;
-    let margin = part(all, middle, end)?;
+    let at = part(all, 0, comma);
+    let margin = part(all, point, end);
     Ok((at, margin))
 }
 
 /// The texts of the piece between two knots and of the second, whose time is that at which the piece ends. They are seen to be text
-/// together: to look at some dozens of bytes takes little more than to look at six.
+/// together: to look at some dozens of bytes takes little more than to look at six. Each begins and ends at an ASCII byte or an end of the
+/// whole, so none is asked for where it may be cut.
 fn step_texts<'a>(
     room: &'a mut [u8; STEP_ROOM],
     last: &mut KnotTexts,
@@ -84,14 +86,15 @@ fn step_texts<'a>(
     let stop = add_byte(room, comma, b',');
     let close = last.time.put_new(room, stop, &n.time, decimals);
     let limit = add_byte(room, close, b')');
-    let point = last.value.put(room, limit, &k.after, &n.time, digits);
+    let mark = last.value.put(room, limit, &k.after, &n.time, digits);
+    let point = add_byte(room, mark, b',');
     let end = last.value.put(room, point, &n.point, &n.time, digits);
     let all = text_of(&room[..end])?;
-    let from = part(all, 0, gap)?;
-    let on = part(all, gap, limit)?;
-    let to = part(all, limit, point)?;
-    let at = part(all, stop, close)?;
-    let margin = part(all, point, end)?;
+    let from = part(all, 0, gap);
+    let on = part(all, gap, limit);
+    let to = part(all, limit, mark);
+    let at = part(all, stop, close);
+    let margin = part(all, point, end);
     Ok(StepTexts {
         from,
         on,

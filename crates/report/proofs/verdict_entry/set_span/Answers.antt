@@ -17,7 +17,7 @@ returns-clause-ok c =
     let end = add_as {v = after on.to_in} c.closing.ensures c.add_byte-end.ensures in
     let all = add_then (add_then (add_then (add_then begin a) c.add_byte-to.ensures) b) end in
     on_ok_weaker c.set_first.result
-    (λ e. (_, span_text c.args.scale on A B is_a is_b, e ∙ ap (λ w. with_member (codes "on") (string w) (view c.args.verdict.now)) (c.in_ok-span.ensures ∙ all.added)))
+    (λ e. (_, span_text c.args.scale on A B is_a is_b, e ∙ ap (λ w. with_member (codes "on") (string w) (view c.args.verdict.now)) (c.in_ok-span.ensures.same ∙ all.added)))
     c.set_first.ensures.ok
 
 pub returns-in_err-span-clause-form : goal.returns-in_err-span-clause-form
