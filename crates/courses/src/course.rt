@@ -14,7 +14,7 @@ ghost use Rattle.courses.specs.Courses.{IsCourse, IsCourseFault, IsFixed, IsGap,
 ghost use Rattle.courses.specs.Courses.{change_places, goes_under};
 
 use frac128::{Frac, Memory};
-use pl_signal::{Side, WidePair, chosen, crossing, keep};
+use pl_signal::{Side, WidePair, chosen, crossing_kept};
 use std::cmp::Ordering;
 use value_laws::Shape;
 
@@ -63,7 +63,7 @@ fn meeting<P: Shape>(
     ensures still { OnOk result (fault.new ≡ None) }
     ensures wide { OnErr result (IfSome fault.new (λ pair. IsGapFault P.Shape p.now q.now from.now next.now (F.Wide pair))) }
 {
-    let time = keep(crossing(p, q, from, next), fault)?;
+    let time = crossing_kept(p, q, from, next, fault)?;
     Ok(Meet { time, met: true })
 }
 

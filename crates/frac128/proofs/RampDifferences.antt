@@ -1,10 +1,10 @@
 -- The gap of two ramps, and of a ramp and a constant.
-use Rattle.std.proofs.Common.{◌≡◌, ℤ, pos, ◌+ℤ◌, ◌-ℤ◌, ◌*ℤ◌, neg_ℤ, ◌+◌, ◌*◌, arith, inl, inr, ap, ◌∙◌, Option, Some, None, IfSome, MatchOption}
+use Rattle.std.proofs.Common.{◌≡◌, ◌↔◌, ℤ, pos, ◌+ℤ◌, ◌-ℤ◌, ◌*ℤ◌, neg_ℤ, ◌+◌, ◌*◌, arith, refl, sym, inl, inr, ap, ◌∙◌, Option, Some, None, IfSome, MatchOption}
 use Rattle.std.specs.Int.RustNames.{unsigned_abs}
 use Rattle.std.proofs.lemmas.Int.{ints, unsigned_abs-mul}
 use Rattle.std.proofs.Math.Nat.{eq_of_mul-eq-mul_right}
-use Rattle.rational.specs.Rational.{part_above, part_below, fraction}
-use Rattle.rational.specs.Line.{Level, gap_line, constant, AreParallel, MeetAt}
+use Rattle.rational.specs.Rational.{Rational, ◌≈◌, part_above, part_below, fraction}
+use Rattle.rational.specs.Line.{Level, at, gap_line, constant, AreParallel, MeetAt}
 use Rattle.rational.proofs.Mixed.{parts, mul_parts}
 use Rattle.frac128.specs.declared.frac.Frac.{Frac}
 use Rattle.frac128.specs.declared.ramp.Ramp.{Ramp}
@@ -13,7 +13,7 @@ use Rattle.frac128.specs.Sizes.{IsQuotient}
 use Rattle.frac128.specs.Value.{value}
 use Rattle.frac128.specs.Line.{line}
 use Rattle.frac128.specs.Difference.{IsAbove}
-use Rattle.frac128.proofs.Differences.{gap_from_parts, meeting}
+use Rattle.frac128.proofs.Differences.{everywhere_zero, gap_from_parts, meeting, zero_everywhere}
 
 -- the value at 0, times the run
 pub offset_parts : (f : Ramp) (o : ℤ) → o ≡ f.v0 *ℤ pos f.run -ℤ f.rise *ℤ f.t0 → part_above o + (line f).base_down ≡ part_below o + (line f).base_up
@@ -45,6 +45,41 @@ gap_of_ramps f g of og base climb h =
   where
     difference : part_above base + part_below of * g.run + part_above og * f.run ≡ part_below base + part_above of * g.run + part_below og * f.run
     difference = let e = h.base_is in omega (arith, parts)
+
+-- two ramps of one run and one rise are one line exactly where their values at 0, times the run, are equal
+pub one_line_by_offsets : (f g : Ramp) (of og : ℤ) → f.run ≡ g.run → f.rise ≡ g.rise → of ≡ f.v0 *ℤ pos f.run -ℤ f.rise *ℤ f.t0
+    → og ≡ g.v0 *ℤ pos g.run -ℤ g.rise *ℤ g.t0 → of ≡ og ↔ ((t : Rational) → at (line f) t ≈ at (line g) t)
+one_line_by_offsets f g of og run rise first second =
+    (λ e. zero_everywhere (line f) (line g) base climb gap (base_zero e, climb_zero), λ h. equal (everywhere_zero (line f) (line g) base climb gap h).0)
+  where
+    base : ℤ
+    base = of *ℤ pos g.run -ℤ og *ℤ pos f.run
+
+    climb : ℤ
+    climb = f.rise *ℤ pos g.run -ℤ g.rise *ℤ pos f.run
+
+    gap : IsAbove (gap_line (line f) (line g)) base climb
+    gap = gap_of_ramps f g of og base climb (record { first = first; second = second; base_is = refl; climb_is = refl })
+
+    base_zero : of ≡ og → base ≡ pos 0
+    base_zero e = let is : base ≡ of *ℤ pos g.run -ℤ og *ℤ pos f.run = refl in
+        omega (arith, ints, is, ap (λ z. z *ℤ pos g.run) e, ap (λ n. og *ℤ pos n) run)
+
+    climb_zero : climb ≡ pos 0
+    climb_zero = let is : climb ≡ f.rise *ℤ pos g.run -ℤ g.rise *ℤ pos f.run = refl in
+        omega (arith, ints, is, ap (λ z. z *ℤ pos g.run) rise, ap (λ n. g.rise *ℤ pos n) run)
+
+    apart : (b : ℤ) → b ≡ of *ℤ pos g.run -ℤ og *ℤ pos f.run
+        → part_above b + part_below of * g.run + part_above og * f.run ≡ part_below b + part_above of * g.run + part_below og * f.run
+    apart b e = omega (arith, parts)
+
+    products : base ≡ pos 0 → (part_below of + part_above og) * g.run ≡ (part_above of + part_below og) * g.run
+    products z = let e = apart (pos 0) (sym z) in
+        omega (arith, parts, e, ap (λ n. part_above og * n) run, ap (λ n. part_below og * n) run)
+
+    equal : base ≡ pos 0 → of ≡ og
+    equal z = let k = eq_of_mul-eq-mul_right g.run g.positive (part_below of + part_above og) (part_above of + part_below og) (products z) in
+        omega (arith, parts, k)
 
 pub record ConstantDifference (f : Ramp) (c : Frac) (top offset num climb : ℤ) : Type 0 where
   -- the first value at 0, times the run

@@ -5,7 +5,7 @@ ghost use Rattle.std.specs.Int.RustNames.{unsigned_abs};
 ghost use Rattle.rational.specs.Rational.{IsOrder, fraction};
 ghost use Rattle.frac128.specs.Lowest.{HasDenominator, IsLowest, IsWide};
 
-use crate::arith::{gcd, gcd_of_wide, split, sum_of_products};
+use crate::arith::{gcd, gcd_of_wide, narrow, split, sum_of_products};
 use std::cmp::Ordering;
 
 /// A number whose denominator in lowest terms, `den`, is 2^60 or more, so that no `Frac` holds it.
@@ -70,6 +70,35 @@ impl Frac {
     ///
     /// `WideFrac`, with the denominator in lowest terms, exactly where that is 2^60 or more.
     pub fn make(num: i128, den: i128) -> Result<Frac, WideFrac>
+        requires positive { pos 0 <ℤ den }
+        requires floor { FitsFloor w64 (fraction num den) }
+        ensures ok { IfOk result (λ f. value f ≈ fraction num den) }
+        ensures wide { MatchResult result
+            (λ _. ¬ (IsWide (fraction num den)))
+            (λ e. HasDenominator (fraction num den) e.den × (2 ^ 60 ≤ e.den)) }
+    {
+        if den < 1 << 60 {
+            if let Some(n) = narrow(num) {
+                return Ok(Frac::quotient(n, den as u64));
+            }
+        }
+        Frac::make_wide(num, den)
+    }
+
+    /// The number `num / den`, by divisions in 64 bits.
+    #[inline(always)]
+    fn quotient(num: i64, den: u64) -> Frac
+        requires positive { 0 < den }
+        requires small { den < 2 ^ 60 }
+        ensures { value result ≈ fraction num (pos den) }
+    {
+        let by = den as i64;
+        Frac::mixed(num.div_euclid(by), num.rem_euclid(by).unsigned_abs(), den)
+    }
+
+    /// What `make` does, for any two numbers of 128 bits.
+    #[inline(never)]
+    fn make_wide(num: i128, den: i128) -> Result<Frac, WideFrac>
         requires positive { pos 0 <ℤ den }
         requires floor { FitsFloor w64 (fraction num den) }
         ensures ok { IfOk result (λ f. value f ≈ fraction num den) }

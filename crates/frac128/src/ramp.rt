@@ -204,10 +204,13 @@ impl Ramp {
     pub fn same(&self, other: &Ramp) -> bool
         ensures { IsTrue result ↔ ((t : Rational) → at (line self.now) t ≈ at (line other.now) t) }
     {
-        if self.run == other.run && self.rise != other.rise {
+        if self.run != other.run {
+            return self.lies_on(other);
+        }
+        if self.rise != other.rise {
             return false;
         }
-        self.lies_on(other)
+        self.offset() == other.offset()
     }
 
     /// Whether both have one value at every time, by products in 128 bits.

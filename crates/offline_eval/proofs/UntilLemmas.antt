@@ -3,7 +3,7 @@ use Rattle.std.proofs.Common.{◌≡◌, ◌⊎◌, inl, inr, ℕ, ℤ, pos, neg
 use Rattle.std.specs.Prelude.{Option, Some, None, IfSome, IsTrue}
 use Rattle.std.proofs.lemmas.Int.{ints}
 use Rattle.rational.specs.Time.{Rational, Within, later, ◌≈◌, ◌≤ʳ◌}
-use Rattle.rational.specs.Extended.{Extended, ◌≈ᵉ◌, IsSup}
+use Rattle.rational.specs.Extended.{Extended, ◌≈ᵉ◌, IsSup, IsLeast}
 use Rattle.rational.specs.Affine.{IsBounded}
 use Rattle.rational.specs.Windows.{Function, Window, Ahead, Behind, IsSupOver, IsInfOver, IsUntil, IsSince, UntilToEnd, SinceFromStart, IsUpTo, IsDownTo}
 use Rattle.rational.specs.InPlay.{Step, of_two, until_end, since_start, window_ahead, window_behind}
@@ -93,67 +93,42 @@ module _ {X P : Type 0} {form : Form X P} (laws : FormLaws form) where
       (o.0, (((laws.told (SinceOf form x y) (form.start x) (form.stop x) r made).worth t o.0).0 o.1).1)
 
   module _ (F G : Function) (from to : Rational) (x y : X) (left : IsTold form F from to x) (right : IsTold form G from to y) where
-    up_to_of : (t u : Rational) (v : Extended) → Within from to t → Within from to u
-        → (IsUpTo form.shape.highest (form.IsWorth x) (form.IsWorth y) t u v → IsUpTo form.shape.highest F G t u v)
-        × (IsUpTo form.shape.highest F G t u v → IsUpTo form.shape.highest (form.IsWorth x) (form.IsWorth y) t u v)
-    up_to_of t u v i j = (
-      λ (a, b, q, p, l). (
-        a,
-        b,
-        ((right.worth u a).0 q).1,
-        (inf_of laws F from to x (Within t u) (Within t u) b left (λ w k. k) (λ w k. k) (λ w k. within_stretch i j k)).0 p,
-        l,
-      ),
-      λ (a, b, q, p, l). (
-        a,
-        b,
-        (right.worth u a).1 (j, q),
-        (inf_of laws F from to x (Within t u) (Within t u) b left (λ w k. k) (λ w k. k) (λ w k. within_stretch i j k)).1 p,
-        l,
-      ),
-    )
+    -- the least of Q at u and the Inf of P over a stretch from t to u
+    abbrev RunOf : (Rational → Rational → Window) → Function → Function → Rational → Function
+    RunOf S P Q t u v = (a b : Extended) × Q u a × IsInfOver form.shape.highest (S t u) P b × IsLeast a b v
 
-    down_to_of : (t u : Rational) (v : Extended) → Within from to t → Within from to u
-        → (IsDownTo form.shape.highest (form.IsWorth x) (form.IsWorth y) t u v → IsDownTo form.shape.highest F G t u v)
-        × (IsDownTo form.shape.highest F G t u v → IsDownTo form.shape.highest (form.IsWorth x) (form.IsWorth y) t u v)
-    down_to_of t u v i j = (
-      λ (a, b, q, p, l). (
-        a,
-        b,
-        ((right.worth u a).0 q).1,
-        (inf_of laws F from to x (Within u t) (Within u t) b left (λ w k. k) (λ w k. k) (λ w k. within_stretch j i k)).0 p,
-        l,
-      ),
-      λ (a, b, q, p, l). (
-        a,
-        b,
-        (right.worth u a).1 (j, q),
-        (inf_of laws F from to x (Within u t) (Within u t) b left (λ w k. k) (λ w k. k) (λ w k. within_stretch j i k)).1 p,
-        l,
-      ),
-    )
+    module _ (S : Rational → Rational → Window) (stays : (t u w : Rational) → Within from to t → Within from to u → S t u w → Within from to w) where
+      run_of : (t u : Rational) (v : Extended) → Within from to t → Within from to u
+          → (RunOf S (form.IsWorth x) (form.IsWorth y) t u v → RunOf S F G t u v) × (RunOf S F G t u v → RunOf S (form.IsWorth x) (form.IsWorth y) t u v)
+      run_of t u v i j =
+          let same = λ (b : Extended). inf_of laws F from to x (S t u) (S t u) b left (λ w k. k) (λ w k. k) (λ w k. stays t u w i j k) in (
+            λ (a, b, q, p, l). (a, b, ((right.worth u a).0 q).1, (same b).0 p, l),
+            λ (a, b, q, p, l). (a, b, (right.worth u a).1 (j, q), (same b).1 p, l),
+          )
+
+      -- and the Sup of that over a window
+      runs_of : (W W' : Window) (t : Rational) (v : Extended) → Within from to t → ((u : Rational) → W u → W' u) → ((u : Rational) → W' u → W u)
+          → ((u : Rational) → W' u → Within from to u)
+          → (IsSupOver form.shape.lowest W (RunOf S (form.IsWorth x) (form.IsWorth y) t) v → IsSupOver form.shape.lowest W' (RunOf S F G t) v)
+          × (IsSupOver form.shape.lowest W' (RunOf S F G t) v → IsSupOver form.shape.lowest W (RunOf S (form.IsWorth x) (form.IsWorth y) t) v)
+      runs_of W W' t v i forth back inside = (
+        sup_alike form.shape.lowest v (λ z (u, w, f). (u, forth u w, (run_of t u z i (inside u (forth u w))).0 f))
+            (λ z (u, w, f). (u, back u w, (run_of t u z i (inside u w)).1 f)),
+        sup_alike form.shape.lowest v (λ z (u, w, f). (u, back u w, (run_of t u z i (inside u w)).1 f))
+            (λ z (u, w, f). (u, forth u w, (run_of t u z i (inside u (forth u w))).0 f)),
+      )
 
     until_of : (W W' : Window) (t : Rational) (v : Extended) → Within from to t → ((u : Rational) → W u → W' u) → ((u : Rational) → W' u → W u)
         → ((u : Rational) → W' u → Within from to u)
         → (IsUntil form.shape.lowest form.shape.highest W (form.IsWorth x) (form.IsWorth y) t v → IsUntil form.shape.lowest form.shape.highest W' F G t v)
         × (IsUntil form.shape.lowest form.shape.highest W' F G t v → IsUntil form.shape.lowest form.shape.highest W (form.IsWorth x) (form.IsWorth y) t v)
-    until_of W W' t v i forth back inside = (
-      sup_alike form.shape.lowest v (λ z (u, w, f). (u, forth u w, (up_to_of t u z i (inside u (forth u w))).0 f))
-          (λ z (u, w, f). (u, back u w, (up_to_of t u z i (inside u w)).1 f)),
-      sup_alike form.shape.lowest v (λ z (u, w, f). (u, back u w, (up_to_of t u z i (inside u w)).1 f))
-          (λ z (u, w, f). (u, forth u w, (up_to_of t u z i (inside u (forth u w))).0 f)),
-    )
+    until_of = runs_of (λ t u. Within t u) (λ t u w i j k. within_stretch i j k)
 
     since_of : (W W' : Window) (t : Rational) (v : Extended) → Within from to t → ((u : Rational) → W u → W' u) → ((u : Rational) → W' u → W u)
         → ((u : Rational) → W' u → Within from to u)
         → (IsSince form.shape.lowest form.shape.highest W (form.IsWorth x) (form.IsWorth y) t v → IsSince form.shape.lowest form.shape.highest W' F G t v)
         × (IsSince form.shape.lowest form.shape.highest W' F G t v → IsSince form.shape.lowest form.shape.highest W (form.IsWorth x) (form.IsWorth y) t v)
-    since_of W W' t v i forth back inside = (
-      sup_alike form.shape.lowest v (λ z (u, w, f). (u, forth u w, (down_to_of t u z i (inside u (forth u w))).0 f))
-          (λ z (u, w, f). (u, back u w, (down_to_of t u z i (inside u w)).1 f)),
-      sup_alike form.shape.lowest v (λ z (u, w, f). (u, back u w, (down_to_of t u z i (inside u w)).1 f))
-          (λ z (u, w, f). (u, forth u w, (down_to_of t u z i (inside u (forth u w))).0 f)),
-    )
+    since_of = runs_of (λ t u. Within u t) (λ t u w i j k. within_stretch j i k)
 
     -- until to the end of the signals is that of the functions
     to_end_of : (t : Rational) (v : Extended) → Within from to t → (UntilOf form x y t v → UntilToEnd form.shape.lowest form.shape.highest to F G t v)
@@ -229,7 +204,26 @@ module _ {X P : Type 0} {form : Form X P} (laws : FormLaws form) where
         back : (t : Rational) (u : Rational) → Ahead from to 0 b true true t u → Within t to u
         back t u a = record { above = le_trans (later_from t 0) a.begins; below = a.inside.below }
 
+    -- both signals have the same domain
+    same_begins : form.start y ≈ form.start x
+    same_begins = same_trans right.begins (same_sym left.begins)
+
+    same_ends : form.stop y ≈ form.stop x
+    same_ends = same_trans right.ends (same_sym left.ends)
+
     module _ (c u d r : X) where
+      -- the least of two windows tells what it is at each time, of a function with one value
+      least_told : (H : Function) {E : Function} → IsTold form E (form.start y) (form.stop y) c
+          → form.Tells (ChosenOf Least (form.IsWorth c) (form.IsWorth d)) (form.start c) (form.stop c) r
+          → ((t : Rational) (v : Extended) → Within (form.start x) (form.stop x) t → ChosenOf Least (form.IsWorth c) (form.IsWorth d) t v → H t v)
+          → ((t : Rational) (v w : Extended) → H t v → H t w → v ≈ᵉ w) → form.Tells H from to r
+      least_told H within made forth one =
+          let least = laws.told (ChosenOf Least (form.IsWorth c) (form.IsWorth d)) (form.start c) (form.stop c) r made in
+          tells_by_value (ChosenOf Least (form.IsWorth c) (form.IsWorth d)) H (form.start c) (form.stop c) from to r made
+          (same_trans least.begins (same_trans within.begins right.begins)) (same_trans least.ends (same_trans within.ends right.ends))
+          (λ t v w. let k = (least.worth t v).0 w in
+              forth t v (within_same_ends (same_trans within.begins same_begins) (same_trans within.ends same_ends) k.0) k.1) one
+
       -- the least of both windows tells the bounded until
       pub until_told : (a b : ℕ) → a ≤ b
           → IsTold form (SupAhead (form.start y) (form.stop y) (form.IsWorth y) form.shape.lowest a b true true) (form.start y) (form.stop y) c
@@ -239,31 +233,19 @@ module _ {X P : Type 0} {form : Form X P} (laws : FormLaws form) where
           → UntilIsComposed form.shape.lowest form.shape.highest (form.start x) (form.stop x) (form.IsWorth x) (form.IsWorth y)
           → form.Tells (λ t v. IsUntil form.shape.lowest form.shape.highest (Ahead from to a b true true t) F G t v) from to r
       until_told a b order within to_end kept made law =
-          tells_by_value (ChosenOf Least (form.IsWorth c) (form.IsWorth d))
-          (λ t v. IsUntil form.shape.lowest form.shape.highest (Ahead from to a b true true t) F G t v) (form.start c) (form.stop c) from to r made
-          (same_trans least.begins (same_trans within.begins right.begins)) (same_trans least.ends (same_trans within.ends right.ends))
-          (λ t v w. of_parts t v ((least.worth t v).0 w)) (λ t v w h k. one_sup form.shape.lowest v w h k)
+          least_told (λ t v. IsUntil form.shape.lowest form.shape.highest (Ahead from to a b true true t) F G t v) within made of_parts
+          (λ t v w h k. one_sup form.shape.lowest v w h k)
         where
-          least : IsTold form (ChosenOf Least (form.IsWorth c) (form.IsWorth d)) (form.start c) (form.stop c) r
-          least = laws.told (ChosenOf Least (form.IsWorth c) (form.IsWorth d)) (form.start c) (form.stop c) r made
-
-          begins : form.start y ≈ form.start x
-          begins = same_trans right.begins (same_sym left.begins)
-
-          ends : form.stop y ≈ form.stop x
-          ends = same_trans right.ends (same_sym left.ends)
-
-          of_parts : (t : Rational) (v : Extended) → Within (form.start c) (form.stop c) t × ChosenOf Least (form.IsWorth c) (form.IsWorth d) t v
+          of_parts : (t : Rational) (v : Extended) → Within (form.start x) (form.stop x) t → ChosenOf Least (form.IsWorth c) (form.IsWorth d) t v
               → IsUntil form.shape.lowest form.shape.highest (Ahead from to a b true true t) F G t v
-          of_parts t v (i, (p, q, f, g, one)) =
-              let j : Within (form.start x) (form.stop x) t = within_same_ends (same_trans within.begins begins) (same_trans within.ends ends) i in
+          of_parts t v j (p, q, f, g, one) =
               let sup = sup_alike form.shape.lowest p (λ z (w, k, h). (
                 w,
                 ahead_ends (form.start y) (form.stop y) (form.start x)
-                    (form.stop x) begins ends k,
+                    (form.stop x) same_begins same_ends k,
                 h,
               ))
-              (λ z (w, k, h). (w, ahead_ends (form.start x) (form.stop x) (form.start y) (form.stop y) (same_sym begins) (same_sym ends) k, h))
+              (λ z (w, k, h). (w, ahead_ends (form.start x) (form.stop x) (form.start y) (form.stop y) (same_sym same_begins) (same_sym same_ends) k, h))
               ((within.worth t p).0 f).1 in
               let inf = (inf_of laws (UntilOf form x y) (form.start x) (form.stop x) u (Ahead (form.start u) (form.stop u) 0 a true true t)
               (Ahead (form.start x) (form.stop x) 0 a true true t) q to_end
@@ -285,31 +267,19 @@ module _ {X P : Type 0} {form : Form X P} (laws : FormLaws form) where
           → SinceIsComposed form.shape.lowest form.shape.highest (form.start x) (form.stop x) (form.IsWorth x) (form.IsWorth y)
           → form.Tells (λ t v. IsSince form.shape.lowest form.shape.highest (Behind from to a b true true t) F G t v) from to r
       since_told a b order within from_start kept made law =
-          tells_by_value (ChosenOf Least (form.IsWorth c) (form.IsWorth d))
-          (λ t v. IsSince form.shape.lowest form.shape.highest (Behind from to a b true true t) F G t v) (form.start c) (form.stop c) from to r made
-          (same_trans least.begins (same_trans within.begins right.begins)) (same_trans least.ends (same_trans within.ends right.ends))
-          (λ t v w. of_parts t v ((least.worth t v).0 w)) (λ t v w h k. one_sup form.shape.lowest v w h k)
+          least_told (λ t v. IsSince form.shape.lowest form.shape.highest (Behind from to a b true true t) F G t v) within made of_parts
+          (λ t v w h k. one_sup form.shape.lowest v w h k)
         where
-          least : IsTold form (ChosenOf Least (form.IsWorth c) (form.IsWorth d)) (form.start c) (form.stop c) r
-          least = laws.told (ChosenOf Least (form.IsWorth c) (form.IsWorth d)) (form.start c) (form.stop c) r made
-
-          begins : form.start y ≈ form.start x
-          begins = same_trans right.begins (same_sym left.begins)
-
-          ends : form.stop y ≈ form.stop x
-          ends = same_trans right.ends (same_sym left.ends)
-
-          of_parts : (t : Rational) (v : Extended) → Within (form.start c) (form.stop c) t × ChosenOf Least (form.IsWorth c) (form.IsWorth d) t v
+          of_parts : (t : Rational) (v : Extended) → Within (form.start x) (form.stop x) t → ChosenOf Least (form.IsWorth c) (form.IsWorth d) t v
               → IsSince form.shape.lowest form.shape.highest (Behind from to a b true true t) F G t v
-          of_parts t v (i, (p, q, f, g, one)) =
-              let j : Within (form.start x) (form.stop x) t = within_same_ends (same_trans within.begins begins) (same_trans within.ends ends) i in
+          of_parts t v j (p, q, f, g, one) =
               let sup = sup_alike form.shape.lowest p (λ z (w, k, h). (
                 w,
                 behind_ends (form.start y) (form.stop y) (form.start x)
-                    (form.stop x) begins ends k,
+                    (form.stop x) same_begins same_ends k,
                 h,
               ))
-              (λ z (w, k, h). (w, behind_ends (form.start x) (form.stop x) (form.start y) (form.stop y) (same_sym begins) (same_sym ends) k, h))
+              (λ z (w, k, h). (w, behind_ends (form.start x) (form.stop x) (form.start y) (form.stop y) (same_sym same_begins) (same_sym same_ends) k, h))
               ((within.worth t p).0 f).1 in
               let inf = (inf_of laws (SinceOf form x y) (form.start x) (form.stop x) u (Behind (form.start u) (form.stop u) 0 (Some a) true true t)
               (Behind (form.start x) (form.stop x) 0 (Some a) true true t) q from_start
@@ -321,6 +291,21 @@ module _ {X P : Type 0} {form : Form X P} (laws : FormLaws form) where
               (λ w k. behind_ends from to (form.start x) (form.stop x) (same_sym left.begins) (same_sym left.ends) k) (λ w k. k.inside)).0
               (law t a b p q v j order sup inf one)
 
+  -- what one signal tells, it tells at the times of another that tells over the same stretch
+  on_other : (F G : Function) (from to : Rational) (x y : X) → form.Tells F from to x → form.Tells G from to y
+      → IsOn (form.start x) (form.stop x) (form.IsWorth y) G
+  on_other F G from to x y left right =
+      let first = laws.told F from to x left in
+      let second = laws.told G from to y right in
+      let o = on_of laws G from to y right in
+      let begins = same_trans second.begins (same_sym first.begins) in
+      let ends = same_trans second.ends (same_sym first.ends) in
+      record {
+        inside = λ t v w. within_same_ends begins ends (o.inside t v w);
+        forth = o.forth;
+        back = λ t v i f. o.back t v (within_same_ends (same_sym begins) (same_sym ends) i) f;
+      }
+
   -- faults of until to the end and of since from the start
   pub to_end_fault : (x y : X) (p q : Subformula) (a b : ℕ) (s : Setting) (e : OpFault P) → s.lowest ≡ form.shape.lowest
       → s.highest ≡ form.shape.highest → form.Tells (SupInf p s) s.from s.to x → form.Tells (SupInf q s) s.from s.to y
@@ -330,7 +315,7 @@ module _ {X P : Type 0} {form : Form X P} (laws : FormLaws form) where
       (until a b p q) s e first.begins first.ends
       (λ tau line k l i. until_along (form.start x) (form.stop x) s.from s.to first.begins first.ends (form.IsWorth x) (SupInf p s) (form.IsWorth y)
       (SupInf q s) (UntilOf form x y) (until_to_end s (SupInf p s) (SupInf q s))
-      (on_of laws (SupInf p s) s.from s.to x left) on_right alike tau line k i)
+      (on_of laws (SupInf p s) s.from s.to x left) (on_other (SupInf p s) (SupInf q s) s.from s.to x y left right) alike tau line k i)
       (λ C i. inr (inl i)) h
     where
       first : IsTold form (SupInf p s) s.from s.to x
@@ -338,17 +323,6 @@ module _ {X P : Type 0} {form : Form X P} (laws : FormLaws form) where
 
       second : IsTold form (SupInf q s) s.from s.to y
       second = laws.told (SupInf q s) s.from s.to y right
-
-      on_right : IsOn (form.start x) (form.stop x) (form.IsWorth y) (SupInf q s)
-      on_right =
-          let o = on_of laws (SupInf q s) s.from s.to y right in
-          let begins = same_trans second.begins (same_sym first.begins) in
-          let ends = same_trans second.ends (same_sym first.ends) in
-          record {
-            inside = λ t v w. within_same_ends begins ends (o.inside t v w);
-            forth = o.forth;
-            back = λ t v i f. o.back t v (within_same_ends (same_sym begins) (same_sym ends) i) f;
-          }
 
       alike : AreAlike (form.start x) (form.stop x) (UntilOf form x y) (until_to_end s (SupInf p s) (SupInf q s))
       alike = record {
@@ -367,7 +341,7 @@ module _ {X P : Type 0} {form : Form X P} (laws : FormLaws form) where
       (since a b p q) s e first.begins first.ends
       (λ tau line k l i. since_along (form.start x) (form.stop x) s.from s.to first.begins first.ends (form.IsWorth x) (SupInf p s) (form.IsWorth y)
       (SupInf q s) (SinceOf form x y) (since_from_start s (SupInf p s) (SupInf q s))
-      (on_of laws (SupInf p s) s.from s.to x left) on_right alike tau line l i)
+      (on_of laws (SupInf p s) s.from s.to x left) (on_other (SupInf p s) (SupInf q s) s.from s.to x y left right) alike tau line l i)
       (λ C i. inr (inl i)) h
     where
       first : IsTold form (SupInf p s) s.from s.to x
@@ -375,17 +349,6 @@ module _ {X P : Type 0} {form : Form X P} (laws : FormLaws form) where
 
       second : IsTold form (SupInf q s) s.from s.to y
       second = laws.told (SupInf q s) s.from s.to y right
-
-      on_right : IsOn (form.start x) (form.stop x) (form.IsWorth y) (SupInf q s)
-      on_right =
-          let o = on_of laws (SupInf q s) s.from s.to y right in
-          let begins = same_trans second.begins (same_sym first.begins) in
-          let ends = same_trans second.ends (same_sym first.ends) in
-          record {
-            inside = λ t v w. within_same_ends begins ends (o.inside t v w);
-            forth = o.forth;
-            back = λ t v i f. o.back t v (within_same_ends (same_sym begins) (same_sym ends) i) f;
-          }
 
       alike : AreAlike (form.start x) (form.stop x) (SinceOf form x y) (since_from_start s (SupInf p s) (SupInf q s))
       alike = record {
@@ -424,28 +387,26 @@ module _ {X P : Type 0} {form : Form X P} (laws : FormLaws form) where
         by_test true e = let f = bases p h e in subst (λ b. (neg_ℤ (pos (2 ^ 32)) ≤ℤ b) × (b ≤ℤ pos (2 ^ 33))) (sym f.3) (of_one f.0 f.1)
         by_test false e = near_zero (form.shape.base p) (kind.base_of_others p e)
 
-    -- until to the end of fit signals is fit
-    pub to_end_fit : (x y r : X) → AreFit form x y → form.Tells (UntilOf form x y) (form.start x) (form.stop x) r → BasesOfTwo form x y r → IsFit form r
-    to_end_fit x y r fit made bases =
-        let is = laws.told (UntilOf form x y) (form.start x) (form.stop x) r made in record {
-          limited = limited_along laws (UntilOf form x y) x r fit.left.limited made
-              (to_end_bounded x y kind.lowest_bounded kind.highest_bounded fit.left.limited fit.right.limited);
+    fit_of : (W : Function) (x y r : X) → AreFit form x y → form.Tells W (form.start x) (form.stop x) r → BasesOfTwo form x y r
+        → ((t : Rational) (v : Extended) → W t v → IsBounded (2 ^ 31) v) → IsFit form r
+    fit_of W x y r fit made bases bounded =
+        let is = laws.told W (form.start x) (form.stop x) r made in record {
+          limited = limited_along laws W x r fit.left.limited made bounded;
           first = le_trans fit.left.first (ge_of_same is.begins);
           last = le_trans (le_of_same is.ends) fit.left.last;
           near = near_of_two x y r fit.left fit.right bases;
         }
 
+    -- until to the end of fit signals is fit
+    pub to_end_fit : (x y r : X) → AreFit form x y → form.Tells (UntilOf form x y) (form.start x) (form.stop x) r → BasesOfTwo form x y r → IsFit form r
+    to_end_fit x y r fit made bases = fit_of (UntilOf form x y) x y r fit made bases
+        (to_end_bounded x y kind.lowest_bounded kind.highest_bounded fit.left.limited fit.right.limited)
+
     -- so for since from the start
     pub from_start_fit : (x y r : X) → AreFit form x y → form.Tells (SinceOf form x y) (form.start x) (form.stop x) r → BasesOfTwo form x y r
         → IsFit form r
-    from_start_fit x y r fit made bases =
-        let is = laws.told (SinceOf form x y) (form.start x) (form.stop x) r made in record {
-          limited = limited_along laws (SinceOf form x y) x r fit.left.limited made
-              (from_start_bounded x y kind.lowest_bounded kind.highest_bounded fit.left.limited fit.right.limited);
-          first = le_trans fit.left.first (ge_of_same is.begins);
-          last = le_trans (le_of_same is.ends) fit.left.last;
-          near = near_of_two x y r fit.left fit.right bases;
-        }
+    from_start_fit x y r fit made bases = fit_of (SinceOf form x y) x y r fit made bases
+        (from_start_bounded x y kind.lowest_bounded kind.highest_bounded fit.left.limited fit.right.limited)
 
 moved_same : (own more : ℕ) (old other new : ℤ) → own ≤ more → IsMovedBy own old new → old ≡ other → IsMovedBy more other new
 moved_same own more old other new h m e = let a = m.not_less in let b = m.not_more in

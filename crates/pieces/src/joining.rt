@@ -19,7 +19,7 @@ use crate::pieces::go_on;
 use crate::window::trend;
 use crate::{Piece, Pieces};
 use frac128::{Cut, Memory};
-use pl_signal::{Side, WidePair, crossing, favour, keep};
+use pl_signal::{Side, WidePair, crossing_kept, favour};
 use std::cmp::Ordering;
 use value_laws::Shape;
 
@@ -153,7 +153,7 @@ impl<P: Shape> Pieces<P> {
         ensures err { OnErr result (self.new ≡ self.old) }
         ensures wide { OnErr result (IfSome fault.new (λ pair. IsGapFault P.Shape p.now q.now from.now.time until.now.time (F.Wide pair))) }
     {
-        let time = keep(crossing(p, q, &from.time, &until.time), fault)?;
+        let time = crossing_kept(p, q, &from.time, &until.time, fault)?;
         let middle = Cut { time, side: 0 };
         self.items.reserve(2)?;
         if first {

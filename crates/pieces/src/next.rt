@@ -27,23 +27,28 @@ impl Next {
         ensures before_left { AtMost (place result.until) (place x.now) }
         ensures before_right { AtMost (place result.until) (place y.now) }
     {
-        match order_of(x, y) {
-            Ordering::Less => Next {
-                until: *x,
-                left: true,
-                right: false,
-            },
-            Ordering::Equal => Next {
-                until: *x,
-                left: true,
-                right: true,
-            },
-            Ordering::Greater => Next {
-                until: *y,
-                left: false,
-                right: true,
-            },
+        let (until, left, right) = next_of(x, y);
+        Next {
+            until: *until,
+            left,
+            right,
         }
+    }
+}
+
+/// The earlier of two places by reference, so that nothing is copied, and whether each of the two is it.
+#[inline(always)]
+pub(crate) fn next_of<'a>(x: &'a Cut, y: &'a Cut) -> (&'a Cut, bool, bool)
+    ensures one { (result.0.now ≡ x.now) ⊎ (result.0.now ≡ y.now) }
+    ensures left { IsTrue result.1 ↔ Same (place x.now) (place result.0.now) }
+    ensures right { IsTrue result.2 ↔ Same (place y.now) (place result.0.now) }
+    ensures before_left { AtMost (place result.0.now) (place x.now) }
+    ensures before_right { AtMost (place result.0.now) (place y.now) }
+{
+    match order_of(x, y) {
+        Ordering::Less => (x, true, false),
+        Ordering::Equal => (x, true, true),
+        Ordering::Greater => (y, false, true),
     }
 }
 

@@ -9,7 +9,7 @@ ghost use Rattle.pieces.specs.Chains.{HasShape, IsLimited, IsWorth, Tells, stop}
 ghost use Rattle.pieces.specs.Joining.{IsJoinFault};
 
 use crate::Pieces;
-use crate::next::{Next, passed};
+use crate::next::{next_of, passed};
 use frac128::Memory;
 use pl_signal::{OpFault, Side, fault_of};
 use value_laws::Shape;
@@ -82,13 +82,13 @@ fn combined<P: Shape>(side: Side, a: &Pieces<P>, b: &Pieces<P>) -> Result<Pieces
     while i < count {
         let p = a.piece(i);
         let q = b.piece(j);
-        let next = Next::of(&p.until, &q.until);
-        match built.join(side, &p.shape, &q.shape, &next.until, &mut fault) {
+        let (until, ends_p, ends_q) = next_of(&p.until, &q.until);
+        match built.join(side, &p.shape, &q.shape, until, &mut fault) {
             Ok(()) => {}
             Err(Memory) => return Err(fault_of(fault)),
         }
-        i = passed(i, next.left);
-        j = passed(j, next.right);
+        i = passed(i, ends_p);
+        j = passed(j, ends_q);
     }
     Ok(built)
 }

@@ -19,7 +19,7 @@ ghost use Rattle.pieces.specs.Joining.{Joins};
 ghost use Rattle.pieces.specs.Sinces.{BasesOfTwo, GoesOver, IsFit, IsPartFault, IsPassFault, Passes, SinceOf, SinceStep};
 
 use crate::Pieces;
-use crate::next::{Next, passed};
+use crate::next::{next_of, passed};
 use courses::{Course, Gap, Meet, course_over, is_under, limit_of, turning};
 use frac128::{Cut, Memory};
 use pl_signal::{OpFault, Side, WidePair, chosen, fault_of};
@@ -58,20 +58,20 @@ pub fn since_from_start<P: Shape>(a: &Pieces<P>, b: &Pieces<P>) -> Result<Pieces
     while i < count {
         let p = a.piece(i);
         let q = b.piece(j);
-        let next = Next::of(&p.until, &q.until);
+        let (until, ends_p, ends_q) = next_of(&p.until, &q.until);
         let gap = Gap {
             before,
             left: p.shape,
             right: q.shape,
             from: built.until().time,
-            to: next.until.time,
+            to: until.time,
         };
-        match pass(&mut built, &gap, &next.until, &mut fault) {
+        match pass(&mut built, &gap, until, &mut fault) {
             Ok(last) => before = last,
             Err(Memory) => return Err(fault_of(fault)),
         }
-        i = passed(i, next.left);
-        j = passed(j, next.right);
+        i = passed(i, ends_p);
+        j = passed(j, ends_q);
     }
     Ok(built)
 }

@@ -89,9 +89,14 @@ pub fn crossing<P: Shape>(p: &P, q: &P, from: &Frac, to: &Frac) -> Result<Frac, 
     }
 }
 
-/// The time at which the two cross, as `crossing` tells it; what is refused is put into `fault`, so that the answer is small.
+/// The time at which the two cross, as `crossing` tells it; what is refused is put into `fault`, so that the answer is small. Nothing is
+/// put there for want of memory.
+///
+/// # Errors
+///
+/// `Memory` where the time needs a denominator of 2^60 or more.
 #[inline(always)]
-pub(crate) fn crossing_kept<P: Shape>(
+pub fn crossing_kept<P: Shape>(
     p: &P,
     q: &P,
     from: &Frac,

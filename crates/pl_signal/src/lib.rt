@@ -12,7 +12,7 @@ mod signal;
 
 pub use builder::Builder;
 pub use faults::{OpFault, WidePair, fault_of, keep};
-pub use joining::{Side, chosen, chosen_in_place, crossing, favour};
+pub use joining::{Side, chosen, chosen_in_place, crossing, crossing_kept, favour};
 pub use knot::Knot;
 pub use sample::{Next, Sample, earlier};
 pub use signal::Signal;

@@ -132,7 +132,7 @@ impl Shape for Margin {
             (Margin::Ramp(f), Margin::Ramp(g)) => f.same(g),
             (Margin::Ramp(f), Margin::Fixed(c)) => is_level(f, c),
             (Margin::Fixed(c), Margin::Ramp(f)) => is_level(f, c),
-            (Margin::Fixed(c), Margin::Fixed(d)) => c.cmp(d).is_eq(),
+            (Margin::Fixed(c), Margin::Fixed(d)) => *c == *d,
             (Margin::Low, Margin::Low) | (Margin::High, Margin::High) => true,
             _ => false,
         }

@@ -37,10 +37,32 @@ impl Ramp {
             (λ q. ¬ (Level (line self.now)) × MeetAt (line self.now) (constant (value c.now)) (fraction q.num q.den)) }
         ensures den { IfSome result (λ q. unsigned_abs q.den ≡ unsigned_abs (rise_in_run self.now) * denominator c.now) }
     {
+        if c.den() == 1 {
+            return self.cross_whole(c);
+        }
         let den = i128::from(c.den());
         let num = determinant(c.top(), i128::from(self.run), self.offset(), den);
         let climb = determinant(i128::from(self.rise), den, 0, 0);
         Ratio::quotient(num, climb)
+    }
+
+    /// The same of a whole number, by few products.
+    #[inline(always)]
+    fn cross_whole(&self, c: &Frac) -> Option<Ratio>
+        requires within { IsWithin (2 ^ 32) (value c.now) }
+        requires whole { denominator c.now ≡ 1 }
+        ensures meets { MatchOption result
+            (Level (line self.now))
+            (λ q. ¬ (Level (line self.now)) × MeetAt (line self.now) (constant (value c.now)) (fraction q.num q.den)) }
+        ensures den { IfSome result (λ q. unsigned_abs q.den ≡ unsigned_abs (rise_in_run self.now) * denominator c.now) }
+    {
+        let num = determinant(
+            i128::from(c.whole()),
+            i128::from(self.run),
+            self.offset(),
+            1,
+        );
+        Ratio::quotient(num, i128::from(self.rise))
     }
 
     /// The time between `from` and `to` at which both ramps have one value, and at no other time. None exactly where

@@ -19,7 +19,7 @@ use Rattle.pieces.proofs.ReadUpTo.{StandsAt, stands_first, stands_last, shape_at
 use Rattle.pieces.proofs.CombiningLemmas.{JoinsBoth, joined_shapes, tells_joined, fault_of_parts}
 use Rattle.pieces.proofs.TwoChains.{IsStep, has_other, step_below, step_later, step_left, step_left_on, step_nearer, step_right, step_right_on, step_within}
 use Rattle.pieces.proofs.pointwise.combined.Given.{Over}
-use Rattle.pieces.proofs.pointwise.combined.Goals.{After-of-next}
+use Rattle.pieces.proofs.pointwise.combined.Goals.{After-next_of-ends_p}
 use Rattle.pieces.proofs.pointwise.combined.Goals as goal
 
 pub loop-i-init : goal.loop-i-init
@@ -47,8 +47,8 @@ piece-q-requires g c =
     c.loop-i.invariant.left c.loop-i.invariant.right c.piece-p.ensures c.requires.ends
 
 -- the step to the next place
-step : (g : Over) (c : After-of-next g) → IsStep g.P.Shape c.args.a.now c.args.b.now (stop c.loop-i.built) c.loop-i.i c.loop-i.j c.piece-p.result.now
-    c.piece-q.result.now c.of-next.result
+step : (g : Over) (c : After-next_of-ends_p g) → IsStep g.P.Shape c.args.a.now c.args.b.now (stop c.loop-i.built) c.loop-i.i c.loop-i.j c.piece-p.result.now
+    c.piece-q.result.now (record { until = c.next_of-ends_p.result.0.now; left = c.next_of-ends_p.result.1; right = c.next_of-ends_p.result.2 })
 step g c = record {
   left_normal = c.len-count.ensures.normal;
   right_normal = c.len-others.ensures.normal;
@@ -56,18 +56,18 @@ step g c = record {
   right = c.loop-i.invariant.right;
   at_p = c.piece-p.ensures;
   at_q = c.piece-q.ensures;
-  one = c.of-next.ensures.one;
-  ends_left = c.of-next.ensures.left;
-  ends_right = c.of-next.ensures.right;
-  before_left = c.of-next.ensures.before_left;
-  before_right = c.of-next.ensures.before_right;
+  one = c.next_of-ends_p.ensures.one;
+  ends_left = c.next_of-ends_p.ensures.left;
+  ends_right = c.next_of-ends_p.ensures.right;
+  before_left = c.next_of-ends_p.ensures.before_left;
+  before_right = c.next_of-ends_p.ensures.before_right;
 }
 
 pub join-requires-clause-later : goal.join-requires-clause-later
-join-requires-clause-later g c = step_later (step g (goal.at.join-requires-clause-later g c).After-of-next)
+join-requires-clause-later g c = step_later (step g (goal.at.join-requires-clause-later g c).After-next_of-ends_p)
 
 pub join-requires-clause-to_within : goal.join-requires-clause-to_within
-join-requires-clause-to_within g c = step_within (step g (goal.at.join-requires-clause-to_within g c).After-of-next) c.requires.left c.requires.right
+join-requires-clause-to_within g c = step_within (step g (goal.at.join-requires-clause-to_within g c).After-next_of-ends_p) c.requires.left c.requires.right
 
 pub join-requires-clause-first : goal.join-requires-clause-first
 join-requires-clause-first g c =
@@ -79,35 +79,35 @@ join-requires-clause-second g c =
 
 pub returns-in-Err-clause-wide : goal.returns-in-Err-clause-wide
 returns-in-Err-clause-wide g c =
-    let s = step g (goal.at.returns-in-Err-clause-wide g c).After-of-next in
+    let s = step g (goal.at.returns-in-Err-clause-wide g c).After-next_of-ends_p in
     fault_kept (IsJoinFault g.P.Shape c.args.a.now c.args.b.now) c.fault_of.result c.join.new.fault c.fault_of.ensures tt
     (IfSome_then c.join.new.fault c.in-Err.ensures.wide (λ pair (from, at, fault).
-    fault_of_parts g.P.Shape c.args.a.now c.args.b.now c.piece-p.result.now.shape c.piece-q.result.now.shape from c.of-next.result.until.time
+    fault_of_parts g.P.Shape c.args.a.now c.args.b.now c.piece-p.result.now.shape c.piece-q.result.now.shape from c.next_of-ends_p.result.0.now.time
     (F.Wide pair) fault
     (subst (λ s. c.args.a.now.from.at ≤ʳ s) (sym at) (le_of_at_most c.args.a.now.from (stop c.loop-i.built) c.loop-i.invariant.above))
-    (le_of_at_most (place c.of-next.result.until) (stop c.args.a.now) (step_below s))
+    (le_of_at_most (place c.next_of-ends_p.result.0.now) (stop c.args.a.now) (step_below s))
     (shape_at c.args.a.now.pieces c.loop-i.i c.piece-p.result.now c.piece-p.ensures)
     (shape_at c.args.b.now.pieces c.loop-i.j c.piece-q.result.now c.piece-q.ensures)
-    (λ t h l. step_left_on s t (after_of_lt (stop c.loop-i.built) t (subst (λ s. s <ʳ t) at h)) (upto_of_lt (place c.of-next.result.until) t l))
-    (λ t h l. step_right_on s t (after_of_lt (stop c.loop-i.built) t (subst (λ s. s <ʳ t) at h)) (upto_of_lt (place c.of-next.result.until) t l))))
+    (λ t h l. step_left_on s t (after_of_lt (stop c.loop-i.built) t (subst (λ s. s <ʳ t) at h)) (upto_of_lt (place c.next_of-ends_p.result.0.now) t l))
+    (λ t h l. step_right_on s t (after_of_lt (stop c.loop-i.built) t (subst (λ s. s <ʳ t) at h)) (upto_of_lt (place c.next_of-ends_p.result.0.now) t l))))
 
 pub loop-i-smaller : goal.loop-i-smaller
 loop-i-smaller g c =
     subst (λ i. (length c.args.a.now.pieces - i) + (length c.args.b.now.pieces - c.passed-j.result)
     < (length c.args.a.now.pieces - c.loop-i.i) + (length c.args.b.now.pieces - c.loop-i.j)) (sym c.passed-i.ensures)
-    (subst (λ j. (length c.args.a.now.pieces - (if c.of-next.result.left then c.loop-i.i + 1 else c.loop-i.i)) + (length c.args.b.now.pieces - j)
+    (subst (λ j. (length c.args.a.now.pieces - (if c.next_of-ends_p.result.1 then c.loop-i.i + 1 else c.loop-i.i)) + (length c.args.b.now.pieces - j)
     < (length c.args.a.now.pieces - c.loop-i.i) + (length c.args.b.now.pieces - c.loop-i.j)) (sym c.passed-j.ensures)
-    (step_nearer (step g (goal.at.loop-i-smaller g c).After-of-next)))
+    (step_nearer (step g (goal.at.loop-i-smaller g c).After-next_of-ends_p)))
 
 pub loop-i-preserved : goal.loop-i-preserved
 loop-i-preserved g c =
-    let s = step g (goal.at.loop-i-preserved g c).After-of-next in
+    let s = step g (goal.at.loop-i-preserved g c).After-next_of-ends_p in
     let joins = c.in-Ok.ensures.ok in
     let ends = sym joins.ends in
     let both : JoinsBoth g.P.Shape c.args.side c.args.a.now c.args.b.now c.loop-i.built c.join.new.self = record {
       p = c.piece-p.result.now.shape;
       q = c.piece-q.result.now.shape;
-      until = c.of-next.result.until;
+      until = c.next_of-ends_p.result.0.now;
       joins = joins;
       has_p = shape_at c.args.a.now.pieces c.loop-i.i c.piece-p.result.now c.piece-p.ensures;
       has_q = shape_at c.args.b.now.pieces c.loop-i.j c.piece-q.result.now c.piece-q.ensures;
@@ -119,13 +119,13 @@ loop-i-preserved g c =
       begins = joins.begins ∙ c.loop-i.invariant.begins;
       within = subst (λ s. IsWithin (2 ^ 34) s.at) ends (step_within s c.requires.left c.requires.right);
       above = subst (λ s. AtMost c.args.a.now.from s) ends
-          (at_most_trans c.args.a.now.from (stop c.loop-i.built) (place c.of-next.result.until) c.loop-i.invariant.above
-          (at_most_of_before (stop c.loop-i.built) (place c.of-next.result.until) (step_later s)));
+          (at_most_trans c.args.a.now.from (stop c.loop-i.built) (place c.next_of-ends_p.result.0.now) c.loop-i.invariant.above
+          (at_most_of_before (stop c.loop-i.built) (place c.next_of-ends_p.result.0.now) (step_later s)));
       below = subst (λ s. AtMost s (stop c.args.a.now)) ends (step_below s);
       left = subst (λ i. StandsAt c.args.a.now (stop c.join.new.self) i) (sym c.passed-i.ensures)
-          (subst (λ s. StandsAt c.args.a.now s (if c.of-next.result.left then c.loop-i.i + 1 else c.loop-i.i)) ends (step_left s));
+          (subst (λ s. StandsAt c.args.a.now s (if c.next_of-ends_p.result.1 then c.loop-i.i + 1 else c.loop-i.i)) ends (step_left s));
       right = subst (λ j. StandsAt c.args.b.now (stop c.join.new.self) j) (sym c.passed-j.ensures)
-          (subst (λ s. StandsAt c.args.b.now s (if c.of-next.result.right then c.loop-i.j + 1 else c.loop-i.j)) ends (step_right s));
+          (subst (λ s. StandsAt c.args.b.now s (if c.next_of-ends_p.result.2 then c.loop-i.j + 1 else c.loop-i.j)) ends (step_right s));
       still = c.in-Ok.ensures.still;
       shapes = joined_shapes g.P.Shape c.args.side c.args.a.now c.args.b.now c.loop-i.invariant.shapes both;
     }

@@ -28,7 +28,7 @@ use Rattle.pieces.proofs.Breakpoints.{breakpoint_at}
 use Rattle.pieces.proofs.SincePlaces.{since_begins}
 use Rattle.pieces.proofs.SinceSteps.{AreOperands, Breaks, IsPart, SinceAt, bases_of_stand, is_fit, refused, since_is, through}
 use Rattle.pieces.proofs.since.since_from_start.Given.{Over}
-use Rattle.pieces.proofs.since.since_from_start.Goals.{After-of-next, After-until}
+use Rattle.pieces.proofs.since.since_from_start.Goals.{After-next_of-ends_p, After-until}
 use Rattle.pieces.proofs.since.since_from_start.Goals as goal
 
 pub loop-i-init : goal.loop-i-init
@@ -63,8 +63,8 @@ piece-q-requires g c =
     c.loop-i.invariant.left c.loop-i.invariant.right c.piece-p.ensures c.requires.ends
 
 -- the step to the next place
-step : (g : Over) (c : After-of-next g) → IsStep g.P.Shape c.args.a.now c.args.b.now (stop c.loop-i.built) c.loop-i.i c.loop-i.j c.piece-p.result.now
-    c.piece-q.result.now c.of-next.result
+step : (g : Over) (c : After-next_of-ends_p g) → IsStep g.P.Shape c.args.a.now c.args.b.now (stop c.loop-i.built) c.loop-i.i c.loop-i.j c.piece-p.result.now
+    c.piece-q.result.now (record { until = c.next_of-ends_p.result.0.now; left = c.next_of-ends_p.result.1; right = c.next_of-ends_p.result.2 })
 step g c = record {
   left_normal = c.len-count.ensures.normal;
   right_normal = c.len-others.ensures.normal;
@@ -72,14 +72,14 @@ step g c = record {
   right = c.loop-i.invariant.right;
   at_p = c.piece-p.ensures;
   at_q = c.piece-q.ensures;
-  one = c.of-next.ensures.one;
-  ends_left = c.of-next.ensures.left;
-  ends_right = c.of-next.ensures.right;
-  before_left = c.of-next.ensures.before_left;
-  before_right = c.of-next.ensures.before_right;
+  one = c.next_of-ends_p.ensures.one;
+  ends_left = c.next_of-ends_p.ensures.left;
+  ends_right = c.next_of-ends_p.ensures.right;
+  before_left = c.next_of-ends_p.ensures.before_left;
+  before_right = c.next_of-ends_p.ensures.before_right;
 }
 
-two : (g : Over) (c : After-of-next g) → AreOperands g.P.Shape c.args.a.now c.args.b.now
+two : (g : Over) (c : After-next_of-ends_p g) → AreOperands g.P.Shape c.args.a.now c.args.b.now
 two g c = record {
   laws = assumption g.met.P.Shape;
   left_normal = c.len-count.ensures.normal;
@@ -94,13 +94,13 @@ part : (g : Over) (c : After-until g) → IsPart g.P.Shape c.args.a.now c.args.b
   left = c.piece-p.result.now.shape;
   right = c.piece-q.result.now.shape;
   from = c.until.result.time;
-  to = c.of-next.result.until.time;
-}) (is_after c.until.result.side) (place c.of-next.result.until)
+  to = c.next_of-ends_p.result.0.now.time;
+}) (is_after c.until.result.side) (place c.next_of-ends_p.result.0.now)
 part g c =
-    let s = step g (goal.at.After-until g c).After-of-next in
+    let s = step g (goal.at.After-until g c).After-next_of-ends_p in
     let at = c.until.ensures.value in
     record {
-      later = subst (λ x. Before x (place c.of-next.result.until)) (sym at) (step_later s);
+      later = subst (λ x. Before x (place c.next_of-ends_p.result.0.now)) (sym at) (step_later s);
       above = subst (λ x. AtMost c.args.a.now.from x) (sym at) c.loop-i.invariant.above;
       below = step_below s;
       left = λ t x u. step_left_on s t (subst (λ c. After c t) at x) u;
@@ -110,7 +110,7 @@ part g c =
     }
 
 pub pass-requires-clause-later : goal.pass-requires-clause-later
-pass-requires-clause-later g c = step_later (step g (goal.at.pass-requires-clause-later g c).After-of-next)
+pass-requires-clause-later g c = step_later (step g (goal.at.pass-requires-clause-later g c).After-next_of-ends_p)
 
 pub pass-requires-clause-begins : goal.pass-requires-clause-begins
 pass-requires-clause-begins g c = ap (λ s. s.at) c.until.ensures.value
@@ -118,9 +118,9 @@ pass-requires-clause-begins g c = ap (λ s. s.at) c.until.ensures.value
 pub pass-requires-clause-fit : goal.pass-requires-clause-fit
 pass-requires-clause-fit g c =
     let at = goal.at.pass-requires-clause-fit g c in
-    is_fit (two g at.After-of-next) (part g at.After-until) refl
+    is_fit (two g at.After-next_of-ends_p) (part g at.After-until) refl
     (subst (λ s. IsWithin (2 ^ 34) s.at) (sym c.until.ensures.value) c.loop-i.invariant.within)
-    (step_within (step g at.After-of-next) c.requires.left c.requires.right)
+    (step_within (step g at.After-next_of-ends_p) c.requires.left c.requires.right)
     (subst (λ s. SinceAt g.P.Shape c.args.a.now c.args.b.now s c.loop-i.before) (sym c.until.ensures.value) c.loop-i.invariant.stands.here)
 
 pub returns-in-Err-clause-wide : goal.returns-in-Err-clause-wide
@@ -128,7 +128,7 @@ returns-in-Err-clause-wide g c =
     let at = goal.at.returns-in-Err-clause-wide g c in
     fault_kept (HasCause g.P.Shape (SinceStep g.P.Shape c.args.a.now c.args.b.now) c.args.a.now.from.at (stop c.args.a.now).at)
     c.fault_of.result c.pass.new.fault c.fault_of.ensures tt (IfSome_then c.pass.new.fault c.in-Err.ensures.wide
-    (λ pair w. (refused (two g at.After-of-next) c.of-next.result.until (part g at.After-until) c.until.ensures.value refl w.0
+    (λ pair w. (refused (two g at.After-next_of-ends_p) c.next_of-ends_p.result.0.now (part g at.After-until) c.until.ensures.value refl w.0
     (subst (λ s. Breaks g.P.Shape c.args.a.now c.args.b.now s.at) (sym c.until.ensures.value) c.loop-i.invariant.event)
     c.loop-i.invariant.stands (F.Wide pair) w.1).0))
 
@@ -137,7 +137,7 @@ returns-in-Err-clause-pair g c =
     let at = goal.at.returns-in-Err-clause-pair g c in
     fault_kept (IsPairWithin c.args.a.now.from.at (stop c.args.a.now).at)
     c.fault_of.result c.pass.new.fault c.fault_of.ensures tt (IfSome_then c.pass.new.fault c.in-Err.ensures.wide
-    (λ pair w. (refused (two g at.After-of-next) c.of-next.result.until (part g at.After-until) c.until.ensures.value refl w.0
+    (λ pair w. (refused (two g at.After-next_of-ends_p) c.next_of-ends_p.result.0.now (part g at.After-until) c.until.ensures.value refl w.0
     (subst (λ s. Breaks g.P.Shape c.args.a.now c.args.b.now s.at) (sym c.until.ensures.value) c.loop-i.invariant.event)
     c.loop-i.invariant.stands (F.Wide pair) w.1).1))
 
@@ -145,31 +145,31 @@ pub loop-i-smaller : goal.loop-i-smaller
 loop-i-smaller g c =
     subst (λ i. (length c.args.a.now.pieces - i) + (length c.args.b.now.pieces - c.passed-j.result)
     < (length c.args.a.now.pieces - c.loop-i.i) + (length c.args.b.now.pieces - c.loop-i.j)) (sym c.passed-i.ensures)
-    (subst (λ j. (length c.args.a.now.pieces - (if c.of-next.result.left then c.loop-i.i + 1 else c.loop-i.i)) + (length c.args.b.now.pieces - j)
+    (subst (λ j. (length c.args.a.now.pieces - (if c.next_of-ends_p.result.1 then c.loop-i.i + 1 else c.loop-i.i)) + (length c.args.b.now.pieces - j)
     < (length c.args.a.now.pieces - c.loop-i.i) + (length c.args.b.now.pieces - c.loop-i.j)) (sym c.passed-j.ensures)
-    (step_nearer (step g (goal.at.loop-i-smaller g c).After-of-next)))
+    (step_nearer (step g (goal.at.loop-i-smaller g c).After-next_of-ends_p)))
 
 pub loop-i-preserved : goal.loop-i-preserved
 loop-i-preserved g c =
     let at = goal.at.loop-i-preserved g c in
     let a = c.args.a.now in
     let b = c.args.b.now in
-    let s = step g at.After-of-next in
-    let on = through (two g at.After-of-next) (part g at.After-until) c.until.ensures.value refl c.loop-i.invariant.stands c.in-Ok.ensures.ok in
+    let s = step g at.After-next_of-ends_p in
+    let on = through (two g at.After-next_of-ends_p) (part g at.After-until) c.until.ensures.value refl c.loop-i.invariant.stands c.in-Ok.ensures.ok in
     let ends = sym on.1 in
     record {
       stands = on.0;
       begins = on.2 ∙ c.loop-i.invariant.begins;
       within = subst (λ s. IsWithin (2 ^ 34) s.at) ends (step_within s c.requires.left c.requires.right);
       above = subst (λ s. AtMost a.from s) ends
-          (at_most_trans a.from (stop c.loop-i.built) (place c.of-next.result.until) c.loop-i.invariant.above
-          (at_most_of_before (stop c.loop-i.built) (place c.of-next.result.until) (step_later s)));
+          (at_most_trans a.from (stop c.loop-i.built) (place c.next_of-ends_p.result.0.now) c.loop-i.invariant.above
+          (at_most_of_before (stop c.loop-i.built) (place c.next_of-ends_p.result.0.now) (step_later s)));
       below = subst (λ s. AtMost s (stop a)) ends (step_below s);
       left = subst (λ i. StandsAt a (stop c.pass.new.built) i) (sym c.passed-i.ensures)
-          (subst (λ s. StandsAt a s (if c.of-next.result.left then c.loop-i.i + 1 else c.loop-i.i)) ends (step_left s));
+          (subst (λ s. StandsAt a s (if c.next_of-ends_p.result.1 then c.loop-i.i + 1 else c.loop-i.i)) ends (step_left s));
       right = subst (λ j. StandsAt b (stop c.pass.new.built) j) (sym c.passed-j.ensures)
-          (subst (λ s. StandsAt b s (if c.of-next.result.right then c.loop-i.j + 1 else c.loop-i.j)) ends (step_right s));
-      event = subst (λ s. Breaks g.P.Shape a b s.at) ends (elim c.of-next.ensures.one [
+          (subst (λ s. StandsAt b s (if c.next_of-ends_p.result.2 then c.loop-i.j + 1 else c.loop-i.j)) ends (step_right s));
+      event = subst (λ s. Breaks g.P.Shape a b s.at) ends (elim c.next_of-ends_p.ensures.one [
         | inl e ↦ inl (subst (λ u. IsBreakpoint (IsWorth g.P.Shape a) a.from.at (stop a).at (value u.time)) (sym e)
             (breakpoint_at g.P.Shape a c.loop-i.i c.piece-p.result.now c.len-count.ensures.normal c.piece-p.ensures))
         | inr e ↦ inr (subst (λ u. IsBreakpoint (IsWorth g.P.Shape b) a.from.at (stop a).at (value u.time)) (sym e)

@@ -18,7 +18,7 @@ determinant-num-requires c =
     let top = as_small _ c.top.result (2 ^ 93) (carried c.top.result c.top.result c.top.type_inv refl) size in
     let run = as_small _ (pos f.run) (2 ^ 32) (carried c.from.result (pos f.run) c.from.type_inv c.from.ensures) few in
     let offset = as_small _ c.offset.result (2 ^ 66) (carried c.offset.result c.offset.result c.offset.type_inv refl) c.offset.ensures.small in
-    let den = as_small _ (pos k.den) (2 ^ 60) (carried c.from-den.result (pos k.den) c.from-den.type_inv (c.from-den.ensures ∙ ap pos c.den.ensures)) small in
+    let den = as_small _ (pos k.den) (2 ^ 60) (carried c.from-den.result (pos k.den) c.from-den.type_inv (c.from-den.ensures ∙ ap pos c.den-2.ensures)) small in
     omega (arith, mul-le-mul top run, mul-le-mul offset den)
 
 pub determinant-climb-requires : goal.determinant-climb-requires
@@ -28,7 +28,7 @@ determinant-climb-requires c =
     let small : k.den ≤ 2 ^ 60 = omega (arith, k.small) in
     let rise =
     as_small _ f.rise (2 ^ 31) (widened_small c.from-2.result f.rise (2 ^ 31) c.from-2.type_inv c.from-2.ensures f.small_rise (omega arith)) f.small_rise in
-    let den = as_small _ (pos k.den) (2 ^ 60) (carried c.from-den.result (pos k.den) c.from-den.type_inv (c.from-den.ensures ∙ ap pos c.den.ensures)) small in
+    let den = as_small _ (pos k.den) (2 ^ 60) (carried c.from-den.result (pos k.den) c.from-den.type_inv (c.from-den.ensures ∙ ap pos c.den-2.ensures)) small in
     omega (arith, mul-le-mul rise den)
 
 pub quotient-requires-clause-num : goal.quotient-requires-clause-num
@@ -42,7 +42,7 @@ quotient-requires-clause-num c =
     let top = as_small _ c.top.result (2 ^ 93) (carried c.top.result c.top.result c.top.type_inv refl) size in
     let run = as_small _ (pos f.run) (2 ^ 32) (carried c.from.result (pos f.run) c.from.type_inv c.from.ensures) few in
     let offset = as_small _ c.offset.result (2 ^ 66) (carried c.offset.result c.offset.result c.offset.type_inv refl) c.offset.ensures.small in
-    let den = as_small _ (pos k.den) (2 ^ 60) (carried c.from-den.result (pos k.den) c.from-den.type_inv (c.from-den.ensures ∙ ap pos c.den.ensures)) small in
+    let den = as_small _ (pos k.den) (2 ^ 60) (carried c.from-den.result (pos k.den) c.from-den.type_inv (c.from-den.ensures ∙ ap pos c.den-2.ensures)) small in
     let num : unsigned_abs c.determinant-num.result ≤ 2 ^ 126 + 2 ^ 125 =
     omega (arith, mul-le-mul top run, mul-le-mul offset den, c.determinant-num.ensures.small) in
     let same = carried c.determinant-num.result c.determinant-num.result c.determinant-num.type_inv refl in
@@ -55,7 +55,7 @@ quotient-requires-clause-den c =
     let small : k.den ≤ 2 ^ 60 = omega (arith, k.small) in
     let rise =
     as_small _ f.rise (2 ^ 31) (widened_small c.from-2.result f.rise (2 ^ 31) c.from-2.type_inv c.from-2.ensures f.small_rise (omega arith)) f.small_rise in
-    let den = as_small _ (pos k.den) (2 ^ 60) (carried c.from-den.result (pos k.den) c.from-den.type_inv (c.from-den.ensures ∙ ap pos c.den.ensures)) small in
+    let den = as_small _ (pos k.den) (2 ^ 60) (carried c.from-den.result (pos k.den) c.from-den.type_inv (c.from-den.ensures ∙ ap pos c.den-2.ensures)) small in
     let climb : unsigned_abs c.determinant-climb.result ≤ 2 ^ 91 = omega (arith, mul-le-mul rise den, c.determinant-climb.ensures.small) in
     let same = carried c.determinant-climb.result c.determinant-climb.result c.determinant-climb.type_inv refl in
     omega (arith, as_small _ c.determinant-climb.result (2 ^ 91) same climb)
@@ -67,7 +67,7 @@ returns-clause-meets c =
     let rise : to_z w128 (of_z w128 c.from-2.result) ≡ f.rise =
     widened_small c.from-2.result f.rise (2 ^ 31) c.from-2.type_inv c.from-2.ensures f.small_rise (omega arith) in
     let den : to_z w128 (of_z w128 c.from-den.result) ≡ pos k.den =
-    carried c.from-den.result (pos k.den) c.from-den.type_inv (c.from-den.ensures ∙ ap pos c.den.ensures) in
+    carried c.from-den.result (pos k.den) c.from-den.type_inv (c.from-den.ensures ∙ ap pos c.den-2.ensures) in
     let run : to_z w128 (of_z w128 c.from.result) ≡ pos f.run = carried c.from.result (pos f.run) c.from.type_inv c.from.ensures in
     let top : to_z w128 (of_z w128 c.top.result) ≡ c.top.result = carried c.top.result c.top.result c.top.type_inv refl in
     let offset : to_z w128 (of_z w128 c.offset.result) ≡ c.offset.result = carried c.offset.result c.offset.result c.offset.type_inv refl in
@@ -91,7 +91,7 @@ returns-clause-den c =
     let rise : to_z w128 (of_z w128 c.from-2.result) ≡ f.rise =
     widened_small c.from-2.result f.rise (2 ^ 31) c.from-2.type_inv c.from-2.ensures f.small_rise (omega arith) in
     let den : to_z w128 (of_z w128 c.from-den.result) ≡ pos k.den =
-    carried c.from-den.result (pos k.den) c.from-den.type_inv (c.from-den.ensures ∙ ap pos c.den.ensures) in
+    carried c.from-den.result (pos k.den) c.from-den.type_inv (c.from-den.ensures ∙ ap pos c.den-2.ensures) in
     let num : to_z w128 (of_z w128 c.determinant-num.result) ≡ c.determinant-num.result =
     carried c.determinant-num.result c.determinant-num.result c.determinant-num.type_inv refl in
     let climb : to_z w128 (of_z w128 c.determinant-climb.result) ≡ c.determinant-climb.result =

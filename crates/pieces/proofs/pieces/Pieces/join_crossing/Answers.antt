@@ -1,11 +1,7 @@
 use Rattle.std.proofs.Common.{◌^◌, ◌∙◌, ap, subst}
-use Rattle.rational.specs.Affine.{MeetAlone}
 use Rattle.rational.proofs.Order.{le_of_lt}
 use Rattle.rational.proofs.Mixed.{within_between}
-use Rattle.frac128.specs.Value.{value}
 use Rattle.frac128.specs.Cuts.{place}
-use Rattle.pl_signal.specs.Joining.{IsGapFault}
-use Rattle.pl_signal.proofs.Kept.{good_of}
 use Rattle.pieces.specs.Building.{GoesOn}
 use Rattle.pieces.proofs.BuildingLemmas.{chain_of}
 use Rattle.pieces.proofs.JoiningLemmas.{joins_crossing, joins_crossing_back}
@@ -13,23 +9,17 @@ use Rattle.pieces.proofs.pieces.Pieces.join_crossing.Goals as goal
 
 pub put_two-requires-clause-middle_within : goal.put_two-requires-clause-middle_within
 put_two-requires-clause-middle_within g c =
-    let meet = good_of (λ t. MeetAlone (g.P.Shape.function c.args.p.now) (g.P.Shape.function c.args.q.now) (value c.args.from.now.time)
-    (value c.args.until.now.time) (value t)) (IsGapFault g.P.Shape c.args.p.now c.args.q.now c.args.from.now.time c.args.until.now.time)
-    c.crossing.result c.in_ok-time.time c.in_ok-time.ensures.ok c.crossing.ensures.met in
+    let meet = c.in_ok-time.ensures.met in
     within_between (2 ^ 34) c.requires.from_within c.requires.to_within (le_of_lt meet.after) (le_of_lt meet.before)
 
 pub put_two-requires-2-clause-middle_within : goal.put_two-requires-2-clause-middle_within
 put_two-requires-2-clause-middle_within g c =
-    let meet = good_of (λ t. MeetAlone (g.P.Shape.function c.args.p.now) (g.P.Shape.function c.args.q.now) (value c.args.from.now.time)
-    (value c.args.until.now.time) (value t)) (IsGapFault g.P.Shape c.args.p.now c.args.q.now c.args.from.now.time c.args.until.now.time)
-    c.crossing.result c.in_ok-time.time c.in_ok-time.ensures.ok c.crossing.ensures.met in
+    let meet = c.in_ok-time.ensures.met in
     within_between (2 ^ 34) c.requires.from_within c.requires.to_within (le_of_lt meet.after) (le_of_lt meet.before)
 
 pub returns-then-first-clause-ok : goal.returns-then-first-clause-ok
 returns-then-first-clause-ok g c side turn =
-    let meet = good_of (λ t. MeetAlone (g.P.Shape.function c.args.p.now) (g.P.Shape.function c.args.q.now) (value c.args.from.now.time)
-    (value c.args.until.now.time) (value t)) (IsGapFault g.P.Shape c.args.p.now c.args.q.now c.args.from.now.time c.args.until.now.time)
-    c.crossing.result c.in_ok-time.time c.in_ok-time.ensures.ok c.crossing.ensures.met in
+    let meet = c.in_ok-time.ensures.met in
     let old = ap (λ ps. chain_of (place c.self.inside.from) ps) c.reserve.ensures.items ∙ c.self.view_is in
     let (half, on, on') = c.put_two.ensures in
     joins_crossing g.P.Shape side c.args.self.now half (chain_of (place c.self.inside.from) c.put_two.new.items.items) c.args.p.now c.args.q.now c.args.first
@@ -38,9 +28,7 @@ returns-then-first-clause-ok g c side turn =
 
 pub returns-clause-ok : goal.returns-clause-ok
 returns-clause-ok g c side turn =
-    let meet = good_of (λ t. MeetAlone (g.P.Shape.function c.args.p.now) (g.P.Shape.function c.args.q.now) (value c.args.from.now.time)
-    (value c.args.until.now.time) (value t)) (IsGapFault g.P.Shape c.args.p.now c.args.q.now c.args.from.now.time c.args.until.now.time)
-    c.crossing.result c.in_ok-time.time c.in_ok-time.ensures.ok c.crossing.ensures.met in
+    let meet = c.in_ok-time.ensures.met in
     let old = ap (λ ps. chain_of (place c.self.inside.from) ps) c.reserve.ensures.items ∙ c.self.view_is in
     let (half, on, on') = c.put_two-2.ensures in
     joins_crossing_back g.P.Shape side c.args.self.now half (chain_of (place c.self.inside.from) c.put_two-2.new.items.items)

@@ -1,8 +1,10 @@
 use Rattle.frac128.specs.Value.{value}
 use Rattle.frac128.specs.Line.{line}
-use Rattle.std.proofs.Common.{◌≡◌, true, false}
+use Rattle.std.proofs.Common.{◌≡◌, true, false, refl}
 use Rattle.std.specs.Ordering.{is_eq}
 use Rattle.rational.specs.Line.{constant}
+use Rattle.rational.specs.Rational.{rational_cmp}
+use Rattle.rational.proofs.Compare.{order_from_cmp}
 use Rattle.rational.specs.Extended.{affine}
 use Rattle.value_laws.proofs.MarginLemmas.{same_lines_values, same_line_constant, same_swap, same_constants, line_apart, constant_apart, low_apart, high_apart}
 use Rattle.value_laws.proofs.margin.MarginShape.same.Goals as goal
@@ -22,8 +24,10 @@ returns-in-Fixed-Ramp c =
 
 pub returns-in-Fixed-Fixed : goal.returns-in-Fixed-Fixed
 returns-in-Fixed-Fixed c =
-    let told : c.is_eq.result ≡ is_eq c.cmp.result = c.is_eq.ensures in
-    rw (c.in-Fixed-Fixed.is-0, c.in-Fixed-Fixed.is-1, told) (same_constants c.cmp.result (value c.in-Fixed-Fixed.c) (value c.in-Fixed-Fixed.d) c.cmp.ensures)
+    let a = value c.in-Fixed-Fixed.c in
+    let b = value c.in-Fixed-Fixed.d in
+    let told : c.eq.result ≡ is_eq (rational_cmp a b) = c.eq.ensures in
+    rw (c.in-Fixed-Fixed.is-0, c.in-Fixed-Fixed.is-1, told) (same_constants (rational_cmp a b) a b (order_from_cmp (rational_cmp a b) a b refl))
 
 pub returns-in_default : goal.returns-in_default
 returns-in_default c = (
