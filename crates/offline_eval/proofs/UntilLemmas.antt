@@ -222,7 +222,7 @@ module _ {X P : Type 0} {form : Form X P} (laws : FormLaws form) where
           tells_by_value (ChosenOf Least (form.IsWorth c) (form.IsWorth d)) H (form.start c) (form.stop c) from to r made
           (same_trans least.begins (same_trans within.begins right.begins)) (same_trans least.ends (same_trans within.ends right.ends))
           (λ t v w. let k = (least.worth t v).0 w in
-              forth t v (within_same_ends (same_trans within.begins same_begins) (same_trans within.ends same_ends) k.0) k.1) one
+          forth t v (within_same_ends (same_trans within.begins same_begins) (same_trans within.ends same_ends) k.0) k.1) one
 
       -- the least of both windows tells the bounded until
       pub until_told : (a b : ℕ) → a ≤ b

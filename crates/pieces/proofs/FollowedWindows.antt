@@ -23,14 +23,14 @@ use Rattle.pieces.specs.declared.piece.Piece.{Piece}
 use Rattle.pieces.specs.declared.reach.Way.{Way}
 use Rattle.pieces.specs.declared.sliding.Sliding.{Sliding}
 use Rattle.pieces.specs.declared.stream.Stream.{Stream}
-use Rattle.pieces.specs.Chains.{Chain, end, stop, IsWorth}
+use Rattle.pieces.specs.Chains.{Chain, HasShape, Rise, end, stop, IsWorth}
 use Rattle.pieces.specs.Hands.{ClimbsAt, FirstGives}
 use Rattle.pieces.specs.Hands.{EndsHand, GoesFurther, GoesOnAs, HasClimbed, HasLeft, HasRested, IsOnWay, IsTaken, Leaves, TellsClimb, TellsRest, TurnsTo}
 use Rattle.pieces.specs.Meeting.{HasMet, HasToldTo, IsBelow, Meets}
 use Rattle.pieces.specs.Over.{IsMovedTo}
 use Rattle.pieces.specs.Steps.{AreSteps, IsOfSteps}
-use Rattle.pieces.specs.Streaming.{CanFollow, ComesNext, Counts, CountsSoFar, Follows, HasAll, IsAt, IsAtHand, Rests, StandsBy, before_time}
-use Rattle.pieces.specs.Windows.{Best, BestTo, HasEntered, IsNonEmpty, Keeps, Sees, Stands, high_place}
+use Rattle.pieces.specs.Streaming.{CanFollow, ComesNext, Counts, CountsSoFar, FollowsSteps, HasAll, IsAtSteps, IsAtHand, Rests, StandsBy, before_time}
+use Rattle.pieces.specs.Windows.{Best, BestTo, CanSlide, HasEntered, IsNonEmpty, IsPieceFrom, Keeps, Sees, Stands, high_place}
 use Rattle.pieces.proofs.BuildingLemmas.{chain_of}
 use Rattle.pieces.proofs.ChainLemmas.{to_stop, worth_same}
 use Rattle.pieces.proofs.Ends.{at_most_itself, at_most_of_before, only_time}
@@ -57,7 +57,7 @@ told_below way met old new limit (inr upto) most comes = λ t u.
 module _ {P : Type 0} (shape : ShapeOf P) (chain : Chain P) where
   -- a window that has met nothing follows a chain that begins there
   pub follows_first : ShapeLaws shape → (w : Stream P) → CanFollow shape chain w.way (place w.met) → w.sliding.out ≡ chain_of (place w.met) []
-      → w.sliding.steps.items ≡ [] → w.piece ≡ None → w.trend ≡ Equal → Follows shape chain w
+      → w.sliding.steps.items ≡ [] → w.piece ≡ None → w.trend ≡ Equal → FollowsSteps shape chain w
   follows_first laws w can out nothing none still = record {
     can = can.can;
     to = can.to;
@@ -126,9 +126,9 @@ module _ {P : Type 0} (shape : ShapeOf P) (chain : Chain P) where
     so_far_anew met (Some p) trend h = (h.0, stands_anew (record { until = met; shape = p }) trend h.1)
 
   -- so it follows the chain as before
-  pub follows_restarted : (w : Stream P) (out : Chain P) → out ≡ chain_of (stop w.sliding.out) [] → Follows shape chain w
-      → Follows shape chain (record w { sliding = record { out = out; steps = w.sliding.steps } })
-  follows_restarted w out e known = subst (λ o. Follows shape chain (record w { sliding = record { out = o; steps = w.sliding.steps } })) (sym e) (record {
+  pub follows_restarted : (w : Stream P) (out : Chain P) → out ≡ chain_of (stop w.sliding.out) [] → FollowsSteps shape chain w
+      → FollowsSteps shape chain (record w { sliding = record { out = out; steps = w.sliding.steps } })
+  follows_restarted w out e known = subst (λ o. FollowsSteps shape chain (record w { sliding = record { out = o; steps = w.sliding.steps } })) (sym e) (record {
     can = known.can;
     to = known.to;
     within = known.within;
@@ -156,16 +156,45 @@ module _ {P : Type 0} (shape : ShapeOf P) (chain : Chain P) where
   so_far_on way met s None trend h = h.0.keeps.on
   so_far_on way met s (Some p) trend h = hand_on way (record { until = met; shape = p }) s trend h.1
 
-  pub follows_on : (w : Stream P) → Follows shape chain w → AtMost chain.from (stop w.sliding.out)
+  pub follows_on : (w : Stream P) → FollowsSteps shape chain w → AtMost chain.from (stop w.sliding.out)
   follows_on w known = so_far_on w.way w.met w.sliding w.piece w.trend known.hand
 
-  on_way : (w : Stream P) → Follows shape chain w → IsOnWay shape chain w.way w.sliding
+  on_way : (w : Stream P) → FollowsSteps shape chain w → IsOnWay shape chain w.way w.sliding
   on_way w known = record { can = known.can; to = known.to; within = known.within; plays = known.plays }
 
   -- what was met lies within limits
-  pub follows_within : (w : Stream P) → Follows shape chain w → IsWithin (2 ^ 34) (place w.met).at
-  follows_within w known = within_between (2 ^ 34) known.can.limited.begins known.can.limited.ends (le_of_at_most chain.from (place w.met) known.begins)
-      (le_of_at_most (place w.met) (stop chain) known.ends)
+  pub follows_met_within : (w : Stream P) → CanSlide shape chain w.way.over → AtMost chain.from (place w.met) → AtMost (place w.met) (stop chain)
+      → IsWithin (2 ^ 34) (place w.met).at
+  follows_met_within w can begins ends = within_between (2 ^ 34) can.limited.begins can.limited.ends (le_of_at_most chain.from (place w.met) begins)
+      (le_of_at_most (place w.met) (stop chain) ends)
+
+  pub follows_within : (w : Stream P) → FollowsSteps shape chain w → IsWithin (2 ^ 34) (place w.met).at
+  follows_within w known = follows_met_within w known.can known.begins known.ends
+
+  -- a shape that goes on as the next piece is a piece of the chain
+  pub goes_on_piece : (met : Place) (p : P) (piece : Piece P) → IsPieceFrom shape chain met piece → HasShape chain p → GoesOnAs shape p met piece
+      → IsPieceFrom shape chain met (record { until = piece.until; shape = p })
+  goes_on_piece met p piece next has goes = record {
+    order = next.order;
+    begins = next.begins;
+    ends = next.ends;
+    worth = λ t a u. worth_same shape chain.from chain.pieces (value_at (shape.function piece.shape) t) (value_at (shape.function p) t)
+        (same_refl t) (symᵉ (alike t a u goes)) (next.worth t a u);
+    has = has;
+  }
+    where
+      alike : (t : Rational) → After met t → Upto (end piece) t → GoesOnAs shape p met piece
+          → value_at (shape.function p) t ≈ᵉ value_at (shape.function piece.shape) t
+      alike t a u (inr same) = same t
+      alike t a u (inl (at, here)) =
+          let now = same_trans (only_time met (end piece) t at a u) (same_sym at) in
+          transᵉ (value_same (shape.function p) now) (transᵉ here (value_same (shape.function piece.shape) (same_sym now)))
+
+  -- before a time from which all that counts was met, the window's high end does not lie behind that
+  pub high_before_time : (way : Way) (met : Place) (to : Rational) → add to (whole way.over.high) ≤ʳ met.at → (t : Rational) → Upto (before_time to) t
+      → ¬ Before met (high_place way.over.high way.over.high_in t)
+  high_before_time way met to most t u b = not_lt_of_le most (lt_of_le_of_lt (le_of_before met (high_place way.over.high way.over.high_in t) b)
+      (lt_shift way.over.high u))
 
   module _ (w : Stream P) (piece : Piece P) where
     -- a limit at which the window reaches past what was met
@@ -174,7 +203,7 @@ module _ {P : Type 0} (shape : ShapeOf P) (chain : Chain P) where
     next_below limit after inside comes = (inside, inr (after, comes))
 
     -- where it does so from where the chain begins on, no later time is told
-    pub next_narrow : (limit : Rational) → Follows shape chain w → limit ≤ʳ chain.from.at → (place w.met).at <ʳ add limit (whole w.way.over.high)
+    pub next_narrow : (limit : Rational) → FollowsSteps shape chain w → limit ≤ʳ chain.from.at → (place w.met).at <ʳ add limit (whole w.way.over.high)
         → (place w.met).at ≤ʳ add (stop w.sliding.out).at (whole w.way.over.high)
     next_narrow limit known before comes = le_trans (le_of_lt comes) (le_shift w.way.over.high
         (le_trans before (le_of_at_most chain.from (stop w.sliding.out) (follows_on w known))))
@@ -184,8 +213,8 @@ module _ {P : Type 0} (shape : ShapeOf P) (chain : Chain P) where
     goes_behind next = before_at_most (place w.met) (end piece) (stop chain) next.piece.order next.piece.ends
 
     -- a window that sees nothing has met more
-    pub follows_blind : ShapeLaws shape → Follows shape chain w → ComesNext shape chain w piece → ((t u : Rational) → ¬ Sees w.way.over t u)
-        → ¬ IsNonEmpty w.way.over → Follows shape chain (record w { met = piece.until })
+    pub follows_blind : ShapeLaws shape → FollowsSteps shape chain w → ComesNext shape chain w piece → ((t u : Rational) → ¬ Sees w.way.over t u)
+        → ¬ IsNonEmpty w.way.over → FollowsSteps shape chain (record w { met = piece.until })
     follows_blind laws known next blind none = record {
       can = known.can;
       to = known.to;
@@ -212,36 +241,22 @@ module _ {P : Type 0} (shape : ShapeOf P) (chain : Chain P) where
         )
 
     -- the piece at hand goes on
-    pub follows_further : (p : P) → w.piece ≡ Some p → Follows shape chain w → IsNonEmpty w.way.over → ComesNext shape chain w piece
+    pub follows_further : (p : P) → w.piece ≡ Some p → FollowsSteps shape chain w → IsNonEmpty w.way.over → ComesNext shape chain w piece
         → GoesOnAs shape p (place w.met) piece → GoesFurther shape chain w.way w.met (record { until = piece.until; shape = p }) w.trend w.sliding
     follows_further p e known some next goes = record {
       on = on_way w known;
       some = some;
       hand = hand;
-      more = record {
-        order = next.piece.order;
-        begins = next.piece.begins;
-        ends = next.piece.ends;
-        worth = λ t a u. worth_same shape chain.from chain.pieces (value_at (shape.function piece.shape) t) (value_at (shape.function p) t)
-            (same_refl t) (symᵉ (alike t a u goes)) (next.piece.worth t a u);
-        has = (hand_at w.way (record { until = w.met; shape = p }) w.sliding w.trend hand).1.is.has;
-      };
+      more = goes_on_piece (place w.met) p piece next.piece (hand_at w.way (record { until = w.met; shape = p }) w.sliding w.trend hand).1.is.has goes;
     }
       where
         hand : StandsBy shape chain w.way (record { until = w.met; shape = p }) w.trend w.sliding
         hand = (subst (λ o. CountsSoFar shape chain w.way w.met w.sliding o w.trend) e known.hand).1
 
-        alike : (t : Rational) → After (place w.met) t → Upto (end piece) t → GoesOnAs shape p (place w.met) piece
-            → value_at (shape.function p) t ≈ᵉ value_at (shape.function piece.shape) t
-        alike t a u (inr same) = same t
-        alike t a u (inl (at, here)) =
-            let now = same_trans (only_time (place w.met) (end piece) t at a u) (same_sym at) in
-            transᵉ (value_same (shape.function p) now) (transᵉ here (value_same (shape.function piece.shape) (same_sym now)))
-
     -- it has met it then
-    pub follows_longer : (p : P) → w.piece ≡ Some p → Follows shape chain w → IsNonEmpty w.way.over → ComesNext shape chain w piece → (new : Sliding P)
+    pub follows_longer : (p : P) → w.piece ≡ Some p → FollowsSteps shape chain w → IsNonEmpty w.way.over → ComesNext shape chain w piece → (new : Sliding P)
         → IsTaken shape chain w.way (record { until = piece.until; shape = p }) w.trend new
-        → Follows shape chain (record w { sliding = new; met = piece.until })
+        → FollowsSteps shape chain (record w { sliding = new; met = piece.until })
     follows_longer p e known some next new taken = record {
       can = known.can;
       to = known.to;
@@ -253,7 +268,7 @@ module _ {P : Type 0} (shape : ShapeOf P) (chain : Chain P) where
     }
 
     -- or it ends, and the chain has a breakpoint there
-    pub follows_turns : Follows shape chain w → IsNonEmpty w.way.over → ComesNext shape chain w piece
+    pub follows_turns : FollowsSteps shape chain w → IsNonEmpty w.way.over → ComesNext shape chain w piece
         → ((p : P) → w.piece ≡ Some p → ¬ GoesOnAs shape p (place w.met) piece) → TurnsTo shape chain w piece
     follows_turns known some next differs = record { follows = known; next = next; some = some; last = by_hand w.piece refl known.hand }
       where
@@ -299,7 +314,7 @@ module _ {P : Type 0} (shape : ShapeOf P) (chain : Chain P) where
 
     -- so that the window has met it
     pub turn_follows : TurnsTo shape chain w piece → (new : Sliding P) (trend : Ordering) → IsTaken shape chain w.way piece trend new
-        → Follows shape chain (record { way = w.way; sliding = new; piece = Some piece.shape; trend = trend; met = piece.until })
+        → FollowsSteps shape chain (record { way = w.way; sliding = new; range = w.range; piece = Some piece.shape; trend = trend; met = piece.until })
     turn_follows t new trend taken = record {
       can = t.follows.can;
       to = t.follows.to;
@@ -311,7 +326,7 @@ module _ {P : Type 0} (shape : ShapeOf P) (chain : Chain P) where
     }
 
   -- what is told
-  module _ (w : Stream P) (to : Rational) (known : Follows shape chain w) (all : HasAll shape chain w to)
+  module _ (w : Stream P) (to : Rational) (known : FollowsSteps shape chain w) (all : HasAll shape chain w to)
       (order : AtMost (stop w.sliding.out) (before_time to)) where
     -- the time lies within limits
     pub to_within : IsWithin (2 ^ 34) to
@@ -323,15 +338,9 @@ module _ {P : Type 0} (shape : ShapeOf P) (chain : Chain P) where
     pub to_narrow : (stop chain).at ≤ʳ chain.from.at → (out : Place) → AtMost chain.from out → to ≤ʳ out.at
     to_narrow one out on = le_trans (le_of_at_most (before_time to) (stop chain) all.inside) (le_trans one (le_of_at_most chain.from out on))
 
-    -- before a time from which all that counts was met, the window's high end does not lie behind that
-    pub high_before : add to (whole w.way.over.high) ≤ʳ (place w.met).at → (t : Rational) → Upto (before_time to) t
-        → ¬ Before (place w.met) (high_place w.way.over.high w.way.over.high_in t)
-    high_before most t u b = not_lt_of_le most (lt_of_le_of_lt (le_of_before (place w.met) (high_place w.way.over.high w.way.over.high_in t) b)
-        (lt_shift w.way.over.high u))
-
     seen : ((t : Rational) → Upto (before_time to) t → ¬ Before (place w.met) (high_place w.way.over.high w.way.over.high_in t))
         ⊎ (place w.met ≡ stop chain)
-    seen = elim all.counted [ inl h ↦ inl (high_before h) | inr e ↦ inr e ]
+    seen = elim all.counted [ inl h ↦ inl (high_before_time w.way (place w.met) to h) | inr e ↦ inr e ]
 
     -- with no piece at hand
     pub rests_none : w.piece ≡ None → (reach : Place) × TellsRest shape chain w.way (place w.met) reach (before_time to) w.sliding
@@ -340,7 +349,7 @@ module _ {P : Type 0} (shape : ShapeOf P) (chain : Chain P) where
         (rests.reach, record { on = on_way w known; keeps = rests.keeps; order = order; inside = all.inside; all = seen })
 
     pub at_none : (e : w.piece ≡ None) (new : Sliding P) → HasRested shape chain w.way (place w.met) (before_time to) new → Same (stop new.out) (before_time to)
-        → IsAt shape chain (record w { sliding = new }) to
+        → IsAtSteps shape chain (record w { sliding = new }) to
     at_none e new rested ends =
         let (rests, up, one) = subst (λ o. CountsSoFar shape chain w.way w.met w.sliding o w.trend) e known.hand in
         record {
@@ -391,7 +400,7 @@ module _ {P : Type 0} (shape : ShapeOf P) (chain : Chain P) where
 
       pub at_ended : (comes : (place w.met).at <ʳ add to (whole w.way.over.high)) (mid new : Sliding P) → HasMet shape chain w.way (place w.met) mid
           → AtMost (stop mid.out) (before_time to) → HasRested shape chain w.way (place w.met) (before_time to) new → Same (stop new.out) (before_time to)
-          → IsAt shape chain (record { way = w.way; sliding = new; piece = None; trend = Equal; met = w.met }) to
+          → IsAtSteps shape chain (record { way = w.way; sliding = new; range = w.range; piece = None; trend = Equal; met = w.met }) to
       at_ended comes mid new met most rested ends = record {
         follows = record {
           can = known.can;
@@ -416,11 +425,11 @@ module _ {P : Type 0} (shape : ShapeOf P) (chain : Chain P) where
           hand = subst (λ t. StandsBy shape chain w.way piece t w.sliding) g so_far.1;
           order = order;
           inside = all.inside;
-          all = high_before most;
+          all = high_before_time w.way (place w.met) to most;
         }
 
         pub at_climb : w.trend ≡ Greater → (new : Sliding P) → HasClimbed shape chain w.way piece new → Same (stop new.out) (before_time to)
-            → IsAt shape chain (record w { sliding = new }) to
+            → IsAtSteps shape chain (record w { sliding = new }) to
         at_climb g new climbed ends = record {
           follows = record {
             can = known.can;
@@ -445,11 +454,11 @@ module _ {P : Type 0} (shape : ShapeOf P) (chain : Chain P) where
           keeps = (counts_of w.trend n so_far.1).stands;
           order = order;
           inside = all.inside;
-          all = inl (high_before most);
+          all = inl (high_before_time w.way (place w.met) to most);
         }
 
         pub at_counts : (n : ¬ (w.trend ≡ Greater)) (new : Sliding P) → HasRested shape chain w.way (place w.met) (before_time to) new
-            → HasLeft w.sliding new → Same (stop new.out) (before_time to) → IsAt shape chain (record w { sliding = new }) to
+            → HasLeft w.sliding new → Same (stop new.out) (before_time to) → IsAtSteps shape chain (record w { sliding = new }) to
         at_counts n new rested left ends =
             let counts : Counts shape chain w.way piece w.sliding = counts_of w.trend n so_far.1 in
             record {
@@ -466,7 +475,7 @@ module _ {P : Type 0} (shape : ShapeOf P) (chain : Chain P) where
                     begin = counts.begin;
                     hand = counts.hand;
                     falls = counts.falls;
-                    stands = rested.near (high_before most);
+                    stands = rested.near (high_before_time w.way (place w.met) to most);
                     past = λ t a u. counts.past t (left t a) u;
                   }),
                 );
@@ -477,7 +486,7 @@ module _ {P : Type 0} (shape : ShapeOf P) (chain : Chain P) where
             }
 
   -- at the time before which it has told all
-  module _ (laws : ShapeLaws shape) (w : Stream P) (to : Rational) (known : IsAt shape chain w to) where
+  module _ (laws : ShapeLaws shape) (w : Stream P) (to : Rational) (known : IsAtSteps shape chain w to) where
     -- that lies within limits
     pub at_within : IsWithin (2 ^ 34) to
     at_within = within_between (2 ^ 34) known.follows.can.limited.begins known.follows.can.limited.ends
@@ -540,15 +549,17 @@ module _ {P : Type 0} (shape : ShapeOf P) (chain : Chain P) where
     at_moved p (inl h) = known.follows.plays.moved p h
     at_moved p (inr still) = λ m. absurd (false≢true (sym still ∙ m))
 
+  -- the best of what was met is the best of what is seen
+  module _ (laws : ShapeLaws shape) (rising : Rise chain.from chain.pieces) (w : Stream P) (to : Rational) where
     -- all was met that is seen
     pub best_all : (v : Extended) → (¬ Before (place w.met) (high_place w.way.over.high w.way.over.high_in to)) ⊎ (place w.met ≡ stop chain)
         → BestTo shape chain w.way (place w.met) to v → Best shape chain w.way to v
-    best_all v (inl n) best = all_seen shape laws chain w.way known.follows.can.rising (place w.met) to v n best
+    best_all v (inl n) best = all_seen shape laws chain w.way rising (place w.met) to v n best
     best_all v (inr e) best =
-        all_met shape laws chain w.way known.follows.can.rising to v (subst (λ c. BestTo shape chain w.way c to v) e best)
+        all_met shape laws chain w.way rising to v (subst (λ c. BestTo shape chain w.way c to v) e best)
 
     -- or nothing is seen
     pub best_blind : (v : Extended) → ((t u : Rational) → ¬ Sees w.way.over t u) → BestTo shape chain w.way (place w.met) to v → Best shape chain w.way to v
     best_blind v blind best = best_over w.way.side shape.lowest shape.highest (Sees w.way.over to) (IsWorth shape chain) v
         (best_alike (λ x m. absurd (blind to m.0 m.1.0)) (λ x m. absurd (blind to m.0 m.1))
-        (to_best shape laws chain w.way known.follows.can.rising (place w.met) to v best))
+        (to_best shape laws chain w.way rising (place w.met) to v best))

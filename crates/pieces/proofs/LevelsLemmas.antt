@@ -92,6 +92,23 @@ module _ {P : Type 0} (shape : ShapeOf P) (chain : Chain P) (over : Reach) (can 
   pub end_to : (i : ℕ) (p : Piece P) → slice_get chain.pieces i ≡ Some p → (end p).at ≤ʳ whole (pos (2 ^ 32))
   end_to i p e = le_trans (le_of_at_most (end p) (stop chain) (end_most chain.from chain.pieces i p can.rising e)) can.last
 
+module _ {P : Type 0} (shape : ShapeOf P) (side : Side) (p q x y : P) where
+  -- of two constants whose items are in order the one is no worse than the other
+  pub turned_no_worse : IsSteady (shape.function p) → IsSteady (shape.function q) → IsTurned shape side q x → IsTurned shape side p y
+      → IsAtMost shape.function x y → (s r : Rational) → IsNoWorse side (value_at (shape.function p) s) (value_at (shape.function q) r)
+  turned_no_worse f h k l o s r =
+      nw_trans (nw_same side (f s (whole (pos 0)))) (nw_trans (by_side side k l) (nw_same side (h (whole (pos 0)) r)))
+    where
+      here : P → Extended
+      here z = value_at (shape.function z) (whole (pos 0))
+
+      by_side : (side : Side) → IsTurned shape side q x → IsTurned shape side p y → IsNoWorse side (here p) (here q)
+      by_side Greatest e g = record { order = subst (λ z. here z ≤ᵉ here p) e (subst (λ z. here x ≤ᵉ here z) g o) }
+      by_side Least e g = record {
+        order = opposite_le (here p) (here q) (le_transᵉ (opposite (here q)) (here x) (opposite (here p))
+            (e (whole (pos 0))).at_least (le_transᵉ (here x) (here y) (opposite (here p)) o (g (whole (pos 0))).at_most));
+      }
+
 -- the piece at a time of which a chain tells, by its place in the list
 pub record IsAtPiece {P : Type 0} (shape : ShapeOf P) (c : Place) (ps : List (Piece P)) (t : Rational) (v : Extended) : Type 0 where
   pub i : ℕ
@@ -286,23 +303,6 @@ module _ {P : Type 0} (shape : ShapeOf P) (laws : ShapeLaws shape) (chain : Chai
         })
 
   module _ (some : IsNonEmpty way.over) (levels : AreLevels shape chain) (items : List P) (turned : AreTurned shape way.side chain.pieces items) where
-    -- of two pieces whose items are in order the one is no worse than the other
-    no_worse : (p q : Piece P) (x y : P) → IsSteady (shape.function p.shape) → IsSteady (shape.function q.shape) → IsTurned shape way.side q.shape x
-        → IsTurned shape way.side p.shape y → IsAtMost shape.function x y → (s r : Rational)
-        → IsNoWorse way.side (value_at (shape.function p.shape) s) (value_at (shape.function q.shape) r)
-    no_worse p q x y f h k l o s r =
-        nw_trans (nw_same way.side (f s (whole (pos 0)))) (nw_trans (by_side way.side k l) (nw_same way.side (h (whole (pos 0)) r)))
-      where
-        here : P → Extended
-        here z = value_at (shape.function z) (whole (pos 0))
-
-        by_side : (side : Side) → IsTurned shape side q.shape x → IsTurned shape side p.shape y → IsNoWorse side (here p.shape) (here q.shape)
-        by_side Greatest e g = record { order = subst (λ z. here z ≤ᵉ here p.shape) e (subst (λ z. here x ≤ᵉ here z) g o) }
-        by_side Least e g = record {
-          order = opposite_le (here p.shape) (here q.shape) (le_transᵉ (opposite (here q.shape)) (here x) (opposite (here p.shape))
-              (e (whole (pos 0))).at_least (le_transᵉ (here x) (here y) (opposite (here p.shape)) o (g (whole (pos 0))).at_most));
-        }
-
     -- what is asked of the items is the best of what is seen
     pub best_told : (top : Option ℕ) (r : P) → IsBestOf shape chain way top r → (IsNone top → c.low ≡ c.high)
         → IfSome top (IsGreatestOf shape.function items c.low c.high) → BestOver shape chain way.over way.side t (value_at (shape.function r) t)
@@ -316,7 +316,8 @@ module _ {P : Type 0} (shape : ShapeOf P) (laws : ShapeLaws shape) (chain : Chai
         (symᵉ (is.0 p t e))
         (best_of_pieces some levels i p e greatest.from greatest.below (λ j q from below at.
         let (x, k) = item_at items j (let w = counts.within in let l = turned.count in omega (arith, below, w, l)) in
-        no_worse p q x y (levels p.shape (shape_at chain.pieces i p e)) (levels q.shape (shape_at chain.pieces j q at)) (turned.each j q x at k)
+        turned_no_worse shape way.side p.shape q.shape x y (levels p.shape (shape_at chain.pieces i p e))
+        (levels q.shape (shape_at chain.pieces j q at)) (turned.each j q x at k)
         (turned.each i p y e f) (greatest.greatest j x y from below k f)) u)
 
 -- where the best moves, it is a shape of the chain moved

@@ -44,3 +44,8 @@ pub mod Stretches
 pub mod PlayAlong
 pub mod SignalChains
 pub mod LevelsLemmas
+pub mod ConstantLemmas
+pub mod ConstantsMet
+pub mod FollowedConstants
+pub mod ConstantsTaken
+pub mod ConstantsReached

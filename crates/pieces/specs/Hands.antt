@@ -22,7 +22,7 @@ use Rattle.pieces.specs.Meeting.{Reaches}
 use Rattle.pieces.specs.Over.{Plays}
 use Rattle.pieces.specs.Sliding.{last_end}
 use Rattle.pieces.specs.Steps.{StepsGive}
-use Rattle.pieces.specs.Streaming.{Climbs, ComesNext, CountsSoFar, Follows, StandsBy}
+use Rattle.pieces.specs.Streaming.{Climbs, ComesNext, CountsSoFar, FollowsSteps, StandsBy}
 use Rattle.pieces.specs.Windows.{CanSlide, IsNonEmpty, IsPieceFrom, Keeps, MayClimb, Stands, high_place}
 
 -- at the place the shape goes on as the piece: with its one value, or its function
@@ -122,7 +122,7 @@ module _ {P : Type 0} (shape : ShapeOf P) (chain : Chain P) (way : Way) where
 
 -- another piece comes, and the window sees something
 pub record TurnsTo {P : Type 0} (shape : ShapeOf P) (chain : Chain P) (w : Stream P) (piece : Piece P) : Type 0 where
-  pub follows : Follows shape chain w
+  pub follows : FollowsSteps shape chain w
   pub next : ComesNext shape chain w piece
   pub some : IsNonEmpty w.way.over
   pub last : IsBreakpoint (IsWorth shape chain) chain.from.at (stop chain).at (place w.met).at

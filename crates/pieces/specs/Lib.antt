@@ -12,6 +12,8 @@ pub mod Sliding
 pub mod Windows
 pub mod Over
 pub mod Causes
+pub mod Constants
+pub mod ConstantsMet
 pub mod Meeting
 pub mod Streaming
 pub mod Hands

@@ -50,7 +50,7 @@ pub(crate) fn are_levels<P: Shape>(s: &Pieces<P>) -> bool
 }
 
 /// The constant, or its negation where the least is wanted: so the best is the greatest.
-fn turned<P: Shape>(side: Side, constant: &P) -> P
+pub(crate) fn turned<P: Shape>(side: Side, constant: &P) -> P
     requires steady { IsSteady (P.function constant.now) }
     requires level { HasBoundedLevel (2 ^ 31) (P.function constant.now) }
     ensures turned { IsTurned P.Shape side constant.now result }

@@ -4,6 +4,7 @@
 //! knots says the same (`signals`): the crates above can go over to pieces one at a time.
 #![tactic(auto)]
 
+mod constants;
 mod joining;
 pub mod laws;
 mod levels;

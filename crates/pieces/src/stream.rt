@@ -1,11 +1,12 @@
 //! The least and the greatest over a window that moves over a function of time of which nothing is known past what has come.
-ghost use Rattle.std.specs.Prelude.{◌≡◌, ◌⊎◌, ◌^◌, ◌-ℤ◌, [], IsTrue, IfOk, IfSome, None, Some, OnErr, OnOk, false, true};
+ghost use Rattle.std.specs.Prelude.{◌≡◌, ◌⊎◌, ◌^◌, ◌-ℤ◌, ◌<ℤ◌, [], IsTrue, IfOk, IfSome, None, Some, OnErr, OnOk, false, true};
 ghost use Rattle.rational.specs.Rational.{IsWithin, add, whole};
 ghost use Rattle.rational.specs.Time.{Rational, ◌≤ʳ◌, ◌<ʳ◌};
 ghost use Rattle.rational.specs.Extended.{value_at};
-ghost use Rattle.rational.specs.Places.{AtMost, Place, Same, Upto};
+ghost use Rattle.rational.specs.Places.{AtMost, Before, Place, Same, Upto};
 ghost use Rattle.frac128.specs.Value.{value as value_of};
 ghost use Rattle.frac128.specs.Cuts.{place};
+ghost use Rattle.window_extrema.specs.Range.{Range};
 ghost use Rattle.pieces.specs.Best.{IsBetter};
 ghost use Rattle.pieces.specs.Chains.{Chain, HasShape, Tells, end, stop};
 ghost use Rattle.pieces.specs.Hands.{ClimbsAt, EndsHand, FirstGives, GoesFurther, GoesOnAs, HasClimbed, HasLeft, HasRested, IsTaken, Leaves, TellsClimb, TellsRest, TurnsTo};
@@ -13,9 +14,10 @@ ghost use Rattle.pieces.specs.Meeting.{HasMet, HasToldTo, IsBelow, IsHeldFault, 
 ghost use Rattle.pieces.specs.Over.{IsMovedTo};
 ghost use Rattle.pieces.specs.Steps.{AreSteps, IsOfSteps};
 ghost use Rattle.pieces.specs.Windows.{BestOver, BestTo, HasEntered};
-ghost use Rattle.pieces.specs.Streaming.{CanFollow, ComesNext, Follows, HasAll, IsAt, IsNextSeen, before_time};
+ghost use Rattle.pieces.specs.Streaming.{CanFollow, ComesNext, Follows, FollowsSteps, HasAll, IsAt, IsAtSteps, IsNextSeen, before_time};
 ghost use Rattle.pieces.specs.Causes.{IsCauseBelow, IsHeldCause};
 
+use crate::constants::{count_further, counts_longer, steps_of, take_up, tell_best};
 use crate::reach::{Reach, Way, at_high, at_low, entering};
 use crate::sliding::Sliding;
 use crate::steps::{Step, slide};
@@ -27,6 +29,7 @@ use std::alloc::Global;
 use std::cmp::Ordering;
 use std::collections::VecDeque;
 use value_laws::Shape;
+use window_extrema::RangeMax;
 
 /// A window on its way over a function of time that comes piece by piece.
 ///
@@ -36,6 +39,8 @@ use value_laws::Shape;
 pub struct Stream<P: Shape> {
     pub(crate) way: Way,
     pub(crate) sliding: Sliding<P>,
+    /// As long as all pieces were constants: which of them is the best. They stand in the place of the steps.
+    pub(crate) range: Option<RangeMax<P>>,
     /// The shape of the piece at hand, and its trend towards better values.
     pub(crate) piece: Option<P>,
     pub(crate) trend: Ordering,
@@ -62,6 +67,7 @@ impl<P: Shape> Stream<P> {
                 out: Pieces::start(alloc, from),
                 steps: VecDeque::new(alloc),
             },
+            range: first_range(alloc, &over),
             piece: None,
             trend: Ordering::Equal,
             met: *from,
@@ -134,6 +140,116 @@ impl<P: Shape> Stream<P> {
         ensures one { (s : Chain P) → Follows P.Shape s self.old → ComesNext P.Shape s self.old piece.now → (stop s).at ≤ʳ s.from.at
             → OnErr result (fault.new ≡ None) }
     {
+        if self.meets_constant(piece)? {
+            return Ok(());
+        }
+        self.meet_steps(piece, fault)
+    }
+
+    /// As long as all pieces were constants: lets the window meet what comes next, if that is a constant too, and answers true. Else what
+    /// still counts become steps, and it answers false.
+    ///
+    /// # Errors
+    ///
+    /// `Memory` where memory is wanting.
+    fn meets_constant(&mut self, piece: &Piece<P>) -> Result<bool, Memory>
+        requires next { (s : Chain P) × Follows P.Shape s self.old × ComesNext P.Shape s self.old piece.now }
+        ensures met { (s : Chain P) → Follows P.Shape s self.old → ComesNext P.Shape s self.old piece.now
+            → IfOk result (λ is. IsTrue is → Follows P.Shape s self.new) }
+        ensures upto { IfOk result (λ is. IsTrue is → HasToldTo self.old.way (place self.old.met) self.old.sliding self.new.sliding) }
+        ensures end { IfOk result (λ is. IsTrue is → place self.new.met ≡ end piece.now) }
+        ensures from { IfOk result (λ is. IsTrue is → self.new.sliding.out.from ≡ self.old.sliding.out.from) }
+        ensures steps { (s : Chain P) → Follows P.Shape s self.old → ComesNext P.Shape s self.old piece.now
+            → IfOk result (λ is. is ≡ false → FollowsSteps P.Shape s self.new) }
+        ensures range { IfOk result (λ is. is ≡ false → self.new.range ≡ None) }
+        ensures way { IfOk result (λ is. self.new.way ≡ self.old.way) }
+        ensures same { IfOk result (λ is. is ≡ false → self.new.met ≡ self.old.met) }
+        ensures out { IfOk result (λ is. is ≡ false → self.new.sliding.out ≡ self.old.sliding.out) }
+    {
+        let Some(range) = &mut self.range else {
+            return Ok(false);
+        };
+        if let Some(shape) = continued(&self.piece, &self.met, piece) {
+            let whole = Piece {
+                until: piece.until,
+                shape,
+            };
+            count_further(&self.way, &self.met, &whole, &mut self.sliding, range)?;
+            self.met = piece.until;
+            return Ok(true);
+        }
+        let until = left(&self.way, &piece.until);
+        if counts_longer(piece, &until, &self.sliding) {
+            take_up(
+                &self.way,
+                &self.met,
+                piece,
+                &until,
+                &mut self.sliding,
+                range,
+            )?;
+            self.piece = Some(piece.shape);
+            self.met = piece.until;
+            return Ok(true);
+        }
+        self.make_steps()?;
+        Ok(false)
+    }
+
+    /// The constants that count become steps.
+    ///
+    /// # Errors
+    ///
+    /// `Memory` where memory is wanting.
+    fn make_steps(&mut self) -> Result<(), Memory>
+        requires constants { (s : Chain P) × (range : Range P) × (self.old.range ≡ Some range) × Follows P.Shape s self.old
+            × Before (place self.old.met) (stop s) }
+        ensures steps { (s : Chain P) (range : Range P) → self.old.range ≡ Some range → Follows P.Shape s self.old
+            → Before (place self.old.met) (stop s) → OnOk result (FollowsSteps P.Shape s self.new) }
+        ensures range { OnOk result (self.new.range ≡ None) }
+        ensures way { OnOk result (self.new.way ≡ self.old.way) }
+        ensures met { OnOk result (self.new.met ≡ self.old.met) }
+        ensures out { OnOk result (self.new.sliding.out ≡ self.old.sliding.out) }
+    {
+        let at = self.sliding.out.until();
+        let alloc = self.sliding.out.alloc();
+        self.sliding.steps = steps_of(alloc, self.way.side, &at, &self.sliding.steps)?;
+        self.range = None;
+        Ok(())
+    }
+
+    /// Lets the window meet what comes next, or goes on with the piece at hand, where it has steps.
+    ///
+    /// # Errors
+    ///
+    /// As `meet`.
+    fn meet_steps(
+        &mut self,
+        piece: &Piece<P>,
+        fault: &mut Option<WidePair<P>>,
+    ) -> Result<(), Memory>
+        requires next { (s : Chain P) × FollowsSteps P.Shape s self.old × ComesNext P.Shape s self.old piece.now }
+        requires none { fault.old ≡ None }
+        ensures follows { (s : Chain P) → FollowsSteps P.Shape s self.old → ComesNext P.Shape s self.old piece.now
+            → OnOk result (FollowsSteps P.Shape s self.new) }
+        ensures way { OnOk result (self.new.way ≡ self.old.way) }
+        ensures met { OnOk result (place self.new.met ≡ end piece.now) }
+        ensures from { OnOk result (self.new.sliding.out.from ≡ self.old.sliding.out.from) }
+        ensures upto { (s : Chain P) (limit : Rational) → FollowsSteps P.Shape s self.old → ComesNext P.Shape s self.old piece.now
+            → AtMost (stop self.old.sliding.out) (before_time limit) → (place self.old.met).at <ʳ add limit (whole self.old.way.over.high)
+            → OnOk result (AtMost (stop self.new.sliding.out) (before_time limit)) }
+        ensures still { OnOk result (fault.new ≡ None) }
+        ensures wide { (s : Chain P) (limit : Rational) → FollowsSteps P.Shape s self.old → ComesNext P.Shape s self.old piece.now
+            → s.from.at <ʳ limit → limit ≤ʳ (stop s).at → (place self.old.met).at <ʳ add limit (whole self.old.way.over.high)
+            → OnErr result (IfSome fault.new (IsCauseBelow P.Shape s self.old.way.over limit)) }
+        ensures first { (s : Chain P) → FollowsSteps P.Shape s self.old → ComesNext P.Shape s self.old piece.now
+            → s.from.at <ʳ (stop s).at → AtMost (stop self.old.sliding.out) s.from
+            → (place self.old.met).at <ʳ add s.from.at (whole self.old.way.over.high)
+            → OnErr result (IfSome fault.new (IsHeldCause P.Shape s self.old.way.over (place self.old.met).at)) }
+        ensures one { (s : Chain P) → FollowsSteps P.Shape s self.old → ComesNext P.Shape s self.old piece.now → (stop s).at ≤ʳ s.from.at
+            → OnErr result (fault.new ≡ None) }
+        ensures range { OnOk result (self.new.range ≡ self.old.range) }
+    {
         if is_empty(&self.way.over) {
             self.met = piece.until;
             return Ok(());
@@ -154,7 +270,8 @@ impl<P: Shape> Stream<P> {
     fn turn(&mut self, piece: &Piece<P>, fault: &mut Option<WidePair<P>>) -> Result<(), Memory>
         requires next { (s : Chain P) × TurnsTo P.Shape s self.old piece.now }
         requires none { fault.old ≡ None }
-        ensures follows { (s : Chain P) → TurnsTo P.Shape s self.old piece.now → OnOk result (Follows P.Shape s self.new) }
+        ensures follows { (s : Chain P) → TurnsTo P.Shape s self.old piece.now → OnOk result (FollowsSteps P.Shape s self.new) }
+        ensures range { OnOk result (self.new.range ≡ self.old.range) }
         ensures way { OnOk result (self.new.way ≡ self.old.way) }
         ensures met { OnOk result (place self.new.met ≡ end piece.now) }
         ensures from { OnOk result (self.new.sliding.out.from ≡ self.old.sliding.out.from) }
@@ -207,6 +324,71 @@ impl<P: Shape> Stream<P> {
         ensures one { (s : Chain P) → Follows P.Shape s self.old → HasAll P.Shape s self.old (value_of to.now) → (stop s).at ≤ʳ s.from.at
             → OnErr result (fault.new ≡ None) }
     {
+        if let Some(_) = &self.range {
+            return self.tell_constants(to);
+        }
+        self.tell_steps(to, fault)
+    }
+
+    /// Tells up to just before the time, where all pieces were constants.
+    ///
+    /// # Errors
+    ///
+    /// `Memory` where memory is wanting.
+    fn tell_constants(&mut self, to: &Frac) -> Result<(), Memory>
+        requires all { (s : Chain P) × (range : Range P) × (self.old.range ≡ Some range) × Follows P.Shape s self.old
+            × HasAll P.Shape s self.old (value_of to.now) }
+        requires order { AtMost (stop self.old.sliding.out) (before_time (value_of to.now)) }
+        ensures told { (s : Chain P) → Follows P.Shape s self.old → HasAll P.Shape s self.old (value_of to.now)
+            → OnOk result (Tells P.Shape (BestOver P.Shape s self.old.way.over self.old.way.side) self.old.sliding.out.from
+            (before_time (value_of to.now)) self.new.sliding.out) }
+        ensures bases { (s : Chain P) → Follows P.Shape s self.old → HasAll P.Shape s self.old (value_of to.now)
+            → OnOk result ((p : P) → HasShape self.new.sliding.out p → IsMovedTo P.Shape s self.old.way.over (place self.old.way.to) p) }
+        ensures at { (s : Chain P) → Follows P.Shape s self.old → HasAll P.Shape s self.old (value_of to.now)
+            → OnOk result (IsAt P.Shape s self.new (value_of to.now)) }
+        ensures way { OnOk result (self.new.way ≡ self.old.way) }
+        ensures met { OnOk result (self.new.met ≡ self.old.met) }
+    {
+        let ends = self.comes(to);
+        let upto = Cut { time: *to, side: 0 };
+        let Some(range) = &mut self.range else {
+            return Ok(());
+        };
+        tell_best(&self.way, &mut self.sliding, range, &upto)?;
+        if ends {
+            self.piece = None;
+        }
+        Ok(())
+    }
+
+    /// Tells up to just before the time, where there are steps.
+    ///
+    /// # Errors
+    ///
+    /// As `meet`.
+    fn tell_steps(&mut self, to: &Frac, fault: &mut Option<WidePair<P>>) -> Result<(), Memory>
+        requires all { (s : Chain P) × FollowsSteps P.Shape s self.old × HasAll P.Shape s self.old (value_of to.now) }
+        requires range { self.old.range ≡ None }
+        requires order { AtMost (stop self.old.sliding.out) (before_time (value_of to.now)) }
+        requires none { fault.old ≡ None }
+        ensures told { (s : Chain P) → FollowsSteps P.Shape s self.old → HasAll P.Shape s self.old (value_of to.now)
+            → OnOk result (Tells P.Shape (BestOver P.Shape s self.old.way.over self.old.way.side) self.old.sliding.out.from
+            (before_time (value_of to.now)) self.new.sliding.out) }
+        ensures bases { (s : Chain P) → FollowsSteps P.Shape s self.old → HasAll P.Shape s self.old (value_of to.now)
+            → OnOk result ((p : P) → HasShape self.new.sliding.out p → IsMovedTo P.Shape s self.old.way.over (place self.old.way.to) p) }
+        ensures at { (s : Chain P) → FollowsSteps P.Shape s self.old → HasAll P.Shape s self.old (value_of to.now)
+            → OnOk result (IsAtSteps P.Shape s self.new (value_of to.now)) }
+        ensures way { OnOk result (self.new.way ≡ self.old.way) }
+        ensures met { OnOk result (self.new.met ≡ self.old.met) }
+        ensures still { OnOk result (fault.new ≡ None) }
+        ensures wide { (s : Chain P) → FollowsSteps P.Shape s self.old → HasAll P.Shape s self.old (value_of to.now) → s.from.at <ʳ value_of to.now
+            → OnErr result (IfSome fault.new (IsCauseBelow P.Shape s self.old.way.over (value_of to.now))) }
+        ensures early { (s : Chain P) → FollowsSteps P.Shape s self.old → HasAll P.Shape s self.old (value_of to.now) → value_of to.now ≤ʳ s.from.at
+            → add (value_of to.now) (whole self.old.way.over.high) ≤ʳ (place self.old.met).at → OnErr result (fault.new ≡ None) }
+        ensures one { (s : Chain P) → FollowsSteps P.Shape s self.old → HasAll P.Shape s self.old (value_of to.now) → (stop s).at ≤ʳ s.from.at
+            → OnErr result (fault.new ≡ None) }
+        ensures range { OnOk result (self.new.range ≡ self.old.range) }
+    {
         let upto = Cut { time: *to, side: 0 };
         let Some(shape) = self.piece else {
             return rest(&self.way, &upto, &mut self.sliding, fault);
@@ -256,6 +438,21 @@ impl<P: Shape> Stream<P> {
         ensures base { (s : Chain P) → IsAt P.Shape s self.now (value_of to.now)
             → IsMovedTo P.Shape s self.now.way.over (place self.now.way.to) result }
     {
+        if let Some(_) = &self.range {
+            return first_step(self.way.side, &self.sliding.steps, to);
+        }
+        self.best_of_steps(to)
+    }
+
+    /// The best of what was met, over the window at the time before which it has told all, where there are steps.
+    fn best_of_steps(&self, to: &Frac) -> P
+        requires at { (s : Chain P) × IsAtSteps P.Shape s self.now (value_of to.now) }
+        requires inside { Upto (place self.now.way.to) (value_of to.now) }
+        ensures value { (s : Chain P) → IsAtSteps P.Shape s self.now (value_of to.now)
+            → BestTo P.Shape s self.now.way (place self.now.met) (value_of to.now) (value_at (P.function result) (value_of to.now)) }
+        ensures base { (s : Chain P) → IsAtSteps P.Shape s self.now (value_of to.now)
+            → IsMovedTo P.Shape s self.now.way.over (place self.now.way.to) result }
+    {
         let first = first_step(self.way.side, &self.sliding.steps, to);
         let Some(shape) = self.piece else {
             return first;
@@ -280,6 +477,19 @@ fn is_one(over: &Reach) -> bool
     ensures not { result ≡ false → ¬ (over.now.low ≡ over.now.high) }
 {
     over.low == over.high
+}
+
+/// No constants yet; none where the window sees one time at most, since it keeps none then.
+fn first_range<P: Shape>(alloc: Global, over: &Reach) -> Option<RangeMax<P>>
+    ensures wide { IfSome result (λ r. over.now.low <ℤ over.now.high) }
+    ensures items { IfSome result (λ r. r.items ≡ []) }
+    ensures low { IfSome result (λ r. r.low ≡ 0) }
+    ensures high { IfSome result (λ r. r.high ≡ 0) }
+{
+    if over.low < over.high {
+        return Some(RangeMax::empty(alloc));
+    }
+    None
 }
 
 /// The piece at hand ends, of which the window sees one time after another: it is told up to where the window has left it.

@@ -1,101 +1,99 @@
-use Rattle.std.proofs.lemmas.Option.{IfSome_then}
-use Rattle.std.proofs.lemmas.Result.{on_err_weaker, on_ok_weaker}
+use Rattle.std.proofs.Common.{◌≡◌, sym, subst, ap, ◌∙◌}
+use Rattle.std.specs.Prelude.{IfSome, OnErr}
+use Rattle.std.proofs.lemmas.Result.{on_ok_weaker}
 use Rattle.rational.proofs.Lists.{on_err_anyway}
-use Rattle.rational.proofs.Order.{le_refl}
-use Rattle.rational.proofs.PlaceLemmas.{le_of_at_most}
+use Rattle.rational.specs.Time.{Rational, add, whole, ◌<ʳ◌}
+use Rattle.rational.specs.Places.{AtMost}
 use Rattle.frac128.specs.Cuts.{place}
 use Rattle.pieces.specs.Causes.{IsCauseBelow, IsHeldCause}
 use Rattle.pieces.specs.Chains.{Chain, stop}
-use Rattle.pieces.specs.Hands.{TurnsTo}
-use Rattle.pieces.specs.Meeting.{IsHeldFault}
-use Rattle.pieces.specs.Streaming.{ComesNext, Follows}
+use Rattle.pieces.specs.Streaming.{ComesNext, Follows, FollowsSteps, before_time}
+use Rattle.pieces.proofs.BestEnd.{on_ok_two}
 use Rattle.pieces.proofs.CountsInPlay.{none_refused}
-use Rattle.pieces.proofs.FollowedWindows.{follows_blind, follows_further, follows_longer, follows_turns, follows_within, next_below, next_narrow, told_below}
-use Rattle.pieces.proofs.OverWindow.{empty_or_some, sees_nothing}
-use Rattle.pieces.proofs.Refusals.{held_first, held_never, none_of_refused}
+use Rattle.pieces.proofs.FollowedConstants.{comes_same, follows_of_steps}
+use Rattle.pieces.proofs.FollowedWindows.{told_below}
 use Rattle.pieces.proofs.stream.Stream.meet.Given.{Over}
-use Rattle.pieces.proofs.stream.Stream.meet.Goals.{In_default}
+use Rattle.pieces.proofs.stream.Stream.meet.Goals.{Else-branch}
 use Rattle.pieces.proofs.stream.Stream.meet.Goals as goal
 
--- another piece comes
-turns : (g : Over) (c : In_default g) (s : Chain g.row.P.Denot) → Follows g.P.Shape s c.args.self.now
-    → ComesNext g.P.Shape s c.args.self.now c.args.piece.now → TurnsTo g.P.Shape s c.args.self.now c.args.piece.now
-turns g c s known next = follows_turns g.P.Shape s c.args.self.now c.args.piece.now known (c.is_empty.ensures.not c.if-is_empty.false) next
-    (c.continued.ensures.none c.in_default.is)
+pub meets_constant-requires : goal.meets_constant-requires
+meets_constant-requires g c = record { next = c.requires.next }
 
-pub is_empty-requires : goal.is_empty-requires
-is_empty-requires g c =
+pub returns-then-branch-clause-upto : goal.returns-then-branch-clause-upto
+returns-then-branch-clause-upto g c s limit known next most comes = told_below c.args.self.now.way (place c.args.self.now.met)
+    c.args.self.now.sliding c.meets_constant.new.self.sliding limit (c.in_ok-meets_constant.ensures.upto c.if-branch.true) most comes
+
+pub returns-in_err-meets_constant-clause-wide : goal.returns-in_err-meets_constant-clause-wide
+returns-in_err-meets_constant-clause-wide g c s limit known next after inside comes = on_err_anyway c.from_residual.result
+    (none_refused c.args.fault.now (IsCauseBelow g.P.Shape s c.args.self.now.way.over limit) c.requires.none)
+
+pub returns-in_err-meets_constant-clause-first : goal.returns-in_err-meets_constant-clause-first
+returns-in_err-meets_constant-clause-first g c s known next some most comes = on_err_anyway c.from_residual.result
+    (none_refused c.args.fault.now (IsHeldCause g.P.Shape s c.args.self.now.way.over (place c.args.self.now.met).at) c.requires.none)
+
+-- it has steps by now
+steps : (g : Over) (c : Else-branch g) (s : Chain g.row.P.Denot) → Follows g.P.Shape s c.args.self.now
+    → ComesNext g.P.Shape s c.args.self.now c.args.piece.now → FollowsSteps g.P.Shape s c.meets_constant.new.self
+steps g c s known next = c.in_ok-meets_constant.ensures.steps s known next c.if-branch.false
+
+comes : (g : Over) (c : Else-branch g) (s : Chain g.row.P.Denot) → ComesNext g.P.Shape s c.args.self.now c.args.piece.now
+    → ComesNext g.P.Shape s c.meets_constant.new.self c.args.piece.now
+comes g c s next = comes_same g.P.Shape s c.args.self.now c.meets_constant.new.self c.args.piece.now
+    (c.in_ok-meets_constant.ensures.same c.if-branch.false) c.in_ok-meets_constant.ensures.way next
+
+-- up to where it had told, and met
+told : (g : Over) (c : Else-branch g) → stop c.meets_constant.new.self.sliding.out ≡ stop c.args.self.now.sliding.out
+told g c = ap (λ o. stop o) (c.in_ok-meets_constant.ensures.out c.if-branch.false)
+
+reaches : (g : Over) (c : Else-branch g) (limit : Rational) → (place c.args.self.now.met).at <ʳ add limit (whole c.args.self.now.way.over.high)
+    → (place c.meets_constant.new.self.met).at <ʳ add limit (whole c.meets_constant.new.self.way.over.high)
+reaches g c limit h = subst (λ m. (place m).at <ʳ add limit (whole c.meets_constant.new.self.way.over.high))
+    (sym (c.in_ok-meets_constant.ensures.same c.if-branch.false))
+    (subst (λ x. (place c.args.self.now.met).at <ʳ add limit (whole x.over.high)) (sym c.in_ok-meets_constant.ensures.way) h)
+
+pub meet_steps-requires-clause-next : goal.meet_steps-requires-clause-next
+meet_steps-requires-clause-next g c =
     let (s, known, next) = c.requires.next in
-    known.can.small.order
-
-pub returns-then-is_empty-clause-follows : goal.returns-then-is_empty-clause-follows
-returns-then-is_empty-clause-follows g c s known next =
-    let empty = c.is_empty.ensures.empty c.if-is_empty.true in
-    follows_blind g.P.Shape s c.args.self.now c.args.piece.now (assumption g.met.P.Shape) known next (sees_nothing c.args.self.now.way.over empty)
-    (empty_or_some c.args.self.now.way.over empty)
-
-pub continued-requires : goal.continued-requires
-continued-requires g c =
-    let (s, known, next) = c.requires.next in
-    follows_within g.P.Shape s c.args.self.now known
-
-pub lengthen-requires : goal.lengthen-requires
-lengthen-requires g c =
-    let (s, known, next) = c.requires.next in
-    let (e, goes) = c.in-Some.ensures.some in
-    record {
-      further = (
-        s,
-        follows_further g.P.Shape s c.args.self.now c.args.piece.now c.in-Some.shape e known (c.is_empty.ensures.not c.if-is_empty.false) next goes,
-      );
-    }
+    let k = (goal.at.meet_steps-requires-clause-next g c).Else-branch in
+    (s, steps g k s known next, comes g k s next)
 
 pub returns-clause-follows : goal.returns-clause-follows
 returns-clause-follows g c s known next =
-    let some = c.is_empty.ensures.not c.if-is_empty.false in
-    let (e, goes) = c.in-Some.ensures.some in
-    follows_longer g.P.Shape s c.args.self.now c.args.piece.now c.in-Some.shape e known some next c.lengthen.new.window
-    (c.in_ok-lengthen.ensures.taken s (follows_further g.P.Shape s c.args.self.now c.args.piece.now c.in-Some.shape e known some next goes))
+    let k = (goal.at.returns-clause-follows g c).Else-branch in
+    on_ok_two c.meet_steps.result (λ follows range. follows_of_steps g.P.Shape s c.meet_steps.new.self
+    (range ∙ c.in_ok-meets_constant.ensures.range c.if-branch.false) follows)
+    (c.meet_steps.ensures.follows s (steps g k s known next) (comes g k s next)) c.meet_steps.ensures.range
 
-pub turn-requires-clause-next : goal.turn-requires-clause-next
-turn-requires-clause-next g c =
-    let (s, known, next) = c.requires.next in
-    (s, turns g (goal.at.turn-requires-clause-next g c).In_default s known next)
+pub returns-clause-way : goal.returns-clause-way
+returns-clause-way g c = on_ok_weaker c.meet_steps.result (λ way. way ∙ c.in_ok-meets_constant.ensures.way) c.meet_steps.ensures.way
 
-pub returns-in_default-clause-follows : goal.returns-in_default-clause-follows
-returns-in_default-clause-follows g c s known next =
-    c.turn.ensures.follows s (turns g (goal.at.returns-in_default-clause-follows g c).In_default s known next)
+pub returns-clause-from : goal.returns-clause-from
+returns-clause-from g c = on_ok_weaker c.meet_steps.result
+    (λ from. from ∙ ap (λ o. o.from) (c.in_ok-meets_constant.ensures.out c.if-branch.false)) c.meet_steps.ensures.from
 
-pub returns-in_default-clause-upto : goal.returns-in_default-clause-upto
-returns-in_default-clause-upto g c s limit known next most comes = on_ok_weaker c.turn.result
-    (λ told. told_below c.args.self.now.way (place c.args.self.now.met) c.args.self.now.sliding c.turn.new.self.sliding limit told most comes)
-    c.turn.ensures.upto
+pub returns-clause-upto : goal.returns-clause-upto
+returns-clause-upto g c s limit known next most later =
+    let k = (goal.at.returns-clause-upto g c).Else-branch in
+    c.meet_steps.ensures.upto s limit (steps g k s known next) (comes g k s next) (subst (λ x. AtMost x (before_time limit)) (sym (told g k)) most)
+    (reaches g k limit later)
 
-pub returns-in_default-clause-wide : goal.returns-in_default-clause-wide
-returns-in_default-clause-wide g c s limit known next after inside comes = c.turn.ensures.wide s limit
-    (turns g (goal.at.returns-in_default-clause-wide g c).In_default s known next)
-    (next_below g.P.Shape s c.args.self.now c.args.piece.now limit after inside comes)
+pub returns-clause-wide : goal.returns-clause-wide
+returns-clause-wide g c s limit known next after inside later =
+    let k = (goal.at.returns-clause-wide g c).Else-branch in
+    subst (λ x. OnErr c.meet_steps.result (IfSome c.meet_steps.new.fault (IsCauseBelow g.P.Shape s x.over limit))) c.in_ok-meets_constant.ensures.way
+    (c.meet_steps.ensures.wide s limit (steps g k s known next) (comes g k s next) after inside (reaches g k limit later))
 
-pub returns-in_default-clause-first : goal.returns-in_default-clause-first
-returns-in_default-clause-first g c s known next some most comes =
-    let w = c.args.self.now in
-    on_err_weaker c.turn.result (λ held. IfSome_then c.turn.new.fault held (held_first g.P.Shape s w.way (place w.met).at some comes))
-    (c.turn.ensures.held s (turns g (goal.at.returns-in_default-clause-first g c).In_default s known next)
-    (next_narrow g.P.Shape s w c.args.piece.now s.from.at known (le_refl s.from.at) comes))
+pub returns-clause-first : goal.returns-clause-first
+returns-clause-first g c s known next some most later =
+    let k = (goal.at.returns-clause-first g c).Else-branch in
+    subst (λ x. OnErr c.meet_steps.result (IfSome c.meet_steps.new.fault (IsHeldCause g.P.Shape s x.over (place c.args.self.now.met).at)))
+    c.in_ok-meets_constant.ensures.way
+    (subst (λ m. OnErr c.meet_steps.result (IfSome c.meet_steps.new.fault (IsHeldCause g.P.Shape s c.meets_constant.new.self.way.over (place m).at)))
+    (c.in_ok-meets_constant.ensures.same c.if-branch.false)
+    (c.meet_steps.ensures.first s (steps g k s known next) (comes g k s next) some (subst (λ x. AtMost x s.from) (sym (told g k)) most)
+    (reaches g k s.from.at later)))
 
-pub returns-in_default-clause-one : goal.returns-in_default-clause-one
-returns-in_default-clause-one g c s known next one =
-    let w = c.args.self.now in
-    on_err_weaker c.turn.result (λ held. none_of_refused c.turn.new.fault (IsHeldFault g.P.Shape s w.way (place w.met).at) held
-    (held_never g.P.Shape s w.way (place w.met).at known.can.small one (le_of_at_most s.from (place w.met) known.begins)
-    (le_of_at_most (place w.met) (stop s) known.ends) next.comes))
-    (c.turn.ensures.held s (turns g (goal.at.returns-in_default-clause-one g c).In_default s known next)
-    (next_narrow g.P.Shape s w c.args.piece.now (stop s).at known one next.comes))
-
-pub returns-in_err-lengthen-clause-wide : goal.returns-in_err-lengthen-clause-wide
-returns-in_err-lengthen-clause-wide g c s limit known next after inside comes = on_err_anyway c.from_residual.result
-    (none_refused c.args.fault.now (IsCauseBelow g.P.Shape s c.args.self.now.way.over limit) c.requires.none)
-
-pub returns-in_err-lengthen-clause-first : goal.returns-in_err-lengthen-clause-first
-returns-in_err-lengthen-clause-first g c s known next some most comes = on_err_anyway c.from_residual.result
-    (none_refused c.args.fault.now (IsHeldCause g.P.Shape s c.args.self.now.way.over (place c.args.self.now.met).at) c.requires.none)
+pub returns-clause-one : goal.returns-clause-one
+returns-clause-one g c s known next one =
+    let k = (goal.at.returns-clause-one g c).Else-branch in
+    c.meet_steps.ensures.one s (steps g k s known next) (comes g k s next) one

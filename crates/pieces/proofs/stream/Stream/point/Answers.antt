@@ -6,7 +6,8 @@ use Rattle.frac128.specs.Cuts.{place}
 use Rattle.pieces.specs.Over.{IsMovedTo}
 use Rattle.pieces.specs.Streaming.{IsLastSeen, IsNextSeen}
 use Rattle.pieces.proofs.Bests.{better_alike}
-use Rattle.pieces.proofs.FollowedWindows.{at_within, best_all, best_blind}
+use Rattle.pieces.proofs.FollowedConstants.{at_within_limits}
+use Rattle.pieces.proofs.FollowedWindows.{best_all, best_blind}
 use Rattle.pieces.proofs.Hands.{last_best}
 use Rattle.pieces.proofs.OverWindow.{sees_nothing}
 use Rattle.pieces.proofs.Shifts.{high_from, high_to, room}
@@ -21,7 +22,7 @@ pub returns-in_default-clause-value : goal.returns-in_default-clause-value
 returns-in_default-clause-value g c s known seen =
     let w = c.args.self.now in
     let to = value c.args.to.now in
-    best_all g.P.Shape s (assumption g.met.P.Shape) w to known (value_at (g.P.Shape.function c.best_met-best.result) to)
+    best_all g.P.Shape s (assumption g.met.P.Shape) known.follows.can.rising w to (value_at (g.P.Shape.function c.best_met-best.result) to)
     (subst (λ o. IsNextSeen g.P.Shape s w to o) c.in_default.is seen) (c.best_met-best.ensures.value s known)
 
 pub returns-in_default-clause-base : goal.returns-in_default-clause-base
@@ -36,7 +37,7 @@ pub returns-then-is_empty-clause-value : goal.returns-then-is_empty-clause-value
 returns-then-is_empty-clause-value g c s known seen =
     let w = c.args.self.now in
     let to = value c.args.to.now in
-    best_blind g.P.Shape s (assumption g.met.P.Shape) w to known (value_at (g.P.Shape.function c.best_met-best.result) to)
+    best_blind g.P.Shape s (assumption g.met.P.Shape) known.follows.can.rising w to (value_at (g.P.Shape.function c.best_met-best.result) to)
     (sees_nothing w.way.over (c.is_empty.ensures.empty c.if-is_empty.true)) (c.best_met-best.ensures.value s known)
 
 pub returns-then-is_empty-clause-base : goal.returns-then-is_empty-clause-base
@@ -58,7 +59,7 @@ at_high-requires g c =
 pub better_at-requires : goal.better_at-requires
 better_at-requires g c =
     let (s, known, seen) = c.requires.seen in
-    at_within g.P.Shape s (assumption g.met.P.Shape) c.args.self.now (value c.args.to.now) known
+    at_within_limits g.P.Shape s c.args.self.now (assumption g.met.P.Shape) (value c.args.to.now) known
 
 pub returns-clause-value : goal.returns-clause-value
 returns-clause-value g c s known seen =
