@@ -13,6 +13,12 @@ const SHORT: usize = 128;
 /// Room for a short piece, and for as many bytes behind it as a number may want.
 const ROOM: usize = 144;
 
+/// A piece of so many bytes at most, as the line of one row mostly is, is copied into less room, which is set to zeros at once.
+const FEW: usize = 32;
+
+/// Room for a piece of a few bytes, and for as many bytes behind it as a number may want.
+const ROOM_OF_FEW: usize = 48;
+
 /// The bytes of a short piece, with room behind them.
 #[inline(always)]
 fn padded(piece: &[u8]) -> [u8; ROOM]
@@ -20,6 +26,17 @@ fn padded(piece: &[u8]) -> [u8; ROOM]
     ensures { take (length piece.now) result ≡ piece.now }
 {
     let mut room = [0u8; ROOM];
+    room[..piece.len()].copy_from_slice(piece);
+    room
+}
+
+/// A few bytes, with room behind them.
+#[inline(always)]
+fn padded_few(piece: &[u8]) -> [u8; ROOM_OF_FEW]
+    requires { length piece.now ≤ 32 }
+    ensures { take (length piece.now) result ≡ piece.now }
+{
+    let mut room = [0u8; ROOM_OF_FEW];
     room[..piece.len()].copy_from_slice(piece);
     room
 }
@@ -132,12 +149,29 @@ impl Heading {
         Some(size)
     }
 
+    /// As `read_padded`, where the piece has a few bytes alone.
+    #[inline(never)]
+    fn read_few(&self, row: &mut Row, piece: &[u8]) -> Option<usize>
+        requires { length piece.now ≤ 32 }
+        ensures { MatchOption result (Unit {0}) (λ n. IsPlainRow self.now piece.now n row.new) }
+    {
+        let room = padded_few(piece);
+        let size = self.read_plain(row, &room)?;
+        if size > piece.len() {
+            return None;
+        }
+        Some(size)
+    }
+
     /// Reads a row of plain numbers that the piece begins with, also where the piece ends with it. What it does not read may be a row
     /// all the same.
     #[inline(always)]
     pub(crate) fn plain_row(&self, row: &mut Row, piece: &[u8]) -> Option<usize>
         ensures { MatchOption result (Unit {0}) (λ n. IsPlainRow self.now piece.now n row.new) }
     {
+        if piece.len() <= FEW {
+            return self.read_few(row, piece);
+        }
         if piece.len() <= SHORT {
             return self.read_padded(row, piece);
         }
@@ -196,6 +230,19 @@ impl Heading {
         block
     }
 
+    /// As `take_rows`, of a short piece.
+    #[inline(never)]
+    fn take_short(&self, piece: &[u8], most: u64, from: u64, trace: &mut Trace) -> Block
+        requires width { length trace.old.header.columns ≡ length self.now.heading.columns }
+        requires later { 0 < length trace.old.rows → last_time 0 trace.old.rows < from }
+        ensures size { result.bytes ≤ length piece.now }
+        ensures few { result.rows ≤ most }
+        ensures narrow { length self.now.heading.columns ≤ 64 }
+        ensures rows { AreRowsAdded self.now from result.next trace.old trace.new result.rows (take result.bytes piece.now) }
+    {
+        self.take_while(piece, self.columns(), most, from, trace)
+    }
+
     /// Adds the rows of plain numbers that the piece begins with to the trace: at most `most` of them, the first one not before the time
     /// `from`, and each later than the one before it. A row for which memory is wanting is left, as one that is not read.
     /// First those behind which the piece goes on for long, which needs no copies.
@@ -208,6 +255,9 @@ impl Heading {
         ensures narrow { length self.now.heading.columns ≤ 64 }
         ensures rows { (next : ℕ) × AreRowsAdded self.now from next trace.old trace.new result.rows (take result.bytes piece.now) }
     {
+        if piece.len() <= SHORT {
+            return self.take_short(piece, most, from, trace);
+        }
         let far = self.take_while(piece, SHORT, most, from, trace);
         let near = self.take_while(
             &piece[far.bytes..],

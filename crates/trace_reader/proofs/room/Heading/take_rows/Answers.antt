@@ -37,3 +37,6 @@ returns-clause-rows c =
       blocks_joined c.args.self.now c.args.from far.next near.next c.args.trace.now c.take_while-far.new.trace c.take_while-near.new.trace
           far.rows near.rows piece far.bytes near.bytes c.take_while-far.ensures.rows behind,
     )
+
+pub returns-then-piece-le-SHORT-clause-rows : goal.returns-then-piece-le-SHORT-clause-rows
+returns-then-piece-le-SHORT-clause-rows c = (c.take_short.result.next, c.take_short.ensures.rows)
