@@ -1,17 +1,17 @@
 -- The network takes the quiet rows that wait in the block, and further ones: what it makes for them begins with the text that they have.
-use Rattle.std.proofs.Common.{◌≡◌, sym, ap, ◌∙◌, subst, ℕ, ◌<◌, ◌≤◌, false, List, [], ◌∷◌, ◌++◌, length, drop, arith}
+use Rattle.std.proofs.Common.{◌≡◌, sym, ap, ◌∙◌, subst, ℕ, ◌+◌, ◌-◌, ◌<◌, ◌≤◌, false, List, [], ◌∷◌, ◌++◌, length, take, drop, arith}
 use Rattle.std.proofs.Common.{append_assoc, length-append}
 use Rattle.std.proofs.lemmas.List.{append_cancel_left}
-use Rattle.std.proofs.Math.Seq.{drop-append_seam}
+use Rattle.std.proofs.Math.Seq.{drop-append_seam, take-append_seam}
 use Rattle.stl_syntax.specs.Formula.{root}
 use Rattle.stl_syntax.specs.Trace.{Row, Trace}
 use Rattle.atom_lines.specs.Rows.{row_of}
 use Rattle.answer_lines.proofs.StreamTexts.{stream_grows}
 use Rattle.trace_stream.specs.Following.{Follows}
 use Rattle.trace_stream.specs.Kept.{with_rows}
-use Rattle.trace_stream.specs.Streams.{verdicts}
+use Rattle.trace_stream.specs.Streams.{verdicts, StreamText}
 use Rattle.trace_stream.specs.declared.case.Case.{Case}
-use Rattle.verdict_stream.specs.Watching.{IsWatched, IsLastAt, last_alone, IsBehind}
+use Rattle.verdict_stream.specs.Watching.{IsWatched, IsLastAt, IsToldBefore, last_alone, IsBehind}
 use Rattle.verdict_stream.specs.declared.watcher.Watcher.{Watcher}
 use Rattle.verdict_stream.specs.declared.verdicts.Verdicts.{Verdicts}
 use Rattle.verdict_stream.proofs.Blocks.{same_alone}
@@ -80,3 +80,16 @@ module _ (v : Verdicts) (c : Case) (made : List ℕ) (more : List Row) (b : IsBe
       (subst (λ rs. Follows (λ case made. IsWatched false w case) verdicts (with_rows rs b.base) (b.first ++ t2)) rest_rows
       (subst (λ t. Follows (λ case made. IsWatched false w case) verdicts (with_rows (drop 1 v.block.rows) b.base) t)
       (append_assoc b.first g more_made ∙ ap (λ t. b.first ++ t) (sym all)) k))
+
+  -- where the watcher took all rows of the block without a step, the text that was made is that of the rows before the further ones
+  pub told_before : (times : List ℕ) → length times + 1 ≡ length v.block.rows
+      → IsToldBefore (length times - v.quiet.rows) (with_rows (drop 1 v.block.rows) b.base) made
+  told_before times all =
+      let size : length v.block.rows ≡ length (b.last ∷ (b.quiet ++ more)) = ap (λ (t : Trace). length t.rows) b.block in
+      let few : length (c.trace.rows ++ more) - (length times - v.quiet.rows) ≡ length c.trace.rows =
+      (let n = b.count in omega (arith, all, size, n, length-append b.quiet more, length-append c.trace.rows more)) in
+      let front : take (length (c.trace.rows ++ more) - (length times - v.quiet.rows)) (c.trace.rows ++ more) ≡ c.trace.rows =
+      ap (λ k. take k (c.trace.rows ++ more)) few ∙ take-append_seam c.trace.rows more in
+      subst (λ rs. IsToldBefore (length times - v.quiet.rows) (with_rows rs b.base) made) (sym rest_rows)
+      (subst (λ (x : Case). IsToldBefore (length times - v.quiet.rows) x made) (sym case_is)
+      (subst (λ rs. StreamText verdicts (root c.formula.nodes) c.trace.header rs false made) (sym front) b.told))

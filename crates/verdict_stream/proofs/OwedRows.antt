@@ -1,11 +1,11 @@
 -- Rows whose text is owed: the network takes them without a step. Then a step of every node gives out what all of them answer, and cut row
 -- by row that is their text.
-use Rattle.std.proofs.Common.{◌≡◌, ℕ, ◌+◌, ◌-◌, ◌<◌, ◌≤◌, Bool, true, false, List, [], ◌∷◌, ◌++◌, length, map, take, drop, refl}
+use Rattle.std.proofs.Common.{◌≡◌, ℕ, zero, suc, ◌+◌, ◌-◌, ◌<◌, ◌≤◌, Bool, true, false, List, [], ◌∷◌, ◌++◌, length, map, take, drop, refl}
 use Rattle.std.proofs.Common.{sym, ap, ◌∙◌, subst, arith, append-nil, append_assoc, length-append, Some, None, ℤ, pos, ◌-ℤ◌}
 use Rattle.std.specs.Prelude.{cond, int_lt, MatchBool}
 use Rattle.std.proofs.lemmas.Int.{ints}
-use Rattle.std.proofs.lemmas.List.{length-map, map-append}
-use Rattle.std.proofs.Math.Seq.{drop-append_seam, take-length, take-append_seam}
+use Rattle.std.proofs.lemmas.List.{length-map, map-append, length-take-le, take-append-drop, drop-map}
+use Rattle.std.proofs.Math.Seq.{drop-append_seam, take-length, take-append_seam, take-append-add}
 use Rattle.rational.specs.Rational.{whole}
 use Rattle.rational.specs.Time.{closed, left_open}
 use Rattle.stl_syntax.specs.Formula.{Formula, horizon, root}
@@ -35,8 +35,8 @@ use Rattle.online_net.specs.Nets.{Parts, Stands}
 use Rattle.trace_stream.specs.Streams.{verdicts, StreamText}
 use Rattle.trace_stream.specs.Kept.{with_rows}
 use Rattle.trace_stream.specs.Following.{Follows, IsFollowedOn}
-use Rattle.verdict_stream.specs.Pendings.{IsTextOfRows}
-use Rattle.verdict_stream.specs.Watching.{first_truth, Pass, IsWatched, IsOwing, CanTake, HasGivenAll, HasTakenAll}
+use Rattle.verdict_stream.specs.Pendings.{IsTextOfRows, ArePassed}
+use Rattle.verdict_stream.specs.Watching.{first_truth, Pass, IsWatched, IsOwing, IsToldBefore, CanTake, HasGivenAll, HasTakenAll}
 use Rattle.trace_stream.specs.declared.case.Case.{Case}
 use Rattle.verdict_stream.specs.declared.watcher.Network.{Network}
 use Rattle.verdict_stream.specs.declared.watcher.Watcher.{Watcher}
@@ -47,7 +47,7 @@ use Rattle.verdict_stream.proofs.WatchedRoot.{driven_at, driven_emptied, none_dr
 use Rattle.verdict_stream.proofs.WatchedRoot.{passing_of, passed_of, pass_before, front_after, front_is, front_push, shown_after, rows_told}
 use Rattle.verdict_stream.proofs.RowsTogether.{HasLast, last_of, rows_of_both, rows_of_more}
 use Rattle.verdict_stream.proofs.CutVerdicts.{Leads, describes_leads, leads_alike}
-use Rattle.verdict_stream.proofs.CutRows.{LeftTo, rows_cut}
+use Rattle.verdict_stream.proofs.CutRows.{LeftTo, IsLeft, rows_cut, rows_passed}
 
 module _ (nodes : List Node) (header : Header) where
   -- the root's place
@@ -465,26 +465,33 @@ module _ (v : Watcher) (c : Case) (made : List ℕ) (o : IsOwing v c made) where
       by_rows [] e k = absurd (no_row (o.before ++ o.more) o.last (sym e))
       by_rows (q ∷ l) e k = k
 
-  -- once its lines were put, the text is that of all rows
-  pub owing_followed : {given : Network} {after : Watcher} → OwesNoMore v given after
-      → (x : Passing c.formula.nodes c.trace.header fed_by (row o.last ∷ []) fed.emptied.emitted) (pending rest : List Verdict) (old new grown : List ℕ)
-      → HasGivenAll (Before x) given v.pending pending
-      → IsTextOfRows given.formula.scale v.horizon v.times.items pending grown rest → new ≡ old ++ grown
-      → IsFollowedOn (λ case text. IsWatched false after case) verdicts c old new made
-  owing_followed {given} {after} left_off x pending rest old new grown h lines longer =
+  -- the rows whose text is owed
+  abbrev pub Owed : List Row
+  Owed = o.more ++ o.last ∷ []
+
+  -- once the lines of what the last of them answer were put, behind the text of the others, the text is that of all rows
+  owing_cut : {given : Network} {after : Watcher} → OwesNoMore v given after
+      → (x : Passing c.formula.nodes c.trace.header fed_by (row o.last ∷ []) fed.emptied.emitted) (told more : List Row) (pending mid rest : List Verdict)
+      (first old new grown : List ℕ) → HasGivenAll (Before x) given v.pending pending → Owed ≡ told ++ more
+      → (IsLeft (root c.formula.nodes) c.trace.header c.trace.rows are_rows o.before pending
+      → IsLeft (root c.formula.nodes) c.trace.header c.trace.rows are_rows (o.before ++ told) mid)
+      → IsTextOfRows given.formula.scale v.horizon (map (λ (r : Row). r.time) more) mid grown rest → new ≡ old ++ grown
+      → StreamText verdicts (root c.formula.nodes) c.trace.header (o.before ++ told) false first
+      → IsFollowedOn (λ case text. IsWatched false after case) verdicts c old new first
+  owing_cut {given} {after} left_off x told more pending mid rest first old new grown h parts passed lines longer is_told =
       let p = given_out c.formula.nodes c.trace.header fed_by (row o.last) fed.emptied.emitted x given v.pending pending h in
       let driven = by_rows o.more o.last p.made o.few o.fed.driven p.emptied in
       let put : pending ≡ p.put = p.pending ∙ ap (λ l. l ++ p.put) o.none_pending in
-      let rows : c.trace.rows ≡ o.before ++ (o.more ++ o.last ∷ []) = o.rows ∙ append_assoc o.before o.more (o.last ∷ []) in
+      let rows : c.trace.rows ≡ (o.before ++ told) ++ more =
+      o.rows ∙ append_assoc o.before o.more (o.last ∷ []) ∙ ap (λ l. o.before ++ l) parts ∙ sym (append_assoc o.before told more) in
       let left = left_of_pass c.formula.nodes c.trace.header order some_node o.more p.made p.put x o.no_atom o.fed.driven
       driven c.trace.rows are_rows o.rows p.are in
       let (f, is) = o.fits in
       let scale : given.formula.scale ≡ c.trace.header.scale = ap (λ (g : Formula). g.scale) (left_off.formula ∙ o.formula ∙ is.formula) in
-      let told = rows_cut (root c.formula.nodes) c.trace.header c.trace.rows are_rows o.before (o.more ++ o.last ∷ []) p.put rest grown rows
-      (subst (λ vs. IsTextOfRows c.trace.header.scale (horizon (root c.formula.nodes)) (map (λ (r : Row). r.time) (o.more ++ o.last ∷ [])) vs grown rest) put
-      (subst (λ ts. IsTextOfRows c.trace.header.scale (horizon (root c.formula.nodes)) ts pending grown rest) o.times
-      (subst (λ n. IsTextOfRows c.trace.header.scale n v.times.items pending grown rest) o.horizon
-      (subst (λ (s : Scale). IsTextOfRows s v.horizon v.times.items pending grown rest) scale lines)))) left in (
+      let cut = rows_cut (root c.formula.nodes) c.trace.header c.trace.rows are_rows (o.before ++ told) more mid rest grown rows
+      (subst (λ n. IsTextOfRows c.trace.header.scale n (map (λ (r : Row). r.time) more) mid grown rest) o.horizon
+      (subst (λ (s : Scale). IsTextOfRows s v.horizon (map (λ (r : Row). r.time) more) mid grown rest) scale lines))
+      (passed (subst (λ vs. IsLeft (root c.formula.nodes) c.trace.header c.trace.rows are_rows o.before vs) (sym put) left)) in (
         grown,
         longer,
         record {
@@ -503,10 +510,67 @@ module _ (v : Watcher) (c : Case) (made : List ℕ) (o : IsOwing v c made) where
             none_waiting = left_off.lines;
           };
           fits = o.fits;
-          told = subst (λ l. StreamText verdicts (root c.formula.nodes) c.trace.header l false (made ++ grown)) (sym rows)
-              (rows_told (root c.formula.nodes) c.trace.header o.before (o.more ++ o.last ∷ []) made grown o.told told.text_is);
+          told = subst (λ l. StreamText verdicts (root c.formula.nodes) c.trace.header l false (first ++ grown)) (sym rows)
+              (rows_told (root c.formula.nodes) c.trace.header (o.before ++ told) more first grown is_told cut.text_is);
         },
       )
+
+  -- the rows before the last of those that are owed
+  told_rows : (told : ℕ) → told ≤ length Owed → take (length c.trace.rows - (length Owed - told)) c.trace.rows ≡ o.before ++ take told Owed
+  told_rows told few =
+      let rows : c.trace.rows ≡ o.before ++ Owed = o.rows ∙ append_assoc o.before o.more (o.last ∷ []) in
+      let size : length c.trace.rows - (length Owed - told) ≡ length o.before + told = omega (arith, few, ap length rows, length-append o.before Owed) in
+      ap (take (length c.trace.rows - (length Owed - told))) rows ∙ ap (λ n. take n (o.before ++ Owed)) size ∙ take-append-add o.before Owed told
+
+  -- the text that was made is that of the rows before those that are owed
+  pub told_so_far : IsToldBefore (length v.times.items - 0) c made
+  told_so_far =
+      let size : length v.times.items ≡ length Owed = ap length o.times ∙ length-map Owed (λ (r : Row). r.time) in
+      subst (λ rs. StreamText verdicts (root c.formula.nodes) c.trace.header rs false made)
+      (sym (ap (λ n. take (length c.trace.rows - (n - 0)) c.trace.rows) size ∙ told_rows 0 (omega arith) ∙ append-nil o.before)) o.told
+
+  -- what the first of them answer was let go of
+  passed_by : (told : ℕ) (pending mid : List Verdict) → told ≤ length Owed
+      → ArePassed (horizon (root c.formula.nodes)) told (map (λ (r : Row). r.time) Owed) pending mid
+      → IsLeft (root c.formula.nodes) c.trace.header c.trace.rows are_rows o.before pending
+      → IsLeft (root c.formula.nodes) c.trace.header c.trace.rows are_rows (o.before ++ take told Owed) mid
+  passed_by zero pending mid few passed left =
+      subst (λ rs. IsLeft (root c.formula.nodes) c.trace.header c.trace.rows are_rows rs mid) (sym (append-nil o.before))
+      (subst (λ vs. IsLeft (root c.formula.nodes) c.trace.header c.trace.rows are_rows o.before vs) (sym (passed.none refl)) left)
+  passed_by (suc n) pending mid few passed left =
+      let k = last_of (take (suc n) Owed) (omega (arith, few, length-take-le (suc n) Owed few)) in
+      let size : length k.front ≡ n = omega (arith, ap length k.is, length-append k.front (k.last ∷ []), length-take-le (suc n) Owed few) in
+      let all : Owed ≡ k.front ++ k.last ∷ drop (suc n) Owed =
+      sym (take-append-drop (suc n) Owed) ∙ ap (λ l. l ++ drop (suc n) Owed) k.is ∙ append_assoc k.front (k.last ∷ []) (drop (suc n) Owed) in
+      let times = ap (map (λ (r : Row). r.time)) all ∙ map-append (λ (r : Row). r.time) k.front (k.last ∷ drop (suc n) Owed) in
+      let rows : c.trace.rows ≡ (o.before ++ k.front) ++ k.last ∷ drop (suc n) Owed =
+      o.rows ∙ append_assoc o.before o.more (o.last ∷ []) ∙ ap (λ l. o.before ++ l) all
+      ∙ sym (append_assoc o.before k.front (k.last ∷ drop (suc n) Owed)) in
+      let at = passed.some (map (λ (r : Row). r.time) k.front) (map (λ (r : Row). r.time) (drop (suc n) Owed)) k.last.time times
+      (omega (arith, size, length-map k.front (λ (r : Row). r.time))) in
+      subst (λ rs. IsLeft (root c.formula.nodes) c.trace.header c.trace.rows are_rows rs mid)
+      (append_assoc o.before k.front (k.last ∷ []) ∙ ap (λ l. o.before ++ l) (sym k.is))
+      (rows_passed (root c.formula.nodes) c.trace.header c.trace.rows are_rows o.before k.front (drop (suc n) Owed) k.last pending mid rows at left)
+
+  -- so it is where the first of these rows have their text, and what they answer was let go of
+  pub owing_behind : {given : Network} {after : Watcher} → OwesNoMore v given after
+      → (x : Passing c.formula.nodes c.trace.header fed_by (row o.last ∷ []) fed.emptied.emitted) (pending mid rest : List Verdict) (told : ℕ)
+      (first old new grown : List ℕ) → HasGivenAll (Before x) given v.pending pending → told < length v.times.items
+      → ArePassed v.horizon told v.times.items pending mid
+      → IsTextOfRows given.formula.scale v.horizon (drop told v.times.items) mid grown rest → new ≡ old ++ grown
+      → IsToldBefore (length v.times.items - told) c first
+      → IsFollowedOn (λ case text. IsWatched false after case) verdicts c old new first
+  owing_behind {given} left_off x pending mid rest told first old new grown h some passed lines longer is_told =
+      let size : length v.times.items ≡ length Owed = ap length o.times ∙ length-map Owed (λ (r : Row). r.time) in
+      let few : told ≤ length Owed = omega (arith, some, size) in
+      owing_cut left_off x (take told Owed) (drop told Owed) pending mid rest first old new grown h (sym (take-append-drop told Owed))
+      (passed_by told pending mid few
+      (subst (λ ts. ArePassed (horizon (root c.formula.nodes)) told ts pending mid) o.times
+      (subst (λ n. ArePassed n told v.times.items pending mid) o.horizon passed)))
+      (subst (λ ts. IsTextOfRows given.formula.scale v.horizon ts mid grown rest)
+      (ap (drop told) o.times ∙ drop-map (λ (r : Row). r.time) told Owed) lines) longer
+      (subst (λ rs. StreamText verdicts (root c.formula.nodes) c.trace.header rs false first)
+      (ap (λ n. take (length c.trace.rows - (n - told)) c.trace.rows) size ∙ told_rows told few) is_told)
 
   -- so it is where one row was owed, and the lines of all that was given out for it were put
   pub owing_taken : {given : Network} {after : Watcher} → OwesNoMore v given after → length v.times.items ≡ 1

@@ -1,5 +1,5 @@
 -- Verdicts that were given out and whose lines are not made yet: what of them lies up to the time that a row answers, and what is left.
-use Rattle.std.specs.Prelude.{◌≡◌, ◌⊎◌, ℕ, ◌-◌, ◌<◌, ◌≤◌, true, List, [], ◌∷◌, ◌++◌, Option, Some, None, pos}
+use Rattle.std.specs.Prelude.{◌≡◌, ◌⊎◌, ℕ, ◌+◌, ◌-◌, ◌<◌, ◌≤◌, true, List, [], ◌∷◌, ◌++◌, length, Option, Some, None, pos}
 use Rattle.rational.specs.Rational.{whole}
 use Rattle.frac128.specs.Spans.{interval}
 use Rattle.stl_syntax.specs.Texts.{AreVerdictLines}
@@ -66,3 +66,12 @@ IsTextOfRows scale horizon [] old text new = (text ≡ []) × (new ≡ old)
 IsTextOfRows scale horizon (t ∷ times) old text new =
     (here later : List ℕ) × (mid : List Verdict) × IsTextOfRow scale horizon t old here mid
     × IsTextOfRows scale horizon times mid later new × (text ≡ here ++ later)
+
+-- what a row at the time t answers was let go of
+abbrev pub IsPassed : ℕ → ℕ → List Verdict → List Verdict → Type 0
+IsPassed horizon t old new = ((t < horizon) × (new ≡ old)) ⊎ ((horizon ≤ t) × ((some : List Verdict) × AreUpTo (t - horizon) old some new))
+
+-- what the first rows at these times answer, so many of them, was let go of
+pub record ArePassed (horizon told : ℕ) (times : List ℕ) (old new : List Verdict) : Type 0 where
+  pub none : told ≡ 0 → new ≡ old
+  pub some : (before more : List ℕ) (t : ℕ) → times ≡ before ++ t ∷ more → told ≡ length before + 1 → IsPassed horizon t old new

@@ -72,6 +72,10 @@ pub record IsOwing (v : Watcher) (c : Case) (made : List ℕ) : Type 0 where
   pub none_waiting : v.lines ≡ []
   pub told : StreamText verdicts (root c.formula.nodes) c.trace.header before false made
 
+-- this is the text of the case's rows before the last ones, so many of them
+abbrev pub IsToldBefore : ℕ → Case → List ℕ → Type 0
+IsToldBefore n c text = StreamText verdicts (root c.formula.nodes) c.trace.header (take (length c.trace.rows - n) c.trace.rows) false text
+
 -- whatever text was made
 abbrev pub Watches : Bool → Watcher → Case → List ℕ → Type 0
 Watches ended w c made = IsWatched ended w c

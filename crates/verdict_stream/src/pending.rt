@@ -1,9 +1,10 @@
 //! Verdicts whose lines are not made yet, and that are cut where the answer of a row ends.
-ghost use Rattle.std.specs.Prelude.{◌≡◌, ◌↔◌, ◌++◌, ◌∷◌, [], ◌≤◌, IsTrue, IfOk};
+ghost use Rattle.std.specs.Prelude.{◌≡◌, ◌↔◌, ◌++◌, ◌∷◌, [], ◌≤◌, List, IsTrue, IfOk};
 ghost use Rattle.frac128.specs.Spans.{interval};
 ghost use Rattle.rational.specs.Places.{Before, begins, ends};
 ghost use Rattle.answer_lines.specs.Appended.{Grew};
-ghost use Rattle.verdict_stream.specs.Pendings.{just_after, GoesBeyond, IsNextUpTo, IsCut, IsPartBefore, IsPartAfter, IsTextUpTo};
+ghost use Rattle.stl_syntax.specs.declared.items.Verdict.{Verdict as AVerdict};
+ghost use Rattle.verdict_stream.specs.Pendings.{just_after, GoesBeyond, IsNextUpTo, IsCut, IsPartBefore, IsPartAfter, AreUpTo, IsTextUpTo};
 
 use answer_lines::VerdictLines;
 use frac128::{Cut, Frac, Memory, Span};
@@ -129,6 +130,14 @@ impl Pending {
         let part = part_before(first, front);
         leave_after(first, front);
         Some(part)
+    }
+
+    /// Lets go of what lies up to the time `front`. What lies after it is left.
+    pub(crate) fn let_go_up_to(&mut self, front: u32)
+        ensures { (some : List AVerdict) × AreUpTo front self.old some self.new }
+    {
+        while let Some(_verdict) = self.next(front) {}
+        let _part = self.cut(front);
     }
 
     /// Adds the lines of what lies up to the time `front`. What lies after it is left.

@@ -1,5 +1,5 @@
 //! The verdicts of a formula as the rows of a trace come.
-ghost use Rattle.std.specs.Prelude.{◌≡◌, ◌<◌, ◌≤◌, ◌++◌, ◌∷◌, [], ℕ, List, IfOk, OnOk, IsTrue};
+ghost use Rattle.std.specs.Prelude.{◌≡◌, ◌<◌, ◌≤◌, ◌+◌, ◌++◌, ◌∷◌, [], ℕ, List, length, IfOk, OnOk, IsTrue};
 ghost use Rattle.stl_syntax.specs.Trace.{Trace as Recorded, Row as Values};
 ghost use Rattle.trace_stream.specs.Streams.{verdicts};
 ghost use Rattle.trace_stream.specs.Cases.{Takes};
@@ -7,7 +7,7 @@ ghost use Rattle.trace_stream.specs.Following.{Follows, IsFollowedOn, IsOpen, Is
 ghost use Rattle.trace_stream.specs.Kept.{with_rows};
 ghost use Rattle.trace_stream.specs.declared.case.Case.{Case as Of};
 ghost use Rattle.verdict_stream.specs.Quieting.{Knows};
-ghost use Rattle.verdict_stream.specs.Watching.{KeepsLast, WatchesRows, WatchesOwing, WatchesEnd, IsBehind};
+ghost use Rattle.verdict_stream.specs.Watching.{last_alone, KeepsLast, WatchesRows, WatchesOwing, WatchesEnd, IsBehind};
 ghost use Rattle.verdict_stream.specs.Watching.{HasAnswered, HasStepped, HasCaughtUp, HasMore, HasSettled};
 
 use crate::quiet::Quiet;
@@ -28,7 +28,7 @@ pub struct Verdicts {
     watcher: Watcher,
     block: Trace,
     quiet: Quiet,
-    /// The text that the watcher made when it took quiet rows; it has that of these rows once more.
+    /// The text that the watcher made when it took quiet rows and could not leave out that of these rows.
     again: Text,
 }
 
@@ -47,6 +47,30 @@ fn keep_row(block: &mut Trace, row: &Row) -> Result<(), Memory>
 }
 
 impl Verdicts {
+    /// Whether the watcher owes the text of all rows of the block behind its first one, and there are more of them than the quiet ones.
+    #[inline(always)]
+    fn owes_more(&self) -> bool
+        ensures { IsTrue result → (length self.now.watcher.times.items + 1 ≡ length self.now.block.rows)
+            × (self.now.quiet.rows < length self.now.watcher.times.items) }
+    {
+        if self.block.rows().saturating_sub(self.quiet.rows) >= 2 {
+            return self.watcher.owes(self.block.rows() - 1);
+        }
+        false
+    }
+
+    /// Leaves the last row alone in the block, and no row quiet: the watcher took them all.
+    #[inline(always)]
+    fn keep_last(&mut self)
+        ensures block { self.new.block ≡ last_alone self.old.block }
+        ensures quiet { self.new.quiet ≡ record self.old.quiet { rows = 0; bytes = 0 } }
+        ensures watcher { self.new.watcher ≡ self.old.watcher }
+    {
+        self.block.keep_last();
+        self.quiet.rows = 0;
+        self.quiet.bytes = 0;
+    }
+
     /// Lets the watcher take the rows of the block, and adds to the text what they answer beyond the quiet ones.
     ///
     /// # Errors
@@ -59,11 +83,14 @@ impl Verdicts {
     {
         self.again.clear();
         self.watcher.take_block(&self.block, &mut self.again)?;
+        if self.owes_more() {
+            self.watcher.make_behind(self.quiet.rows, text)?;
+            self.keep_last();
+            return Ok(());
+        }
         self.watcher.make_owed(&mut self.again)?;
         text.push(&self.again.bytes()[self.quiet.bytes..])?;
-        self.block.keep_last();
-        self.quiet.rows = 0;
-        self.quiet.bytes = 0;
+        self.keep_last();
         Ok(())
     }
 

@@ -8,13 +8,14 @@ ghost use Rattle.online_nodes.specs.Driven.{most_rows, steps_of};
 ghost use Rattle.online_net.specs.Nets.{Stands};
 ghost use Rattle.online_net.specs.Stretches.{rows_between};
 ghost use Rattle.answer_lines.specs.Appended.{Grew};
-ghost use Rattle.verdict_stream.specs.Pendings.{IsTextOfRow, IsTextOfRows};
+ghost use Rattle.verdict_stream.specs.Pendings.{IsTextOfRow, IsTextOfRows, ArePassed};
 ghost use Rattle.trace_stream.specs.Streams.{verdicts};
 ghost use Rattle.trace_stream.specs.Cases.{Takes, with_row};
 ghost use Rattle.trace_stream.specs.Kept.{with_rows};
 ghost use Rattle.trace_stream.specs.Following.{Follows, HasOpen, IsOpen, IsOpenOn, IsFollowedOn, IsFollowedOut};
 ghost use Rattle.verdict_stream.specs.Quieting.{AtomsAreSteady, IsLineAfter};
-ghost use Rattle.verdict_stream.specs.Watching.{IsWatched, Watches, IsOwing, IsLastAt, Pass, CanTake, HasGivenAll, HasTakenAll, IsUnmoved, kept_truth};
+ghost use Rattle.verdict_stream.specs.Watching.{IsWatched, Watches, IsOwing, IsToldBefore, IsLastAt};
+ghost use Rattle.verdict_stream.specs.Watching.{Pass, CanTake, HasGivenAll, HasTakenAll, IsUnmoved, kept_truth};
 ghost use Rattle.trace_stream.specs.declared.case.Case.{Case as Of};
 
 use crate::pending::Pending;
@@ -241,14 +242,29 @@ impl Watcher {
         if self.times.is_empty() {
             return Ok(());
         }
-        self.network.step_all()?;
         if self.times.len() == 1 {
+            self.network.step_all()?;
             self.network.take_all(&mut self.lines, text)?;
             self.times.clear();
             return Ok(());
         }
+        self.make_behind(0, text)
+    }
+
+    /// Makes the text that is owed for the rows behind the first `told` of those for which it is owed: these have theirs.
+    ///
+    /// # Errors
+    /// Want of memory.
+    pub(crate) fn make_behind(&mut self, told: usize, text: &mut Text) -> Result<(), Memory>
+        requires some { told < length self.old.times.items }
+        requires owing { (c : Of) × (made : List ℕ) × IsOwing self.old c made }
+        ensures { (c : Of) (made first : List ℕ) → IsOwing self.old c made → IsToldBefore (length self.old.times.items - told) c first
+            → IfOk result (λ _. IsFollowedOn (Watches false self.new) verdicts c text.old text.new first) }
+    {
+        self.network.step_all()?;
         self.network.give_all(&mut self.pending)?;
-        self.put_rows(text)?;
+        self.pass_rows(told);
+        self.put_rows(told, text)?;
         self.times.clear();
         self.pending.clear();
         Ok(())
@@ -351,6 +367,14 @@ impl Watcher {
         self.network.net.stays(block, at, to)
     }
 
+    /// Whether the text of so many rows is owed.
+    #[inline(always)]
+    pub(crate) fn owes(&self, rows: usize) -> bool
+        ensures { IsTrue result → length self.now.times.items ≡ rows }
+    {
+        self.times.len() == rows
+    }
+
     /// Whether the text of no row is owed.
     #[inline(always)]
     pub(crate) fn owes_none(&self) -> bool
@@ -429,19 +453,38 @@ impl Watcher {
         self.pending.put_up_to(front, scale, &mut self.lines, text)
     }
 
-    /// Adds the lines of what was given out, cut where the answer of each row ends.
+    /// Lets go of what the first `told` rows answer, of what was given out.
+    fn pass_rows(&mut self, told: usize)
+        requires { told ≤ length self.old.times.items }
+        ensures pending { ArePassed self.old.horizon told self.old.times.items self.old.pending self.new.pending }
+        ensures network { self.new.network ≡ self.old.network }
+        ensures horizon { self.new.horizon ≡ self.old.horizon }
+        ensures times { self.new.times.items ≡ self.old.times.items }
+        ensures lines { self.new.lines ≡ self.old.lines }
+    {
+        if told == 0 {
+            return;
+        }
+        let time = u64::from(self.times[told - 1]);
+        if time < self.horizon {
+            return;
+        }
+        self.pending.let_go_up_to((time - self.horizon) as u32);
+    }
+
+    /// Adds the lines of what was given out, from those of what row `first` answers on, cut where the answer of each row ends.
     ///
     /// # Errors
     /// Want of memory.
-    fn put_rows(&mut self, text: &mut Text) -> Result<(), Memory>
+    fn put_rows(&mut self, first: usize, text: &mut Text) -> Result<(), Memory>
         requires { self.old.lines ≡ [] }
-        ensures lines { IfOk result (λ _. Grew (λ grown.
-            IsTextOfRows self.old.network.formula.scale self.old.horizon self.old.times.items self.old.pending grown self.new.pending) text.old text.new) }
+        ensures lines { IfOk result (λ _. Grew (λ grown. IsTextOfRows self.old.network.formula.scale self.old.horizon
+            (drop first self.old.times.items) self.old.pending grown self.new.pending) text.old text.new) }
         ensures network { self.new.network ≡ self.old.network }
         ensures horizon { self.new.horizon ≡ self.old.horizon }
         ensures none { OnOk result (self.new.lines ≡ []) }
     {
-        for i in 0..self.times.len() {
+        for i in first..self.times.len() {
             let time = self.times[i];
             self.put_row(time, text)?;
         }

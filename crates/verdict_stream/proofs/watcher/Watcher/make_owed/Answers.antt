@@ -5,7 +5,7 @@ use Rattle.trace_stream.specs.Following.{Follows}
 use Rattle.trace_stream.specs.Streams.{verdicts}
 use Rattle.verdict_stream.specs.Watching.{IsWatched}
 use Rattle.verdict_stream.specs.declared.watcher.Watcher.{Watcher}
-use Rattle.verdict_stream.proofs.OwedRows.{OwesNoMore, owing_places, owing_steps, owing_passing, owing_can, owing_followed, owing_taken, Before}
+use Rattle.verdict_stream.proofs.OwedRows.{OwesNoMore, owing_places, owing_steps, owing_passing, owing_can, owing_taken, told_so_far, Before}
 use Rattle.verdict_stream.proofs.FollowedCases.{empty_of, none_owed, some_owed}
 use Rattle.verdict_stream.proofs.watcher.Watcher.make_owed.Goals as goal
 
@@ -70,48 +70,18 @@ returns-then-len-eq1 c = λ case made opened.
     } in
     owing_taken v case made o left_off one x c.args.text.now c.take_all.new.text (c.in_ok-take_all.ensures.taken (Before v case made o x) can)
 
-pub give_all-requires : goal.give_all-requires
-give_all-requires c =
+pub make_behind-requires-clause-owing : goal.make_behind-requires-clause-owing
+make_behind-requires-clause-owing c =
     let (case, made, opened) = c.requires in
-    let v = c.args.self.now in
-    let o = some_owed v case made opened
-    (λ e. false≢true (sym c.if-is_empty.false ∙ c.is_empty.ensures ∙ ap (λ n. n == 0) (v.times.ok.0 ∙ ap length e))) in
-    let st = owing_steps v case made o c.step_all.new.self.net (λ header events s. c.in_ok-step_all.ensures.stands header events s) in
-    let x = owing_passing v case made o c.step_all.new.self.net st in
-    (Before v case made o x, owing_can v case made o x c.step_all.new.self st c.step_all.ensures.start)
-
-pub put_rows-requires : goal.put_rows-requires
-put_rows-requires c =
-    let (case, made, opened) = c.requires in
-    let v = c.args.self.now in
-    let o = some_owed v case made opened
-    (λ e. false≢true (sym c.if-is_empty.false ∙ c.is_empty.ensures ∙ ap (λ n. n == 0) (v.times.ok.0 ∙ ap length e))) in
-    o.none_waiting
+    let v = c.args.self.now in (
+      case,
+      made,
+      some_owed v case made opened (λ e. false≢true (sym c.if-is_empty.false ∙ c.is_empty.ensures ∙ ap (λ n. n == 0) (v.times.ok.0 ∙ ap length e))),
+    )
 
 pub returns : goal.returns
 returns c = λ case made opened.
     let v = c.args.self.now in
     let o = some_owed v case made opened
     (λ e. false≢true (sym c.if-is_empty.false ∙ c.is_empty.ensures ∙ ap (λ n. n == 0) (v.times.ok.0 ∙ ap length e))) in
-    let st = owing_steps v case made o c.step_all.new.self.net (λ header events s. c.in_ok-step_all.ensures.stands header events s) in
-    let x = owing_passing v case made o c.step_all.new.self.net st in
-    let can = owing_can v case made o x c.step_all.new.self st c.step_all.ensures.start in
-    let (grown, lines, longer) = c.in_ok-put_rows.ensures.lines in
-    let put = c.put_rows.new.self in
-    let after : Watcher = record {
-      network = put.network;
-      horizon = put.horizon;
-      times = c.clear-2.new.self;
-      pending = c.clear-3.new.self;
-      lines = put.lines;
-    } in
-    let left_off : OwesNoMore v c.give_all.new.self after = record {
-      network = c.put_rows.ensures.network;
-      formula = c.give_all.ensures.formula ∙ c.step_all.ensures.formula;
-      horizon = c.put_rows.ensures.horizon;
-      times = c.clear-2.ensures.items;
-      pending = c.clear-3.ensures;
-      lines = c.in_ok-put_rows.ensures.none;
-    } in
-    owing_followed v case made o left_off x c.give_all.new.pending put.pending c.args.text.now c.put_rows.new.text grown
-    (c.in_ok-give_all.ensures.given (Before v case made o x) can) lines longer
+    c.make_behind.ensures case made made o (told_so_far v case made o)

@@ -38,7 +38,7 @@ loop-i-preserved c =
         grown ++ here,
         longer ∙ ap (λ t. t ++ here) is ∙ append_assoc c.args.text.now grown here,
         λ later left h.
-            subst (λ t. IsTextOfRows v.network.formula.scale v.horizon v.times.items v.pending t left) (sym (append_assoc grown here later))
+            subst (λ t. IsTextOfRows v.network.formula.scale v.horizon (drop c.args.first v.times.items) v.pending t left) (sym (append_assoc grown here later))
             (on (here ++ later) left
             (subst (λ ts. IsTextOfRows v.network.formula.scale v.horizon ts before.pending (here ++ later) left) (sym rest)
             (here, later, after.pending, told, h, refl))),
@@ -51,7 +51,7 @@ returns-clause-lines c =
     let (grown, is, on) = c.loop-i.invariant.lines in
     let past : length v.times.items ≤ c.loop-i.i = omega (arith, c.loop-i-test.false, c.len-i-end.ensures, v.times.ok.0) in (
       grown,
-      subst (λ t. IsTextOfRows v.network.formula.scale v.horizon v.times.items v.pending t c.loop-i.self.pending) (append-nil grown)
+      subst (λ t. IsTextOfRows v.network.formula.scale v.horizon (drop c.args.first v.times.items) v.pending t c.loop-i.self.pending) (append-nil grown)
           (on [] c.loop-i.self.pending
           (subst (λ ts. IsTextOfRows v.network.formula.scale v.horizon ts c.loop-i.self.pending [] c.loop-i.self.pending)
           (sym (drop_all c.loop-i.i v.times.items past)) (refl, refl))),

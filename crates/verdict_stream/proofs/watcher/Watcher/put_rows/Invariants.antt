@@ -11,5 +11,6 @@ invariant-loop-i l = record {
   lines : (grown : List ℕ) × (l.text ++ l.self.lines ≡ l.initial.text ++ grown)
       × ((later : List ℕ) (left : List Verdict)
       → IsTextOfRows l.initial.self.network.formula.scale l.initial.self.horizon (drop l.i l.initial.self.times.items) l.self.pending later left
-      → IsTextOfRows l.initial.self.network.formula.scale l.initial.self.horizon l.initial.self.times.items l.initial.self.pending (grown ++ later) left);
+      → IsTextOfRows l.initial.self.network.formula.scale l.initial.self.horizon (drop l.first l.initial.self.times.items) l.initial.self.pending
+      (grown ++ later) left);
 }
