@@ -52,18 +52,7 @@ best_past f place (N.Historically p a None a_in b_in) w tr is first t r last h =
     inf_over_alike (Holds (start tr) (stop tr) (past_window p Least a a_in) t) (Behind (start tr) (stop tr) a None a_in b_in t) (Robustness (f p) tr) infinity r
     (λ u. holds_past (start tr) (stop tr) p Least a a_in b_in t u) (λ u. past_holds (start tr) (stop tr) p Least a a_in b_in t u first last)
     (subst (λ (x : Window). best_over tr (Robustness (f x.of) tr) x t r) is h)
-best_past f place (N.Once p a (Some b) a_in b_in) w tr is first t r last h = absurd is
-best_past f place (N.Historically p a (Some b) a_in b_in) w tr is first t r last h = absurd is
-best_past f place (N.Eventually p a b a_in b_in) w tr is first t r last h = absurd is
-best_past f place (N.Always p a b a_in b_in) w tr is first t r last h = absurd is
-best_past f place (N.Const c) w tr is first t r last h = absurd is
-best_past f place (N.Atom a) w tr is first t r last h = absurd is
-best_past f place (N.Not p) w tr is first t r last h = absurd is
-best_past f place (N.And p q) w tr is first t r last h = absurd is
-best_past f place (N.Or p q) w tr is first t r last h = absurd is
-best_past f place (N.Implies p q) w tr is first t r last h = absurd is
-best_past f place (N.Until p q a b) w tr is first t r last h = absurd is
-best_past f place (N.Since p q a b) w tr is first t r last h = absurd is
+best_past f place _ w tr is first t r last h = absurd is
 
 -- ---- in play
 
@@ -104,18 +93,7 @@ in_play_past f place (N.Once p a None a_in b_in) w tr is first tau line last h =
 in_play_past f place (N.Historically p a None a_in b_in) w tr is first tau line last h =
     over_past (Robustness (f p) tr) (start tr) (stop tr) a a_in b_in tau line first last
     (subst (λ (x : Window). InPlayOver (Robustness (f x.of) tr) (start tr) (stop tr) x tau line) is h)
-in_play_past f place (N.Once p a (Some b) a_in b_in) w tr is first tau line last h = absurd is
-in_play_past f place (N.Historically p a (Some b) a_in b_in) w tr is first tau line last h = absurd is
-in_play_past f place (N.Eventually p a b a_in b_in) w tr is first tau line last h = absurd is
-in_play_past f place (N.Always p a b a_in b_in) w tr is first tau line last h = absurd is
-in_play_past f place (N.Const c) w tr is first tau line last h = absurd is
-in_play_past f place (N.Atom a) w tr is first tau line last h = absurd is
-in_play_past f place (N.Not p) w tr is first tau line last h = absurd is
-in_play_past f place (N.And p q) w tr is first tau line last h = absurd is
-in_play_past f place (N.Or p q) w tr is first tau line last h = absurd is
-in_play_past f place (N.Implies p q) w tr is first tau line last h = absurd is
-in_play_past f place (N.Until p q a b) w tr is first tau line last h = absurd is
-in_play_past f place (N.Since p q a b) w tr is first tau line last h = absurd is
+in_play_past f place _ w tr is first tau line last h = absurd is
 
 -- ---- constants that are settled
 
@@ -145,15 +123,4 @@ settled_past f place (N.Once p a None a_in b_in) w tr ended now is tau line h =
 settled_past f place (N.Historically p a None a_in b_in) w tr ended now is tau line h =
     settled_over ended now (f p) tr p Least a a_in b_in tau line
     (subst (λ (x : Window). SettledOver (Robustness (f x.of) tr) (start tr) (stop tr) (whole (front_at ended now (f x.of))) x tau line) is h)
-settled_past f place (N.Once p a (Some b) a_in b_in) w tr ended now is tau line h = absurd is
-settled_past f place (N.Historically p a (Some b) a_in b_in) w tr ended now is tau line h = absurd is
-settled_past f place (N.Eventually p a b a_in b_in) w tr ended now is tau line h = absurd is
-settled_past f place (N.Always p a b a_in b_in) w tr ended now is tau line h = absurd is
-settled_past f place (N.Const c) w tr ended now is tau line h = absurd is
-settled_past f place (N.Atom a) w tr ended now is tau line h = absurd is
-settled_past f place (N.Not p) w tr ended now is tau line h = absurd is
-settled_past f place (N.And p q) w tr ended now is tau line h = absurd is
-settled_past f place (N.Or p q) w tr ended now is tau line h = absurd is
-settled_past f place (N.Implies p q) w tr ended now is tau line h = absurd is
-settled_past f place (N.Until p q a b) w tr ended now is tau line h = absurd is
-settled_past f place (N.Since p q a b) w tr ended now is tau line h = absurd is
+settled_past f place _ w tr ended now is tau line h = absurd is

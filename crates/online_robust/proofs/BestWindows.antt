@@ -92,16 +92,7 @@ best_is f place (N.Historically p a (Some b) a_in b_in) w tr is t r =
           (Holds (start tr) (stop tr) (behind_window p Least a b a_in b_in) t) (Robustness (f p) tr) infinity r
           (behind_holds (start tr) (stop tr) p Least a b a_in b_in t) (holds_behind (start tr) (stop tr) p Least a b a_in b_in t),
     )
-best_is f place (N.Once p a None a_in b_in) w tr is t r = absurd is
-best_is f place (N.Historically p a None a_in b_in) w tr is t r = absurd is
-best_is f place (N.Const c) w tr is t r = absurd is
-best_is f place (N.Atom a) w tr is t r = absurd is
-best_is f place (N.Not p) w tr is t r = absurd is
-best_is f place (N.And p q) w tr is t r = absurd is
-best_is f place (N.Or p q) w tr is t r = absurd is
-best_is f place (N.Implies p q) w tr is t r = absurd is
-best_is f place (N.Until p q a b) w tr is t r = absurd is
-best_is f place (N.Since p q a b) w tr is t r = absurd is
+best_is f place _ w tr is t r = absurd is
 
 -- ---- in play
 
@@ -158,16 +149,7 @@ in_play_is f place (N.Once p a (Some b) a_in b_in) w tr is tau line h =
 in_play_is f place (N.Historically p a (Some b) a_in b_in) w tr is tau line h =
     in_play_behind (Robustness (f p) tr) (start tr) (stop tr) p Least a b a_in b_in tau line
     (subst (λ (x : Window). InPlayOver (Robustness (f x.of) tr) (start tr) (stop tr) x tau line) is h)
-in_play_is f place (N.Once p a None a_in b_in) w tr is tau line h = absurd is
-in_play_is f place (N.Historically p a None a_in b_in) w tr is tau line h = absurd is
-in_play_is f place (N.Const c) w tr is tau line h = absurd is
-in_play_is f place (N.Atom a) w tr is tau line h = absurd is
-in_play_is f place (N.Not p) w tr is tau line h = absurd is
-in_play_is f place (N.And p q) w tr is tau line h = absurd is
-in_play_is f place (N.Or p q) w tr is tau line h = absurd is
-in_play_is f place (N.Implies p q) w tr is tau line h = absurd is
-in_play_is f place (N.Until p q a b) w tr is tau line h = absurd is
-in_play_is f place (N.Since p q a b) w tr is tau line h = absurd is
+in_play_is f place _ w tr is tau line h = absurd is
 
 -- ---- constants that are settled
 
@@ -211,13 +193,4 @@ settled_is f place (N.Once p a (Some b) a_in b_in) w tr ended now is tau line h 
 settled_is f place (N.Historically p a (Some b) a_in b_in) w tr ended now is tau line h =
     settled_behind ended now (f p) tr a b a_in b_in tau line
     (subst (λ (x : Window). SettledOver (Robustness (f x.of) tr) (start tr) (stop tr) (whole (front_at ended now (f x.of))) x tau line) is h)
-settled_is f place (N.Once p a None a_in b_in) w tr ended now is tau line h = absurd is
-settled_is f place (N.Historically p a None a_in b_in) w tr ended now is tau line h = absurd is
-settled_is f place (N.Const c) w tr ended now is tau line h = absurd is
-settled_is f place (N.Atom a) w tr ended now is tau line h = absurd is
-settled_is f place (N.Not p) w tr ended now is tau line h = absurd is
-settled_is f place (N.And p q) w tr ended now is tau line h = absurd is
-settled_is f place (N.Or p q) w tr ended now is tau line h = absurd is
-settled_is f place (N.Implies p q) w tr ended now is tau line h = absurd is
-settled_is f place (N.Until p q a b) w tr ended now is tau line h = absurd is
-settled_is f place (N.Since p q a b) w tr ended now is tau line h = absurd is
+settled_is f place _ w tr ended now is tau line h = absurd is

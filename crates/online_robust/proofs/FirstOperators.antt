@@ -25,8 +25,7 @@ first_operator (N.Always p a b a_in b_in) streamed = (λ leaf. leaf, λ nodes pl
 first_operator (N.Since p q a b) streamed = absurd (streamed tt)
 first_operator (N.Once p a (Some b) a_in b_in) streamed = (λ leaf. leaf, λ nodes place tr. (inl refl, (refl, refl, refl)))
 first_operator (N.Historically p a (Some b) a_in b_in) streamed = (λ leaf. leaf, λ nodes place tr. (inl refl, (refl, refl, refl)))
-first_operator (N.Once p a None a_in b_in) streamed = (λ leaf. leaf, λ nodes place tr. (inr refl, (refl, refl, refl)))
-first_operator (N.Historically p a None a_in b_in) streamed = (λ leaf. leaf, λ nodes place tr. (inr refl, (refl, refl, refl)))
+first_operator _ streamed = (λ leaf. leaf, λ nodes place tr. (inr refl, (refl, refl, refl)))
 
 -- the view of until and since
 abbrev pub IsReach : View → Type 0
@@ -36,38 +35,14 @@ IsReach v = ⊥
 -- a node with such a view has no operator
 pub unstreamed_by : (n : Node) → IsReach (view_of n) → IsUnstreamed n
 unstreamed_by (N.Const b) is = is
-unstreamed_by (N.Atom a) is = is
-unstreamed_by (N.Not p) is = is
-unstreamed_by (N.And p q) is = is
-unstreamed_by (N.Or p q) is = is
-unstreamed_by (N.Implies p q) is = is
-unstreamed_by (N.Until p q a b) is = is
-unstreamed_by (N.Eventually p a b a_in b_in) is = is
-unstreamed_by (N.Always p a b a_in b_in) is = is
-unstreamed_by (N.Since p q a b) is = is
-unstreamed_by (N.Once p a b a_in b_in) is = is
-unstreamed_by (N.Historically p a b a_in b_in) is = is
+unstreamed_by _ is = is
 
 -- and one that has none has such a view
 pub reach_of : (n : Node) → IsUnstreamed n → IsReach (view_of n)
 reach_of (N.Const b) is = is
-reach_of (N.Atom a) is = is
-reach_of (N.Not p) is = is
-reach_of (N.And p q) is = is
-reach_of (N.Or p q) is = is
-reach_of (N.Implies p q) is = is
-reach_of (N.Until p q a b) is = is
-reach_of (N.Eventually p a b a_in b_in) is = is
-reach_of (N.Always p a b a_in b_in) is = is
-reach_of (N.Since p q a b) is = is
-reach_of (N.Once p a b a_in b_in) is = is
-reach_of (N.Historically p a b a_in b_in) is = is
+reach_of _ is = is
 
 -- what is none of these is no such view
 pub not_reach : (v : View) → ((way : Way) (w : Offsets) (p q : ℕ) → v ≡ V.Reach way w p q → ⊥) → ¬ IsReach v
 not_reach (V.Reach way w p q) none is = none way w p q refl
-not_reach (V.Const b) none is = is
-not_reach V.Atom none is = is
-not_reach (V.Not p) none is = is
-not_reach (V.Two join p q) none is = is
-not_reach (V.Over asks w p) none is = is
+not_reach _ none is = is

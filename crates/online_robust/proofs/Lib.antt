@@ -59,3 +59,5 @@ mod SlideGone
 mod SlideBest
 mod SlideStretch
 mod SlideSweeps
+mod TailLemmas
+mod EdgesChanged

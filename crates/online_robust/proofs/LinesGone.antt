@@ -107,16 +107,6 @@ module _ {limit : Rational} {i k : ℕ} where
   pub both_none : (e : Held) → LosesAtBoth limit i k e e
   both_none e = record { left = loses_none limit (edge_at e i); right = loses_none limit (edge_at e k); others = λ j a b. refl; edges = refl; start = refl }
 
-  -- what is lost of two edges in two steps is lost
-  pub both_both : {x y z : Held} → LosesAtBoth limit i k x y → LosesAtBoth limit i k y z → LosesAtBoth limit i k x z
-  both_both h g = record {
-    left = loses_both h.left g.left;
-    right = loses_both h.right g.right;
-    others = λ j a b. g.others j a b ∙ h.others j a b;
-    edges = g.edges ∙ h.edges;
-    start = g.start ∙ h.start;
-  }
-
   -- lines are lost at the one edge, and then at the other
   pub both_of : {x y z : Held} → i ≢ k → LosesAt limit i x y → LosesAt limit k y z → LosesAtBoth limit i k x z
   both_of {x} {y} {z} apart h g = record {
@@ -126,6 +116,14 @@ module _ {limit : Rational} {i k : ℕ} where
     edges = g.edges ∙ h.edges;
     start = g.start ∙ h.start;
   }
+
+-- what one edge lost two edges lost that are the same
+pub both_of_one : {limit : Rational} {i : ℕ} {x y : Held} → LosesAt limit i x y → LosesAtBoth limit i i x y
+both_of_one h = record { left = h.here; right = h.here; others = λ j a b. h.others j a; edges = h.edges; start = h.start }
+
+-- and back
+pub one_of_both : {limit : Rational} {i : ℕ} {x y : Held} → LosesAtBoth limit i i x y → LosesAt limit i x y
+one_of_both h = record { here = h.left; others = λ j a. h.others j a a; edges = h.edges; start = h.start }
 
 -- what is lost of two edges by a limit is lost by a later one
 pub both_later : {l m : Rational} {i k : ℕ} {x y : Held} → l ≤ʳ m → LosesAtBoth l i k x y → LosesAtBoth m i k x y

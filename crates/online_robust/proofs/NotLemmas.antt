@@ -1,5 +1,5 @@
 -- How a negation goes through its input.
-use Rattle.std.proofs.Common.{◌≡◌, ◌<◌, ◌^◌, true, List, ◌∷◌, Some, None, sym, ap, subst, ◌∙◌, length, slice_get, arith}
+use Rattle.std.proofs.Common.{◌≡◌, ◌≢◌, ℕ, ◌<◌, ◌^◌, true, List, ◌∷◌, Some, None, sym, ap, subst, ◌∙◌, length, slice_get, arith}
 use Rattle.std.specs.Prelude.{IsTrue}
 use Rattle.rational.specs.Time.{Rational, ◌≈◌, ◌≤ʳ◌, ◌<ʳ◌}
 use Rattle.rational.specs.Extended.{opposite, value_at, ◌≈ᵉ◌}
@@ -15,7 +15,7 @@ use Rattle.pl_signal.specs.declared.knot.Knot.{Knot}
 use Rattle.pl_signal.specs.Building.{GoesOn}
 use Rattle.stl_syntax.specs.SupInf.{Robustness}
 use Rattle.online_robust.specs.Lines.{end_of, margin_of}
-use Rattle.online_robust.specs.Held.{Held, edge_at, held_at, with_edge, without}
+use Rattle.online_robust.specs.Held.{Held, edge_at, held_at, held_of, with_edge, without}
 use Rattle.online_robust.specs.Told.{IsMovedBy, IsTick}
 use Rattle.online_robust.specs.ReadLines.{Begins, HasReached, IsAhead, IsBuilt, IsReady, IsThere, LosesAt}
 use Rattle.online_robust.specs.Couples.{CanNegate, Couple, IsNegatedTo, left_of, turns_left_of}
@@ -24,6 +24,7 @@ use Rattle.online_robust.specs.declared.line.MarginLine.TheVariants.{Point, Gap}
 use Rattle.online_robust.specs.declared.pointwise.Not.{Not}
 use Rattle.online_robust.proofs.Builts.{built_on}
 use Rattle.online_robust.proofs.ChosenMargins.{moved_as, turned_is_function, turned_there}
+use Rattle.online_robust.proofs.EdgesChanged.{AreSameBut}
 use Rattle.online_robust.proofs.JoinedLemmas.{FirstGap, ahead_same, ahead_next, first_gap, joined_to, there_at, there_in}
 use Rattle.online_robust.proofs.LinesGone.{took_held}
 use Rattle.online_robust.proofs.PointwiseLemmas.{TakesTwo, begun_point, begun_rest, is_gap, is_point, is_rest, two_lost}
@@ -56,6 +57,19 @@ module _ (x : Couple) (op : Not) where
   -- where nothing was told, the input begins with the point at the start
   pub begins : (e : Held) → CanNegate x op e → op.last ≡ None → Begins (Robustness x.left x.trace) x.reach x.from x.left_to (held_at e op.of)
   begins e can none = subst (IsReady (Robustness x.left x.trace) x.reach x.from x.left_to (held_at e op.of)) none can.of
+
+  -- where the input's edge is the same it is negated as far
+  pub negated_held : {node : ℕ} {e f : Held} {at : Rational} → AreSameBut node e f → node ≢ op.of → IsNegatedTo x op e at → IsNegatedTo x op f at
+  negated_held {at = at} but apart to =
+      let of_in = to.of_in in
+      record {
+        span = to.span;
+        of_in = omega (arith, of_in, but.edges);
+        all = to.all;
+        from = to.from;
+        to = to.to;
+        of = subst (IsAhead (Robustness x.left x.trace) x.reach at x.left_to) (sym (ap held_of (but.others op.of (λ e. apart (sym e))))) to.of;
+      }
 
   -- it was told up to where it stood
   pub stood : (e : Held) (r : _) → CanNegate x op e → op.last ≡ Some r → HasReached (left_of x true) x.reach x.from (Some r)

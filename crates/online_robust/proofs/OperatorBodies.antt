@@ -1,5 +1,5 @@
 -- From what an operator needs before it goes on to what its body needs, and back from what the body leaves.
-use Rattle.std.proofs.Common.{◌≡◌, inl, inr, ℕ, ◌+◌, ◌<◌, ◌≤◌, Bool, true, false, List, [], ◌∷◌, length, refl}
+use Rattle.std.proofs.Common.{◌≡◌, ◌≢◌, inl, inr, ℕ, ◌+◌, ◌<◌, ◌≤◌, Bool, true, false, List, [], ◌∷◌, length, refl}
 use Rattle.std.proofs.Common.{sym, ap, subst, ◌∙◌, arith, Option, Some, None, ℤ, pos, ◌+ℤ◌, ◌<ℤ◌, ◌≤ℤ◌}
 use Rattle.std.specs.Prelude.{◌⊎◌, MatchBool, IfSome, IsSome, int_lt, cond, slice_get}
 use Rattle.std.proofs.lemmas.Int.{ints}
@@ -209,17 +209,7 @@ two_is x p q side turned l r s u =
 -- what is kept of its inputs is no matter of its node
 kept_two : (n : Node) (x : Two) (last : Option Reached) → IsTwoOf n x → IsTwoOf n (record x { last = last })
 kept_two (N.And p q) x last h = h
-kept_two (N.Or p q) x last h = h
-kept_two (N.Implies p q) x last h = h
-kept_two (N.Const c) x last h = h
-kept_two (N.Atom a) x last h = h
-kept_two (N.Not p) x last h = h
-kept_two (N.Until p q a c) x last h = h
-kept_two (N.Eventually p a c i k) x last h = h
-kept_two (N.Always p a c i k) x last h = h
-kept_two (N.Since p q a c) x last h = h
-kept_two (N.Once p a c i k) x last h = h
-kept_two (N.Historically p a c i k) x last h = h
+kept_two _ x last h = h
 
 -- ---- any operator
 
@@ -358,6 +348,10 @@ module _ (t : Step) (x : Negated.Not) (e : Held) (to : ℕ) (b : Belongs t (Op.N
 
   not_reads : IsReader b.node true x.of
   not_reads = subst (λ k. IsReader k true x.of) (sym b.stands.0) refl
+
+  -- the node is not its input
+  pub not_apart : t.place ≢ x.of
+  not_apart same = let below = reader_above t.nodes b.formed t.place b.node true x.of b.at not_reads in absurd (omega (arith, below, same))
 
   not_own : own t (Op.Not x) e to b ≡ negation child
   not_own = tree t (Op.Not x) e to b ∙ ap (tree_of (subformula t.nodes) t.place) b.stands.0
@@ -535,15 +529,7 @@ module _ (nodes : List Node) (place : ℕ) (tr : Trace) where
   joint (N.And p q) x (l, r, s, u) = subst (IsJoint nodes place tr (N.And p q)) (sym (two_is x p q Least false l r s u)) (least_joint p q x.last)
   joint (N.Or p q) x (l, r, s, u) = subst (IsJoint nodes place tr (N.Or p q)) (sym (two_is x p q Greatest false l r s u)) (greatest_joint p q x.last)
   joint (N.Implies p q) x (l, r, s, u) = subst (IsJoint nodes place tr (N.Implies p q)) (sym (two_is x p q Greatest true l r s u)) (implied_joint p q x.last)
-  joint (N.Const c) x h = absurd h
-  joint (N.Atom a) x h = absurd h
-  joint (N.Not p) x h = absurd h
-  joint (N.Until p q a c) x h = absurd h
-  joint (N.Eventually p a c i k) x h = absurd h
-  joint (N.Always p a c i k) x h = absurd h
-  joint (N.Since p q a c) x h = absurd h
-  joint (N.Once p a c i k) x h = absurd h
-  joint (N.Historically p a c i k) x h = absurd h
+  joint _ x h = absurd h
 
 module _ (t : Step) (x : Two) (e : Held) (to : ℕ) (b : Belongs t (Op.Two x) e to) where
   abbrev left_child : Subformula
@@ -554,6 +540,13 @@ module _ (t : Step) (x : Two) (e : Held) (to : ℕ) (b : Belongs t (Op.Two x) e 
 
   abbrev here : IsJoint t.nodes t.place t.trace b.node x
   here = joint t.nodes t.place t.trace b.node x b.stands.0
+
+  -- the node is none of its inputs
+  pub two_apart : (t.place ≢ x.left) × (t.place ≢ x.right)
+  two_apart = (
+    (λ same. let below = reader_above t.nodes b.formed t.place b.node true x.left b.at here.left in absurd (omega (arith, below, same))),
+    (λ same. let below = reader_above t.nodes b.formed t.place b.node false x.right b.at here.right in absurd (omega (arith, below, same))),
+  )
 
   abbrev two_own : Subformula
   two_own = own t (Op.Two x) e to b

@@ -73,15 +73,4 @@ module _ (f : ℕ → Subformula) (place : ℕ) where
   past_node (N.Once p a None a_in b_in) w is = subst (IsPastNode f place (N.Once p a None a_in b_in)) (sym is) (once_node p a a_in b_in)
   past_node (N.Historically p a None a_in b_in) w is =
       subst (IsPastNode f place (N.Historically p a None a_in b_in)) (sym is) (historically_node p a a_in b_in)
-  past_node (N.Once p a (Some b) a_in b_in) w is = absurd is
-  past_node (N.Historically p a (Some b) a_in b_in) w is = absurd is
-  past_node (N.Eventually p a b a_in b_in) w is = absurd is
-  past_node (N.Always p a b a_in b_in) w is = absurd is
-  past_node (N.Const c) w is = absurd is
-  past_node (N.Atom a) w is = absurd is
-  past_node (N.Not p) w is = absurd is
-  past_node (N.And p q) w is = absurd is
-  past_node (N.Or p q) w is = absurd is
-  past_node (N.Implies p q) w is = absurd is
-  past_node (N.Until p q a b) w is = absurd is
-  past_node (N.Since p q a b) w is = absurd is
+  past_node _ w is = absurd is

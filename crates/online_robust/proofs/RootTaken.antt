@@ -104,8 +104,7 @@ module _ (nodes : List Node) (header : Header) (streamed : AreStreamed nodes) (a
           by_parts : (seen fresh : List MarginLine) → slice_get (seen ++ fresh) 0 ≡ None
               → edge_of_parts (drop 1 seen) (drop (1 - length seen) fresh) x ≡ edge_of_parts seen fresh x
           by_parts [] [] h = refl
-          by_parts [] (y ∷ fresh) h = absurd (let f = h in cc)
-          by_parts (y ∷ seen) fresh h = absurd (let f = h in cc)
+          by_parts _ _ h = absurd (let f = h in cc)
 
 -- the root held nothing
 pub held_none : (e : Held) (i : ℕ) → slice_get (held_at e i) 0 ≡ None → held_at e i ≡ []

@@ -52,16 +52,7 @@ window_order (N.Eventually p a b a_in b_in) w is h = subst (λ (x : Window). x.l
 window_order (N.Always p a b a_in b_in) w is h = subst (λ (x : Window). x.low ≤ℤ x.high) (sym is) (omega (arith, ints, h))
 window_order (N.Once p a (Some b) a_in b_in) w is (h, k) = subst (λ (x : Window). x.low ≤ℤ x.high) (sym is) (omega (arith, ints, h))
 window_order (N.Historically p a (Some b) a_in b_in) w is (h, k) = subst (λ (x : Window). x.low ≤ℤ x.high) (sym is) (omega (arith, ints, h))
-window_order (N.Once p a None a_in b_in) w is h = absurd is
-window_order (N.Historically p a None a_in b_in) w is h = absurd is
-window_order (N.Const c) w is h = absurd is
-window_order (N.Atom a) w is h = absurd is
-window_order (N.Not p) w is h = absurd is
-window_order (N.And p q) w is h = absurd is
-window_order (N.Or p q) w is h = absurd is
-window_order (N.Implies p q) w is h = absurd is
-window_order (N.Until p q a b) w is h = absurd is
-window_order (N.Since p q a b) w is h = absurd is
+window_order _ w is h = absurd is
 
 -- by its low end a window needs its input no more, where it has one
 back_low : (w : Window) → neg_ℤ (pos 4294967295) ≤ℤ w.low → back_offset w ≡ w.low

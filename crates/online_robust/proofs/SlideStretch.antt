@@ -24,7 +24,7 @@ use Rattle.pieces.specs.declared.piece.Piece.{Piece}
 use Rattle.pieces.specs.Chains.{CanBeLeftOut, Chain, Each, HasShapeIn, IsNormal, IsPiece, Rise, end, stop, stop_from}
 use Rattle.pieces.specs.Streaming.{before_time}
 use Rattle.pieces.proofs.Ends.{after_of_lt, after_time_same, earlier_upto, here_after, here_upto, upto_of_lt, upto_time_same}
-use Rattle.online_robust.specs.Putting.{later_lines, lines_after, lines_of}
+use Rattle.online_robust.specs.Putting.{lines_after, lines_of}
 use Rattle.online_robust.specs.Slides.{IsStretchOf, WithPoint, chain_of}
 use Rattle.online_robust.specs.ToldLines.{all_told, first_shape, lines_told, shape_at_end}
 use Rattle.online_robust.specs.declared.line.MarginLine.TheVariants.{Point, Gap}
@@ -108,28 +108,27 @@ module _ (point : Margin) where
 
   -- ---- their lines
 
-  later_are : (at : Frac) (v : Margin) (ps : List (Piece Margin)) → later_lines (knots_told at v ps) ≡ lines_told at ps point
+  later_are : (at : Frac) (v : Margin) (ps : List (Piece Margin)) → lines_of false (knots_told at v ps) ≡ lines_told at ps point
   later_are at v [] = refl
   later_are at v (p ∷ ps) =
       by_test (less (value at) (value p.until.time)) (later_are p.until.time (shape_at_end p ps point) ps) (later_are at v ps)
     where
-      by_test : (b : Bool) → later_lines (knots_told p.until.time (shape_at_end p ps point) ps) ≡ lines_told p.until.time ps point
-          → later_lines (knots_told at v ps) ≡ lines_told at ps point
-          → later_lines (cond b (record { time = at; point = v; after = p.shape } ∷ knots_told p.until.time (shape_at_end p ps point) ps) (knots_told at v ps))
+      by_test : (b : Bool) → lines_of false (knots_told p.until.time (shape_at_end p ps point) ps) ≡ lines_told p.until.time ps point
+          → lines_of false (knots_told at v ps) ≡ lines_told at ps point
+          → lines_of false (cond b (record { time = at; point = v; after = p.shape } ∷ knots_told p.until.time (shape_at_end p ps point) ps) (knots_told at v ps))
           ≡ cond b (Gap at p.until.time p.shape ∷ Point p.until.time (shape_at_end p ps point) ∷ lines_told p.until.time ps point) (lines_told at ps point)
       by_test true on off =
           with_head (λ ks. lines_after (record { time = at; point = v; after = p.shape }) ks
-          ≡ Gap at p.until.time p.shape ∷ Point p.until.time (shape_at_end p ps point) ∷ later_lines ks)
+          ≡ Gap at p.until.time p.shape ∷ Point p.until.time (shape_at_end p ps point) ∷ lines_of false ks)
           p.until.time (shape_at_end p ps point) ps (λ a r. refl)
           ∙ ap (λ l. Gap at p.until.time p.shape ∷ Point p.until.time (shape_at_end p ps point) ∷ l) on
       by_test false on off = off
 
   all_are : (first : Bool) (at : Frac) (ps : List (Piece Margin)) → lines_of first (knots_told at (first_shape ps point) ps) ≡ all_told first at ps point
   all_are true at ps =
-      with_head (λ ks. lines_of true ks ≡ Point at (first_shape ps point) ∷ later_lines ks) at (first_shape ps point) ps (λ a r. refl)
+      with_head (λ ks. lines_of true ks ≡ Point at (first_shape ps point) ∷ lines_of false ks) at (first_shape ps point) ps (λ a r. refl)
       ∙ ap (λ l. Point at (first_shape ps point) ∷ l) (later_are at (first_shape ps point) ps)
-  all_are false at ps =
-      with_head (λ ks. lines_of false ks ≡ later_lines ks) at (first_shape ps point) ps (λ a r. refl) ∙ later_are at (first_shape ps point) ps
+  all_are false at ps = later_are at (first_shape ps point) ps
 
   -- ---- they are a signal
 

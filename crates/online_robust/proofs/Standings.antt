@@ -151,9 +151,7 @@ fault_stops old new p Memory running opened stopped h = (running, opened, stoppe
 -- a refusal of one node is one of the network
 pub fault_is_wide : (p : Passing) (fault : RobustFault) → IsGoFault p fault → IsWideIn p.nodes p.header p.old p.new fault
 fault_is_wide p (Wide cause) h = h
-fault_is_wide p Stopped h = tt
-fault_is_wide p Closed h = tt
-fault_is_wide p Memory h = tt
+fault_is_wide p _ h = tt
 
 -- ---- parts
 

@@ -13,7 +13,7 @@ use Rattle.stl_syntax.proofs.RowsLemmas.{last_time-push}
 use Rattle.atom_lines.specs.Binding.{Binding, IsAtomNode}
 use Rattle.online_nodes.specs.Needed.{IsReader}
 use Rattle.online_robust.specs.Held.{Held, edge_at, number_at, with_edge, with_number}
-use Rattle.online_robust.specs.Steps.{Step, Belongs, GivesOut, IsStreamedFault}
+use Rattle.online_robust.specs.Steps.{Step, Belongs, BelongsAt, GivesOut, IsStreamedFault}
 use Rattle.online_robust.specs.Putting.{constant_margin, lines_of, HasPut, HasPutAtom, HasPutRow, IsAtomPiece, IsAtomValue}
 use Rattle.online_robust.specs.Pasts.{Past, trace_of, number_by, shown_by, number_of, shown_of}
 use Rattle.online_robust.specs.Moving.{Move, CanMove, CanGiveOut, CanGoTo, CanMoveByRow, CanMoveByEnd}
@@ -34,8 +34,8 @@ use Rattle.std.proofs.lemmas.Option.{slice_get_within, same_Some}
 -- ---- an operator gives out
 
 module _ (m : Move) (node : ℕ) (op : Operator) (e : Held) (to : ℕ) (with_first : Bool) (g : CanGiveOut m node op e to with_first) where
-  abbrev pub swept_turn : (t : Step) × Belongs t op e to
-  swept_turn = (turn_of m (trace_of m.header m.new), belongs_now m node op e to with_first g)
+  abbrev pub swept_turn : BelongsAt node op e to
+  swept_turn = (turn_of m (trace_of m.header m.new), g.place, belongs_now m node op e to with_first g)
 
   -- a refusal of an operator is one of its node
   pub swept_fault : (f : OpFault Margin) → ((t : Step) → Belongs t op e to → IsStreamedFault t f) → IsFaultOf m f
@@ -53,7 +53,7 @@ module _ (m : Move) (node : ℕ) (op : Operator) (e : Held) (to : ℕ) (with_fir
     -- also after its operator gave out what it told
     pub given_within : node < length new.edges
     given_within =
-        let count = (out.edges swept_turn.0 swept_turn.1).edges in
+        let count = (out.edges swept_turn.0 swept_turn.2).edges in
         let within = turn_edge in
         put_within node (lines_of with_first out.swept) out.between new out.put (omega (arith, count, within))
 

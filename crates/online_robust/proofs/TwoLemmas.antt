@@ -1,5 +1,5 @@
 -- How a connective goes through its inputs.
-use Rattle.std.proofs.Common.{◌≡◌, ◌⊎◌, inl, inr, ℕ, ◌+◌, ◌<◌, ◌≤◌, ◌^◌, List, Some, None, sym, ap, subst, ◌∙◌, length, drop, slice_get, arith}
+use Rattle.std.proofs.Common.{◌≡◌, ◌≢◌, ◌⊎◌, inl, inr, ℕ, ◌+◌, ◌<◌, ◌≤◌, ◌^◌, List, Some, None, sym, ap, subst, ◌∙◌, length, drop, slice_get, arith}
 use Rattle.std.specs.Prelude.{Bool, IsTrue, if◌then◌else◌}
 use Rattle.rational.specs.Rational.{middle}
 use Rattle.rational.specs.Time.{Rational, less, ◌≈◌, ◌≤ʳ◌, ◌<ʳ◌}
@@ -35,6 +35,7 @@ use Rattle.online_robust.specs.declared.line.MarginLine.TheVariants.{Point, Gap}
 use Rattle.online_robust.specs.declared.pointwise.Two.{Two}
 use Rattle.online_robust.proofs.Builts.{built_join}
 use Rattle.online_robust.proofs.ChosenMargins.{chosen_bounded, chosen_is_function, moved_as, turned_is_function, turned_there}
+use Rattle.online_robust.proofs.EdgesChanged.{AreSameBut}
 use Rattle.online_robust.proofs.JoinedLemmas.{FirstGap, ahead_same, first_gap, first_of, there_in}
 use Rattle.online_robust.proofs.LinesGone.{took, took_held, both_of as lost_both}
 use Rattle.online_robust.proofs.PointwiseLemmas.{begun_point, begun_rest, begun_some}
@@ -127,6 +128,24 @@ module _ (x : Couple) (op : Two) where
     left = ahead_same (Robustness x.left x.trace) x.reach t u x.left_to (held_at e op.left) same to.left;
     right = ahead_same (Robustness x.right x.trace) x.reach t u x.right_to (held_at e op.right) same to.right;
   }
+
+  -- where both inputs' edges are the same it is joined as far
+  pub joined_held : {node : ℕ} {e f : Held} {at : Rational} → AreSameBut node e f → node ≢ op.left → node ≢ op.right → IsJoinedTo x op e at
+      → IsJoinedTo x op f at
+  joined_held {at = at} but from_left from_right to =
+      let left_in = to.left_in in
+      let right_in = to.right_in in
+      record {
+        span = to.span;
+        left_in = omega (arith, left_in, but.edges);
+        right_in = omega (arith, right_in, but.edges);
+        apart = to.apart;
+        from = to.from;
+        to = to.to;
+        left = subst (IsAhead (Robustness x.left x.trace) x.reach at x.left_to) (sym (ap held_of (but.others op.left (λ e. from_left (sym e))))) to.left;
+        right = subst (IsAhead (Robustness x.right x.trace) x.reach at x.right_to) (sym (ap held_of (but.others op.right (λ e. from_right (sym e)))))
+            to.right;
+      }
 
   -- a connective that has told stands there
   pub join_stood : (e : Held) (r : _) → CanJoin x op e → op.last ≡ Some r → HasReached (both_of x op) x.reach x.from (Some r)

@@ -102,13 +102,4 @@ module _ (f : ℕ → Subformula) (place : ℕ) where
   window_node (N.Historically p a (Some b) a_in b_in) w is order =
       subst (IsWindowNode f place (N.Historically p a (Some b) a_in b_in)) (sym is)
       (historically_node p a b a_in b_in (subst (λ (x : Window). x.low ≤ℤ x.high) is order))
-  window_node (N.Once p a None a_in b_in) w is order = absurd is
-  window_node (N.Historically p a None a_in b_in) w is order = absurd is
-  window_node (N.Const c) w is order = absurd is
-  window_node (N.Atom a) w is order = absurd is
-  window_node (N.Not p) w is order = absurd is
-  window_node (N.And p q) w is order = absurd is
-  window_node (N.Or p q) w is order = absurd is
-  window_node (N.Implies p q) w is order = absurd is
-  window_node (N.Until p q a b) w is order = absurd is
-  window_node (N.Since p q a b) w is order = absurd is
+  window_node _ w is order = absurd is

@@ -4,9 +4,12 @@ use Rattle.rational.specs.Time.{Rational, less, ◌≈◌, ◌≤ʳ◌, ◌<ʳ�
 use Rattle.rational.specs.InPlay.{of_two, IsInPlay, IsWideCrossing}
 use Rattle.rational.specs.Windows.{Function}
 use Rattle.frac128.specs.Value.{value}
+use Rattle.value_laws.specs.Kinds.{margin_shape}
 use Rattle.value_laws.specs.Margins.{margin_function}
 use Rattle.value_laws.specs.declared.margin.Margin.{Margin}
 use Rattle.pl_signal.specs.Joining.{ChosenOf}
+use Rattle.pl_signal.specs.Knots.{IsSignal}
+use Rattle.pl_signal.specs.declared.knot.Knot.{Knot}
 use Rattle.pl_signal.specs.declared.faults.WidePair.TheVariants.{Cross, Value}
 use Rattle.pl_signal.specs.declared.faults.OpFault.{OpFault}
 use Rattle.pl_signal.specs.declared.faults.OpFault.TheVariants as F
@@ -15,7 +18,7 @@ use Rattle.stl_syntax.specs.Formula.{Subformula}
 use Rattle.stl_syntax.specs.SupInf.{Robustness}
 use Rattle.online_robust.specs.Held.{Held, held_at}
 use Rattle.online_robust.specs.Lines.{end_of}
-use Rattle.online_robust.specs.ReadLines.{HasReached, IsAhead, IsReady, turned_by}
+use Rattle.online_robust.specs.ReadLines.{HasReached, IsAhead, IsBuilt, IsReady, IsStretch, turned_by}
 use Rattle.online_robust.specs.Told.{IsTick}
 use Rattle.online_robust.specs.declared.line.MarginLine.{MarginLine}
 use Rattle.online_robust.specs.declared.pointwise.Not.{Not}
@@ -122,3 +125,22 @@ turns_left op e at to = length (held_at e op.left) + length (held_at e op.right)
 -- the same of one edge
 abbrev pub turns_left_of : Not → Held → ℕ
 turns_left_of op e = length (held_at e op.of)
+
+-- as a negation goes on to a time so does the signal that is made
+abbrev pub GoesOnNegated : Not → Held → Rational → Rational → List (Knot Margin) → List (Knot Margin) → Type 0
+GoesOnNegated op e at t ks ks' = IsSignal margin_shape ks' × ((x : Couple) → IsNegatedTo x op e at → at <ʳ x.to
+    → IsBuilt (left_of x true) x.reach x.from at ks → IsBuilt (left_of x true) x.reach x.from t ks')
+
+-- as a connective goes on to a time, on its way to another, so does the signal that is made
+abbrev pub GoesOnJoined : Two → Held → Rational → Rational → Rational → List (Knot Margin) → List (Knot Margin) → Type 0
+GoesOnJoined op e at t to ks ks' = IsSignal margin_shape ks' × ((x : Couple) → IsJoinedTo x op e at → to ≈ x.to
+    → IsBuilt (both_of x op) x.reach x.from at ks → IsBuilt (both_of x op) x.reach x.from t ks')
+
+-- the signal tells what the negation is up to the time, and its input's edge is read as far
+abbrev pub TellsNegated : Not → Held → Rational → List (Knot Margin) → Held → Type 0
+TellsNegated op e to ks between = (x : Couple) → CanNegate x op e → to ≈ x.to
+    → IsStretch (left_of x true) x.reach x.from x.to ks × IsNegatedTo x op between to
+
+-- so of a connective
+abbrev pub TellsJoined : Two → Held → Rational → List (Knot Margin) → Held → Type 0
+TellsJoined op e to ks between = (x : Couple) → CanJoin x op e → to ≈ x.to → IsStretch (both_of x op) x.reach x.from x.to ks × IsJoinedTo x op between to

@@ -16,3 +16,4 @@ pub mod Slides
 pub mod Refusing
 pub mod Operators
 pub mod ToldLines
+pub mod Tails

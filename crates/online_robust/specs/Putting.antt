@@ -21,11 +21,6 @@ abbrev pub lines_after : Knot Margin → List (Knot Margin) → List MarginLine
 lines_after k [] = []
 lines_after k (n ∷ knots) = Gap k.time n.time k.after ∷ Point n.time n.point ∷ lines_after n knots
 
--- the lines after the first knot
-abbrev pub later_lines : List (Knot Margin) → List MarginLine
-later_lines [] = []
-later_lines (k ∷ knots) = lines_after k knots
-
 -- the lines of a signal, with the point at which it begins or without
 abbrev pub lines_of : Bool → List (Knot Margin) → List MarginLine
 lines_of with_first [] = []

@@ -119,9 +119,9 @@ pub record Belongs (t : Step) (op : Operator) (e : Held) (to : ℕ) : Type 0 whe
       (front_at t.ended (pos t.now) (subformula t.nodes j)) (held_at e j)
   pub stands : Stands node t.nodes t.place t.trace t.before op (seen_by node e)
 
--- a call with these arguments is one of an operator that may go on
-abbrev pub BelongsSomewhere : Operator → Held → ℕ → Type 0
-BelongsSomewhere op e to = (t : Step) × Belongs t op e to
+-- a call with these arguments is one of an operator that may go on, at this node
+abbrev pub BelongsAt : ℕ → Operator → Held → ℕ → Type 0
+BelongsAt node op e to = (t : Step) × (t.place ≡ node) × Belongs t op e to
 
 -- from where on the operator goes
 abbrev pub from_of : Step → Rational

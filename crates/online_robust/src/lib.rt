@@ -7,10 +7,10 @@ mod net;
 mod operator;
 mod pointwise;
 mod put;
-mod room;
 mod slide;
 mod station;
 mod streamed;
+mod tail;
 
 pub use line::MarginLine;
 pub use net::{RobustFault, RobustNet};

@@ -18,7 +18,6 @@ ghost use Rattle.online_robust.specs.declared.line.MarginLine.{MarginLine as Lin
 
 use crate::edges::Edges;
 use crate::line::MarginLine;
-use crate::room::Room;
 use crate::station::{Station, from_start, work_of};
 use atom_lines::Bound;
 use frac128::Memory;
@@ -48,7 +47,7 @@ pub enum RobustFault {
 /// Contracts see it as `Parts`. `StandsFor` says when it stands for a past.
 #[derive(Drop)]
 pub struct RobustNet {
-    room: Room,
+    alloc: Global,
     edges: Edges,
     stations: Vec<Station>,
     bound: Bound,
@@ -147,7 +146,7 @@ fn keep_row(last: &mut Option<Row>, row: &Row) -> Result<(), Memory>
 
 /// Every node goes on by a row, after the one before.
 fn take_row_all(
-    room: &mut Room,
+    alloc: Global,
     edges: &mut Edges,
     stations: &mut Vec<Station>,
     bound: &Bound,
@@ -162,7 +161,7 @@ fn take_row_all(
 {
     let mut fault = None;
     for i in 0..stations.len() {
-        match stations[i].take_row(room, edges, i as u32, bound, before, row, &mut fault) {
+        match stations[i].take_row(alloc, edges, i as u32, bound, before, row, &mut fault) {
             Ok(()) => {}
             Err(Memory) => return Err(fault_at(i as u32, refused(fault))),
         }
@@ -172,7 +171,7 @@ fn take_row_all(
 
 /// Every node goes on by the end.
 fn take_end_all(
-    room: &mut Room,
+    alloc: Global,
     edges: &mut Edges,
     stations: &mut Vec<Station>,
     now: u32,
@@ -184,7 +183,7 @@ fn take_end_all(
 {
     let mut fault = None;
     for i in 0..stations.len() {
-        match stations[i].take_end(room, edges, i as u32, now, &mut fault) {
+        match stations[i].take_end(alloc, edges, i as u32, now, &mut fault) {
             Ok(()) => {}
             Err(Memory) => return Err(fault_at(i as u32, refused(fault))),
         }
@@ -211,11 +210,10 @@ impl RobustNet {
         ensures bound { IfOk result (λ net. net.bound ≡ bound) }
         ensures no_row { IfOk result (λ net. net.last ≡ None) }
     {
-        let room = Room::new(alloc);
         let stations = stations_of(alloc, formula)?;
         let edges = Edges::new(alloc, formula.len())?;
         Ok(RobustNet {
-            room,
+            alloc,
             edges,
             stations,
             bound,
@@ -253,7 +251,7 @@ impl RobustNet {
         let now = row.time();
         begin_at(&mut self.edges, &self.last, now);
         match take_row_all(
-            &mut self.room,
+            self.alloc,
             &mut self.edges,
             &mut self.stations,
             &self.bound,
@@ -300,7 +298,7 @@ impl RobustNet {
             unreachable!()
         };
         let now = row.time();
-        match take_end_all(&mut self.room, &mut self.edges, &mut self.stations, now) {
+        match take_end_all(self.alloc, &mut self.edges, &mut self.stations, now) {
             Ok(()) => {
                 self.closed = true;
                 Ok(())

@@ -4,16 +4,15 @@ ghost use Rattle.online_nodes.specs.StreamedWide.{IsUnstreamed};
 ghost use Rattle.online_robust.specs.Slides.{slide_of};
 ghost use Rattle.online_robust.specs.Operators.{two_by, window_by};
 ghost use Rattle.online_robust.specs.declared.operator.Operator.TheVariants as Op;
-ghost use Rattle.online_robust.specs.Steps.{Step, Belongs, BelongsSomewhere, GivesOut, IsFirstOperator, IsStreamedFault};
+ghost use Rattle.online_robust.specs.Steps.{Step, Belongs, BelongsAt, GivesOut, IsFirstOperator, IsStreamedFault};
 ghost use Rattle.online_robust.specs.Refusing.{told_by};
 
 use crate::edges::Edges;
 use crate::pointwise::{Not, Two};
-use crate::put::put_signal;
-use crate::room::Room;
 use crate::slide::{Slide, Window};
 use frac128::{Frac, Memory};
 use pl_signal::{Side, WidePair};
+use std::alloc::Global;
 use stl_syntax::{Asks, Join, Node, Offsets, View};
 use value_laws::Margin;
 
@@ -75,34 +74,30 @@ fn over(asks: Asks, window: &Offsets, of: u32) -> Operator
 /// A negation goes on to a number.
 fn sweep_not(
     not: &mut Not,
-    room: &mut Room,
     edges: &mut Edges,
     node: u32,
     to: u32,
     with_first: bool,
 ) -> Result<(), Memory>
-    requires can { BelongsSomewhere (Op.Not not.old) edges.old to }
+    requires can { BelongsAt node (Op.Not not.old) edges.old to }
     requires edge { node < length edges.old.edges }
     ensures { OnOk result (GivesOut node with_first (Op.Not not.old) to edges.old (Op.Not not.new) edges.new) }
 {
     let end = Frac::of(i64::from(to));
-    let swept = not.sweep(room, edges, &end)?;
-    put_signal(edges, node, &swept, with_first)?;
-    room.keep(swept);
+    not.sweep(edges, node, &end, with_first)?;
     Ok(())
 }
 
 /// A connective goes on to a number.
 fn sweep_two(
     two: &mut Two,
-    room: &mut Room,
     edges: &mut Edges,
     node: u32,
     to: u32,
     with_first: bool,
     fault: &mut Option<WidePair<Margin>>,
 ) -> Result<(), Memory>
-    requires can { BelongsSomewhere (Op.Two two.old) edges.old to }
+    requires can { BelongsAt node (Op.Two two.old) edges.old to }
     requires edge { node < length edges.old.edges }
     requires unset { fault.old ≡ None }
     ensures out { OnOk result (GivesOut node with_first (Op.Two two.old) to edges.old (Op.Two two.new) edges.new) }
@@ -110,9 +105,7 @@ fn sweep_two(
     ensures wide { (t : Step) → Belongs t (Op.Two two.old) edges.old to → OnErr result (IsStreamedFault t (told_by fault.new)) }
 {
     let end = Frac::of(i64::from(to));
-    let swept = two.sweep(room, edges, &end, fault)?;
-    put_signal(edges, node, &swept, with_first)?;
-    room.keep(swept);
+    two.sweep(edges, node, &end, with_first, fault)?;
     Ok(())
 }
 
@@ -140,14 +133,14 @@ impl Operator {
     /// are given up then.
     pub(crate) fn sweep(
         &mut self,
-        room: &mut Room,
+        alloc: Global,
         edges: &mut Edges,
         node: u32,
         to: u32,
         with_first: bool,
         fault: &mut Option<WidePair<Margin>>,
     ) -> Result<(), Memory>
-        requires can { BelongsSomewhere self.old edges.old to }
+        requires can { BelongsAt node self.old edges.old to }
         requires edge { node < length edges.old.edges }
         requires unset { fault.old ≡ None }
         ensures out { OnOk result (GivesOut node with_first self.old to edges.old self.new edges.new) }
@@ -155,9 +148,9 @@ impl Operator {
         ensures wide { (t : Step) → Belongs t self.old edges.old to → OnErr result (IsStreamedFault t (told_by fault.new)) }
     {
         match self {
-            Operator::Not(not) => sweep_not(not, room, edges, node, to, with_first),
-            Operator::Two(two) => sweep_two(two, room, edges, node, to, with_first, fault),
-            Operator::Slide(slide) => slide.sweep(room.alloc, edges, node, to, with_first, fault),
+            Operator::Not(not) => sweep_not(not, edges, node, to, with_first),
+            Operator::Two(two) => sweep_two(two, edges, node, to, with_first, fault),
+            Operator::Slide(slide) => slide.sweep(alloc, edges, node, to, with_first, fault),
         }
     }
 }

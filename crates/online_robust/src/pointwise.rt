@@ -1,5 +1,5 @@
 //! Negation and the connectives over a stretch.
-ghost use Rattle.std.specs.Prelude.{◌≡◌, ◌<◌, ◌≤◌, ◌^◌, true, IsSome, IsTrue, length, IfOk, OnOk, Some, OnErr, None};
+ghost use Rattle.std.specs.Prelude.{◌≡◌, ◌≢◌, ◌<◌, ◌≤◌, ◌^◌, true, IsSome, IsTrue, length, OnOk, Some, OnErr, None};
 ghost use Rattle.rational.specs.Rational.{Rational, ◌≈◌, ◌<ʳ◌};
 ghost use Rattle.rational.specs.Extended.{value_at, ◌≈ᵉ◌};
 ghost use Rattle.rational.specs.Affine.{HasBoundedLevel};
@@ -10,16 +10,17 @@ ghost use Rattle.online_robust.specs.Held.{held_at};
 ghost use Rattle.online_robust.specs.Lines.{end_of, margin_of};
 ghost use Rattle.online_robust.specs.declared.line.MarginLine.{MarginLine as Line};
 ghost use Rattle.online_robust.specs.Told.{IsTick};
-ghost use Rattle.online_robust.specs.ReadLines.{HasReached, IsAhead, IsBuilt, IsStretch, IsThere, LosesAt, LosesAtBoth, value_turned};
-ghost use Rattle.online_robust.specs.Couples.{CanJoin, CanNegate, Couple, IsCoupleFault, IsJoinedTo, IsNegatedTo};
+ghost use Rattle.online_robust.specs.ReadLines.{HasReached, IsAhead, IsThere, LosesAt, LosesAtBoth, value_turned};
+ghost use Rattle.online_robust.specs.Couples.{CanJoin, CanNegate, Couple, GoesOnJoined, GoesOnNegated, IsCoupleFault, TellsJoined, IsJoinedTo, TellsNegated, IsNegatedTo};
 ghost use Rattle.online_robust.specs.Couples.{IsReadTo, Source, both_of, left_of, right_of, turns_left, turns_left_of};
 ghost use Rattle.online_robust.specs.Refusing.{told_by};
+ghost use Rattle.online_robust.specs.Tails.{HasTurned, IsGivenOut};
 
 use crate::edges::Edges;
 use crate::line::{MarginLine, Reached};
-use crate::room::Room;
+use crate::tail::{Tail, put_start};
 use frac128::{Frac, Memory};
-use pl_signal::{Builder, Side, Signal, WidePair, chosen_in_place, earlier};
+use pl_signal::{Side, WidePair, chosen_in_place, earlier};
 use std::cmp::Ordering;
 use value_laws::{Margin, Shape};
 
@@ -91,22 +92,16 @@ impl Not {
     }
 
     /// Goes on over a gap of the input and the point behind it.
-    fn turn(
-        &self,
-        edges: &mut Edges,
-        built: &mut Builder<Margin>,
-        at: &Frac,
-    ) -> Result<Reached, Memory>
-        requires { (x : Couple) × IsNegatedTo x self.now edges.old (value at.now) × (value at.now <ʳ x.to)
-            × IsBuilt (left_of x true) x.reach x.from (value at.now) built.old }
-        ensures reached { (x : Couple) → IsNegatedTo x self.now edges.old (value at.now) → value at.now <ʳ x.to
-            → IfOk result (λ r. HasReached (left_of x true) x.reach (value r.at) (Some r)) }
-        ensures negated { (x : Couple) → IsNegatedTo x self.now edges.old (value at.now) → value at.now <ʳ x.to
-            → IfOk result (λ r. IsNegatedTo x self.now edges.new (value r.at)) }
-        ensures built { (x : Couple) → IsNegatedTo x self.now edges.old (value at.now) → value at.now <ʳ x.to
-            → IsBuilt (left_of x true) x.reach x.from (value at.now) built.old
-            → IfOk result (λ r. IsBuilt (left_of x true) x.reach x.from (value r.at) built.new) }
-        ensures lost { IfOk result (λ r. LosesAt (value r.at) self.now.of edges.old edges.new) }
+    fn turn(&self, edges: &mut Edges, node: u32, tail: &mut Tail) -> Result<(), Memory>
+        requires can { (x : Couple) × IsNegatedTo x self.now edges.old (value tail.old.end.at) × (value tail.old.end.at <ʳ x.to) }
+        requires edge { node < length edges.old.edges }
+        requires apart { node ≢ self.now.of }
+        ensures turned { OnOk result (HasTurned self.now.of self.now.of node
+            (GoesOnNegated self.now edges.old (value tail.old.end.at) (value tail.new.end.at)) tail.old edges.old tail.new edges.new) }
+        ensures reached { (x : Couple) → IsNegatedTo x self.now edges.old (value tail.old.end.at) → value tail.old.end.at <ʳ x.to
+            → OnOk result (HasReached (left_of x true) x.reach (value tail.new.end.at) (Some tail.new.end)) }
+        ensures negated { (x : Couple) → IsNegatedTo x self.now edges.old (value tail.old.end.at) → value tail.old.end.at <ʳ x.to
+            → OnOk result (IsNegatedTo x self.now edges.new (value tail.new.end.at)) }
         ensures nearer { OnOk result (turns_left_of self.now edges.new < turns_left_of self.now edges.old) }
     {
         let Some(gap) = edges.take(self.of) else {
@@ -117,39 +112,43 @@ impl Not {
         };
         let at = point.end();
         let value = point.margin().neg();
-        built.step(gap.margin().neg(), at, value)?;
-        Ok(Reached { at, value })
+        tail.go_on(edges, node, &gap.margin().neg(), &at, &value)
     }
 
-    /// The negated margins from where they were told before, or from the start, on up to a time.
+    /// Puts the negated margins from where they were told before, or from the start, on up to a time onto the node's edge.
     ///
     /// # Errors
     ///
     /// `Memory` where there is no memory. It is of no use then.
     pub(crate) fn sweep(
         &mut self,
-        room: &mut Room,
         edges: &mut Edges,
+        node: u32,
         to: &Frac,
-    ) -> Result<Signal<Margin>, Memory>
-        requires { (x : Couple) × CanNegate x self.old edges.old × (value to.now ≈ x.to) }
-        ensures told { (x : Couple) → CanNegate x self.old edges.old → value to.now ≈ x.to
-            → IfOk result (IsStretch (left_of x true) x.reach x.from x.to) }
+        with_first: bool,
+    ) -> Result<(), Memory>
+        requires can { (x : Couple) × CanNegate x self.old edges.old × (value to.now ≈ x.to) }
+        requires edge { node < length edges.old.edges }
+        requires apart { node ≢ self.old.of }
+        ensures out { OnOk result (IsGivenOut (value to.now) self.old.of self.old.of node with_first
+            (TellsNegated self.old edges.old (value to.now)) edges.old edges.new) }
         ensures reached { (x : Couple) → CanNegate x self.old edges.old → value to.now ≈ x.to
             → OnOk result (HasReached (left_of x true) x.reach x.to self.new.last) }
         ensures some { OnOk result (IsSome self.new.last) }
-        ensures lost { OnOk result (LosesAt (value to.now) self.old.of edges.old edges.new) }
-        ensures ahead { (x : Couple) → CanNegate x self.old edges.old → value to.now ≈ x.to → OnOk result (IsNegatedTo x self.old edges.new (value to.now)) }
         ensures kept { self.new ≡ record self.old { last = self.new.last } }
     {
-        let mut reached = self.begin(edges);
-        let mut built = room.start(reached.at, reached.value)?;
-        while let Ordering::Less = reached.at.cmp(to) {
-            let at = reached.at;
-            reached = self.turn(edges, &mut built, &at)?;
+        let start = self.begin(edges);
+        put_start(edges, node, &start, with_first)?;
+        let mut tail = Tail {
+            gap: None,
+            end: start,
+        };
+        while let Ordering::Less = tail.end.at.cmp(to) {
+            self.turn(edges, node, &mut tail)?;
         }
-        self.last = Some(reached);
-        Ok(built.finish())
+        tail.put(edges, node)?;
+        self.last = Some(tail.end);
+        Ok(())
     }
 }
 
@@ -205,28 +204,27 @@ impl Two {
     fn turn(
         &self,
         edges: &mut Edges,
-        built: &mut Builder<Margin>,
-        at: &Frac,
+        node: u32,
+        tail: &mut Tail,
         to: &Frac,
         fault: &mut Option<WidePair<Margin>>,
-    ) -> Result<Reached, Memory>
-        requires order { value at.now <ʳ value to.now }
-        requires joined { (x : Couple) × IsJoinedTo x self.now edges.old (value at.now) × (value to.now ≈ x.to)
-            × IsBuilt (both_of x self.now) x.reach x.from (value at.now) built.old }
+    ) -> Result<(), Memory>
+        requires order { value tail.old.end.at <ʳ value to.now }
+        requires joined { (x : Couple) × IsJoinedTo x self.now edges.old (value tail.old.end.at) × (value to.now ≈ x.to) }
+        requires edge { node < length edges.old.edges }
+        requires apart { (node ≢ self.now.left) × (node ≢ self.now.right) }
         requires unset { fault.old ≡ None }
-        ensures reached { (x : Couple) → IsJoinedTo x self.now edges.old (value at.now) → value to.now ≈ x.to
-            → IfOk result (λ r. HasReached (both_of x self.now) x.reach (value r.at) (Some r)) }
-        ensures joined { (x : Couple) → IsJoinedTo x self.now edges.old (value at.now) → value to.now ≈ x.to
-            → IfOk result (λ r. IsJoinedTo x self.now edges.new (value r.at)) }
-        ensures built { (x : Couple) → IsJoinedTo x self.now edges.old (value at.now) → value to.now ≈ x.to
-            → IsBuilt (both_of x self.now) x.reach x.from (value at.now) built.old
-            → IfOk result (λ r. IsBuilt (both_of x self.now) x.reach x.from (value r.at) built.new) }
-        ensures lost { IfOk result (λ r. LosesAtBoth (value r.at) self.now.left self.now.right edges.old edges.new) }
-        ensures nearer { IfOk result
-            (λ r. turns_left self.now edges.new (value r.at) (value to.now) < turns_left self.now edges.old (value at.now) (value to.now)) }
+        ensures turned { OnOk result (HasTurned self.now.left self.now.right node
+            (GoesOnJoined self.now edges.old (value tail.old.end.at) (value tail.new.end.at) (value to.now)) tail.old edges.old tail.new edges.new) }
+        ensures reached { (x : Couple) → IsJoinedTo x self.now edges.old (value tail.old.end.at) → value to.now ≈ x.to
+            → OnOk result (HasReached (both_of x self.now) x.reach (value tail.new.end.at) (Some tail.new.end)) }
+        ensures joined { (x : Couple) → IsJoinedTo x self.now edges.old (value tail.old.end.at) → value to.now ≈ x.to
+            → OnOk result (IsJoinedTo x self.now edges.new (value tail.new.end.at)) }
+        ensures nearer { OnOk result
+            (turns_left self.now edges.new (value tail.new.end.at) (value to.now) < turns_left self.now edges.old (value tail.old.end.at) (value to.now)) }
         ensures still { OnOk result (fault.new ≡ None) }
-        ensures wide { (x : Couple) → IsJoinedTo x self.now edges.old (value at.now) → value to.now ≈ x.to
-            → IsBuilt (both_of x self.now) x.reach x.from (value at.now) built.old → OnErr result (IsCoupleFault x self.now (told_by fault.new)) }
+        ensures wide { (x : Couple) → IsJoinedTo x self.now edges.old (value tail.old.end.at) → value to.now ≈ x.to
+            → OnErr result (IsCoupleFault x self.now (told_by fault.new)) }
     {
         let Some(p) = edges.ahead(self.left) else {
             unreachable!()
@@ -242,49 +240,55 @@ impl Two {
         let x = up_to(edges, self.left, &p_end, &p_shape, &t);
         let y = up_to(edges, self.right, &q_end, &q_shape, &t);
         let value = self.of_both(&x, &y, &t);
-        built.join_kept(
+        tail.join(
+            edges,
+            node,
             self.side,
             &self.left_of(&p_shape),
             &q_shape,
             &t,
             &value,
             fault,
-        )?;
-        Ok(Reached { at: t, value })
+        )
     }
 
-    /// The margins from where they were told before, or from the start, on up to a time.
+    /// Puts the margins from where they were told before, or from the start, on up to a time onto the node's edge.
     ///
     /// # Errors
     ///
     /// `Wide` for a crossing of two parts of the inputs; `Memory` where there is no memory. It is of no use then.
     pub(crate) fn sweep(
         &mut self,
-        room: &mut Room,
         edges: &mut Edges,
+        node: u32,
         to: &Frac,
+        with_first: bool,
         fault: &mut Option<WidePair<Margin>>,
-    ) -> Result<Signal<Margin>, Memory>
+    ) -> Result<(), Memory>
         requires can { (x : Couple) × CanJoin x self.old edges.old × (value to.now ≈ x.to) }
+        requires edge { node < length edges.old.edges }
+        requires apart { (node ≢ self.old.left) × (node ≢ self.old.right) }
         requires unset { fault.old ≡ None }
-        ensures told { (x : Couple) → CanJoin x self.old edges.old → value to.now ≈ x.to
-            → IfOk result (IsStretch (both_of x self.old) x.reach x.from x.to) }
+        ensures out { OnOk result (IsGivenOut (value to.now) self.old.left self.old.right node with_first
+            (TellsJoined self.old edges.old (value to.now)) edges.old edges.new) }
         ensures reached { (x : Couple) → CanJoin x self.old edges.old → value to.now ≈ x.to
             → OnOk result (HasReached (both_of x self.old) x.reach x.to self.new.last) }
         ensures some { OnOk result (IsSome self.new.last) }
-        ensures lost { OnOk result (LosesAtBoth (value to.now) self.old.left self.old.right edges.old edges.new) }
-        ensures ahead { (x : Couple) → CanJoin x self.old edges.old → value to.now ≈ x.to → OnOk result (IsJoinedTo x self.old edges.new (value to.now)) }
         ensures kept { self.new ≡ record self.old { last = self.new.last } }
         ensures still { OnOk result (fault.new ≡ None) }
         ensures wide { (x : Couple) → CanJoin x self.old edges.old → value to.now ≈ x.to → OnErr result (IsCoupleFault x self.old (told_by fault.new)) }
     {
-        let mut reached = self.begin(edges);
-        let mut built = room.start(reached.at, reached.value)?;
-        while let Ordering::Less = reached.at.cmp(to) {
-            let at = reached.at;
-            reached = self.turn(edges, &mut built, &at, to, fault)?;
+        let start = self.begin(edges);
+        put_start(edges, node, &start, with_first)?;
+        let mut tail = Tail {
+            gap: None,
+            end: start,
+        };
+        while let Ordering::Less = tail.end.at.cmp(to) {
+            self.turn(edges, node, &mut tail, to, fault)?;
         }
-        self.last = Some(reached);
-        Ok(built.finish())
+        tail.put(edges, node)?;
+        self.last = Some(tail.end);
+        Ok(())
     }
 }

@@ -5,13 +5,12 @@ ghost use Rattle.frac128.specs.Value.{value};
 ghost use Rattle.stl_syntax.specs.Trace.{row_time};
 ghost use Rattle.atom_lines.specs.Binding.{IsAtomNode};
 ghost use Rattle.online_robust.specs.declared.line.MarginLine.TheVariants as Part;
-ghost use Rattle.online_robust.specs.Putting.{constant_margin, later_lines, lines_of, HasPut, HasPutAtom, HasPutRow, IsAtomPiece};
+ghost use Rattle.online_robust.specs.Putting.{constant_margin, HasPut, HasPutAtom, HasPutRow, IsAtomPiece};
 
 use crate::edges::Edges;
 use crate::line::MarginLine;
 use atom_lines::{Bound, margin_piece, margin_point};
 use frac128::{Frac, Memory};
-use pl_signal::Signal;
 use trace_reader::Row;
 use value_laws::Margin;
 
@@ -44,49 +43,6 @@ pub(crate) fn put_pair(
     };
     edges.put(node, gap)?;
     put_point(edges, node, *at, *value)
-}
-
-/// Puts the gaps of a signal, each with the point that ends it.
-#[inline(always)]
-fn put_later(edges: &mut Edges, node: u32, s: &Signal<Margin>) -> Result<(), Memory>
-    requires { node < length edges.old.edges }
-    ensures { OnOk result (HasPut node (later_lines s.now) edges.old edges.new) }
-{
-    let knots = s.len();
-    for i in 1..knots {
-        let before = s.knot_in_place(i - 1);
-        let knot = s.knot_in_place(i);
-        put_pair(
-            edges,
-            node,
-            &before.time,
-            &before.after,
-            &knot.time,
-            &knot.point,
-        )?;
-    }
-    Ok(())
-}
-
-/// Puts the parts of a signal, with the point at which it begins or without.
-#[inline(always)]
-pub(crate) fn put_signal(
-    edges: &mut Edges,
-    node: u32,
-    s: &Signal<Margin>,
-    with_first: bool,
-) -> Result<(), Memory>
-    requires { node < length edges.old.edges }
-    ensures { OnOk result (HasPut node (lines_of with_first s.now) edges.old edges.new) }
-{
-    if with_first {
-        // For the proof alone: that it is a signal is a clause of `len`.
-        let _ = s.len();
-        let first = s.knot(0);
-        put_point(edges, node, first.time, first.point)?;
-        return put_later(edges, node, s);
-    }
-    put_later(edges, node, s)
 }
 
 /// The time of a row.

@@ -13,7 +13,7 @@ ghost use Rattle.online_robust.specs.Putting.{HasPut};
 ghost use Rattle.online_robust.specs.Slides.{CanSlide, Course, HasBegun, GoesOut, IsKeptBelow, IsOnWay};
 ghost use Rattle.online_robust.specs.Slides.{IsRefused, IsTakenIn, IsUnder};
 ghost use Rattle.online_robust.specs.Slides.{ReadsOn, Stays, back_offset, piece_of as piece_that, reach_of, slide_of};
-ghost use Rattle.online_robust.specs.Steps.{Step, Belongs, BelongsSomewhere, GivesOut, IsStreamedFault};
+ghost use Rattle.online_robust.specs.Steps.{Step, Belongs, BelongsAt, GivesOut, IsStreamedFault};
 ghost use Rattle.online_robust.specs.ToldLines.{all_told, first_shape, lines_told, shape_at_end};
 ghost use Rattle.online_robust.specs.declared.line.MarginLine.{MarginLine as Line};
 ghost use Rattle.online_robust.specs.declared.operator.Operator.TheVariants as Op;
@@ -346,7 +346,7 @@ impl Slide {
         with_first: bool,
         fault: &mut Option<WidePair<Margin>>,
     ) -> Result<(), Memory>
-        requires can { BelongsSomewhere (Op.Slide self.old) edges.old to }
+        requires can { BelongsAt node (Op.Slide self.old) edges.old to }
         requires edge { node < length edges.old.edges }
         requires unset { fault.old ≡ None }
         ensures out { OnOk result (GivesOut node with_first (Op.Slide self.old) to edges.old (Op.Slide self.new) edges.new) }

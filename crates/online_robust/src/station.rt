@@ -13,10 +13,10 @@ ghost use Rattle.online_robust.specs.Refusing.{told_by};
 use crate::edges::Edges;
 use crate::operator::Operator;
 use crate::put::{put_atom, put_const};
-use crate::room::Room;
 use atom_lines::Bound;
 use frac128::Memory;
 use pl_signal::WidePair;
+use std::alloc::Global;
 use stl_syntax::Node;
 use trace_reader::Row;
 use value_laws::Margin;
@@ -92,7 +92,7 @@ fn was_shown(number: Option<i64>, start: u32) -> bool
 
 /// An operator gives out its margins from the number at which it stood, or from the start, on up to another.
 fn give_out(
-    room: &mut Room,
+    alloc: Global,
     edges: &mut Edges,
     operator: &mut Operator,
     node: u32,
@@ -107,7 +107,7 @@ fn give_out(
     ensures still { OnOk result (fault.new ≡ None) }
     ensures fault { (m : Move) → CanGiveOut m node operator.old edges.old to with_first → OnErr result (IsFaultOf m (told_by fault.new)) }
 {
-    operator.sweep(room, edges, node, to, with_first, fault)?;
+    operator.sweep(alloc, edges, node, to, with_first, fault)?;
     edges.reach(node, i64::from(to));
     Ok(())
 }
@@ -115,7 +115,7 @@ fn give_out(
 /// An operator goes on to a number: where that is not below the start, and above the number at which it stood, it gives out its margins
 /// in between.
 fn go_on(
-    room: &mut Room,
+    alloc: Global,
     edges: &mut Edges,
     operator: &mut Operator,
     node: u32,
@@ -141,7 +141,7 @@ fn go_on(
         return Ok(());
     }
     give_out(
-        room,
+        alloc,
         edges,
         operator,
         node,
@@ -159,7 +159,7 @@ impl Station {
     /// `Wide` where functions in play need a denominator of 2^60 or more; `Memory` where there is no memory.
     pub(crate) fn take_row(
         &mut self,
-        room: &mut Room,
+        alloc: Global,
         edges: &mut Edges,
         node: u32,
         bound: &Bound,
@@ -189,7 +189,7 @@ impl Station {
             }
             Work::Operator(operator) => {
                 go_on(
-                    room,
+                    alloc,
                     edges,
                     operator,
                     node,
@@ -207,7 +207,7 @@ impl Station {
     /// `Wide` where functions in play need a denominator of 2^60 or more; `Memory` where there is no memory.
     pub(crate) fn take_end(
         &mut self,
-        room: &mut Room,
+        alloc: Global,
         edges: &mut Edges,
         node: u32,
         now: u32,
@@ -223,7 +223,7 @@ impl Station {
         match &mut self.work {
             Work::Const(_) => Ok(()),
             Work::Atom => Ok(()),
-            Work::Operator(operator) => go_on(room, edges, operator, node, i64::from(now), fault),
+            Work::Operator(operator) => go_on(alloc, edges, operator, node, i64::from(now), fault),
         }
     }
 }

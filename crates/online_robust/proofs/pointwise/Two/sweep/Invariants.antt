@@ -1,18 +1,20 @@
 use Rattle.rational.specs.Time.{◌≈◌}
 use Rattle.frac128.specs.Value.{value}
 use Rattle.std.specs.Prelude.{◌≡◌, None, Some}
-use Rattle.online_robust.specs.ReadLines.{HasReached, IsBuilt, LosesAtBoth}
+use Rattle.online_robust.specs.ReadLines.{HasReached, IsBuilt}
 use Rattle.online_robust.specs.Couples.{CanJoin, Couple, IsJoinedTo, both_of, turns_left}
+use Rattle.online_robust.specs.Tails.{IsUnderWay}
 use Rattle.online_robust.proofs.pointwise.Two.sweep.Given as goal
 
-abbrev pub invariant-loop-at : goal.invariant-loop-at
-invariant-loop-at l = record {
+abbrev pub invariant-loop-self : goal.invariant-loop-self
+invariant-loop-self l = record {
   went : (x : Couple) → CanJoin x l.fn.self l.fn.edges → value l.to ≈ x.to
-      → HasReached (both_of x l.self) x.reach (value l.reached.at) (Some l.reached) × IsJoinedTo x l.self l.edges (value l.reached.at)
-      × IsBuilt (both_of x l.self) x.reach x.from (value l.reached.at) l.built;
+      → HasReached (both_of x l.self) x.reach (value l.tail.end.at) (Some l.tail.end) × IsJoinedTo x l.self l.edges (value l.tail.end.at);
+  way : IsUnderWay (value l.to) l.self.left l.self.right l.node l.with_first
+      (λ ks. (x : Couple) → CanJoin x l.fn.self l.fn.edges → value l.to ≈ x.to → IsBuilt (both_of x l.self) x.reach x.from (value l.tail.end.at) ks)
+      l.fn.edges l.tail l.edges;
   still : l.fault ≡ None;
-  lost : LosesAtBoth (value l.to) l.self.left l.self.right l.fn.edges l.edges;
 }
 
-abbrev pub decreases-loop-at : goal.decreases-loop-at
-decreases-loop-at l = turns_left l.self l.edges (value l.reached.at) (value l.to)
+abbrev pub decreases-loop-self : goal.decreases-loop-self
+decreases-loop-self l = turns_left l.self l.edges (value l.tail.end.at) (value l.to)

@@ -22,12 +22,12 @@ use Rattle.online_robust.proofs.slide.Slide.sweep.Goals as goal
 
 pub unreachable-requires : goal.unreachable-requires
 unreachable-requires c =
-    let (t, b) = c.requires.can in
+    let (t, place, b) = c.requires.can in
     let e : ◌≡◌ {A = Option _} (Some (begin_of t)) None = sym b.start ∙ sym c.start.ensures ∙ c.in_default.is in absurd (let z = e in cc)
 
 pub begin-requires : goal.begin-requires
 begin-requires c =
-    let (t, b) = c.requires.can in
+    let (t, place, b) = c.requires.can in
     small t c.args.self.now c.args.edges.now c.args.to b
 
 pub unreachable-requires-in_default-stream : goal.unreachable-requires-in_default-stream
@@ -68,7 +68,7 @@ module _ (c : After-of-end) (t : Step) (b : Belongs t (Op.Slide c.args.self.now)
 
 pub go_to-requires-clause-can : goal.go_to-requires-clause-can
 go_to-requires-clause-can c =
-    let (t, b) = c.requires.can in
+    let (t, place, b) = c.requires.can in
     let a = (goal.at.go_to-requires-clause-can c).After-of-end in
     (x a t b, from_of t, can a t b, window a t b, refl)
 
@@ -128,7 +128,7 @@ limit_is to n k t fits is small same =
 
 pub go_to-requires-clause-limit : goal.go_to-requires-clause-limit
 go_to-requires-clause-limit c =
-    let (t, b) = c.requires.can in
+    let (t, place, b) = c.requires.can in
     let s = small t c.args.self.now c.args.edges.now c.args.to b in
     let window : c.begin.new.self.window ≡ c.args.self.now.window = ap (λ (y : Slide). y.window) c.begin.ensures.1 in
     let bound = subst (λ (w : Window). (neg_ℤ (pos (2 ^ 32)) ≤ℤ back_offset w) × (back_offset w ≤ℤ pos (2 ^ 32))) (sym window)
