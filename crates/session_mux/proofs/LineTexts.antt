@@ -11,7 +11,7 @@ use Rattle.trace_reader.specs.TraceText.{Line, lines}
 use Rattle.trace_reader.proofs.FeedLemmas.{none-free, at-free, at-taken}
 use Rattle.trace_reader.proofs.LineLemmas.{done, lines-nil, lines-append, lines-rest, lines-line}
 use Rattle.session_mux.specs.Sessions.{prefixed}
-use Rattle.session_mux.specs.Saying.{texts}
+use Rattle.session_mux.specs.Saying.{texts, Putting}
 use Rattle.session_mux.proofs.RecentLemmas.{kept_again}
 
 -- up to its first LF
@@ -29,17 +29,6 @@ line_alone [] some none = absurd (omega (arith, some))
 line_alone (c ∷ text) some none = lines-rest true (c ∷ text) (none-free (c ∷ text) none)
 
 -- ---- said so far
-
--- some of the lines were said, and the others are those of the rest; some of the bytes may wait
-pub record Putting (prefix text before rest after waiting : List ℕ) : Type 0 where
-  -- the lines that were said
-  pub front : List Line
-  -- with the rest they are the lines of the text
-  pub split : lines true text ≡ front ++ lines true rest
-  -- each was put, behind the prefix
-  pub added : after ++ waiting ≡ before ++ prefixed prefix front
-  -- what was added goes on from what there was
-  pub begins : (first : List ℕ) × (after ≡ before ++ first)
 
 -- before the first line nothing was said
 pub putting_begins : (prefix text before waiting : List ℕ) → waiting ≡ [] → Putting prefix text before text before waiting

@@ -150,3 +150,14 @@ module _ (text room front : List ℕ) (end : ℕ) (is : take end room ≡ front 
   room_none none k low less is =
       let early : k < length text = omega (arith, less) in
       none k early (sym (in_room k early) ∙ eqb-true (slice_index text k) 10 is)
+
+-- the first bytes of a text, of 32 that were loaded
+pub loaded_front : (text bytes : List ℕ) → HasLanes bytes (λ k. slice_index text (0 + k)) → (n : ℕ) → n ≤ 32 → 32 ≤ length text → take n bytes ≡ take n text
+loaded_front text bytes loaded n few long =
+    let size = length-take-le n text (omega (arith, few, long)) in
+    let other = length-take-le n bytes (omega (arith, few, loaded.long)) in
+    same_number_lists (take n bytes) (take n text) (other ∙ sym size)
+    (λ k less.
+    let low : k < n = omega (arith, less, other) in
+    let at : 0 + k ≡ k = omega arith in
+    get_or-take n bytes k 0 low ∙ loaded.each k (omega (arith, low, few)) ∙ ap (slice_index text) at ∙ sym (get_or-take n text k 0 low))

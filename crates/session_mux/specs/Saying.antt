@@ -41,6 +41,17 @@ pub record HasPutInPart (tag text before waiting after : List ℕ) : Type 0 wher
   pub cut : (left : List ℕ) × (after ++ left ≡ (before ++ waiting) ++ ((tag ++ codes " ") ++ line ++ newline))
   pub begins : (front : List ℕ) × (after ≡ before ++ front)
 
+-- some of the lines were said, and the others are those of the rest; some of the bytes may wait
+pub record Putting (prefix text before rest after waiting : List ℕ) : Type 0 where
+  -- the lines that were said
+  pub front : List Line
+  -- with the rest they are the lines of the text
+  pub split : lines true text ≡ front ++ lines true rest
+  -- each was put, behind the prefix
+  pub added : after ++ waiting ≡ before ++ prefixed prefix front
+  -- what was added goes on from what there was
+  pub begins : (first : List ℕ) × (after ≡ before ++ first)
+
 -- the lines of a text were said and kept
 pub record HasSaid (tag text : List ℕ) (old new : Buffer (List ℕ)) (before after : List ℕ) : Type 0 where
   pub added : after ≡ before ++ said_lines tag text

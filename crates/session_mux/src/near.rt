@@ -1,5 +1,5 @@
 //! The first LF of a text, which is near in most, the copy of a few bytes before it, and whether a text begins with a short word.
-ghost use Rattle.std.specs.Prelude.{◌≡◌, ◌≢◌, ◌↔◌, ◌==◌, ◌<◌, ◌≤◌, ◌+◌, ◌++◌, ℕ, List, length, take, slice_index, if◌then◌else◌, IsTrue, MatchOption};
+ghost use Rattle.std.specs.Prelude.{◌≡◌, ◌≢◌, ◌↔◌, ◌==◌, ◌<◌, ◌≤◌, ◌+◌, ◌++◌, ℕ, List, length, take, slice_index, if◌then◌else◌, IsTrue, MatchOption, Some};
 ghost use Rattle.std.specs.Int.{bit_at};
 ghost use Rattle.memchr.specs.Find.{is_byte, IsFirstByte};
 ghost use Rattle.memchr.specs.Lanes.{HasLanes};
@@ -57,6 +57,14 @@ fn lowest(marks: u64) -> usize
     requires { marks ≢ 0 }
     ensures set { bit_at marks result ≡ 1 }
     ensures below { (k : ℕ) → k < result → bit_at marks k ≡ 0 }
+{
+    marks.trailing_zeros() as usize
+}
+
+/// How many bits from the lowest on are not set; all of them where none is.
+#[inline(always)]
+fn clear_bits(marks: u64) -> usize
+    ensures { (k : ℕ) → k < result → bit_at marks k ≡ 0 }
 {
     marks.trailing_zeros() as usize
 }
@@ -151,6 +159,19 @@ pub(crate) fn feed_behind(text: &[u8], end: &[u8]) -> Option<usize>
     }
 }
 
+/// As `feed_behind`, where the LF is among the first 32 bytes of the text, which has as many.
+#[inline(always)]
+pub(crate) fn near_feed_behind(text: &[u8], end: &[u8]) -> Option<usize>
+    requires long { 32 ≤ length text.now }
+    requires free { (front : List ℕ) × HasNoFeed front × (text.now ≡ front ++ end.now) }
+    ensures { MatchOption result (Unit {0}) (λ at. IsFirstByte (is_byte 10) end.now (Some at) × (at < 32)) }
+{
+    match near_feed(text, 0) {
+        Some(at) => Some(at - (text.len() - end.len())),
+        None => None,
+    }
+}
+
 /// Whether the first bytes of a text are those of a room, so many of them.
 #[inline(always)]
 pub(crate) fn begins_with(text: &[u8], room: &[u8; NEAR], len: usize) -> bool
@@ -159,10 +180,7 @@ pub(crate) fn begins_with(text: &[u8], room: &[u8; NEAR], len: usize) -> bool
     ensures { IsTrue result → take len text.now ≡ take len room.now }
 {
     let marks = top_bits(differing(bytes_at(text, 0), bytes_at(room, 0)));
-    if marks == 0 {
-        return true;
-    }
-    lowest(marks) >= len
+    clear_bits(marks) >= len
 }
 
 /// Whether the bytes from a place on are the first ones of a text, so many of them and one more, as far as that can be told at once: else
@@ -173,10 +191,19 @@ pub(crate) fn goes_on_alike(text: &[u8], at: usize, len: usize) -> bool {
         return true;
     }
     let marks = top_bits(differing(bytes_at(text, 0), bytes_at(text, at)));
-    if marks == 0 {
-        return true;
-    }
-    lowest(marks) > len
+    clear_bits(marks) > len
+}
+
+/// Puts the first bytes of a text, a few of its first 32, behind what stands before `at`, and answers where they end. All 32 are copied.
+#[inline(always)]
+pub(crate) fn put_wide(buf: &mut [u8], at: usize, text: &[u8], len: usize) -> usize
+    requires few { len ≤ 32 }
+    requires long { 32 ≤ length text.now }
+    requires room { at + 32 ≤ length buf.old }
+    ensures { IsAdded (take len text.now) buf.old at buf.new result }
+{
+    bytes_at(text, 0).copy_to_slice(&mut buf[at..]);
+    at + len
 }
 
 /// Puts some bytes behind what stands before `at`, and answers where they end. A few are copied as 32, where the text at whose front they

@@ -7,7 +7,7 @@ ghost use Rattle.answer_lines.specs.After.{IsAdded};
 ghost use Rattle.session_mux.specs.Taking.{ended_line};
 ghost use Rattle.session_mux.specs.Running.{IsOwnLine, HasGathered, contents_in};
 
-use crate::near::{NEAR, feed_behind, goes_on_alike, put_front};
+use crate::near::{NEAR, feed_behind, goes_on_alike, near_feed_behind, put_front, put_wide};
 use crate::session::{asks, stops};
 use crate::tag::{LONGEST, Tag, tag_len};
 use answer_lines::add_byte;
@@ -16,12 +16,32 @@ use frac128::Memory;
 /// The most bytes of a line.
 const MOST_BYTES: usize = 4_113;
 
+/// A piece of so many bytes goes on for 32 behind each tag and a space.
+const WIDE: usize = 49;
+
 /// A line of a trace: its content, what follows its tag and a space, and how many bytes it has with its tag and its LF.
 #[derive(Clone, Copy)]
 struct OwnLine<'a> {
     content: &'a [u8],
     rest: &'a [u8],
     bytes: usize,
+}
+
+/// A line of a trace that is near: what follows its tag and a space, how many bytes of that its content has with its LF, and how many bytes the
+/// line has with its tag.
+#[derive(Clone, Copy)]
+struct NearLine<'a> {
+    rest: &'a [u8],
+    size: usize,
+    bytes: usize,
+}
+
+/// How many lines were gathered so far, how many bytes they have, and how many bytes of the room their contents have.
+#[derive(Clone, Copy)]
+struct Gathered {
+    bytes: usize,
+    lines: u64,
+    used: usize,
 }
 
 /// How many lines were gathered, and how many bytes they have. The contents, each with its LF, are those of a lone line, as it stands in its
@@ -160,6 +180,64 @@ fn lone_line<'a>(tag: &[u8], piece: &'a [u8]) -> Option<LoneLine<'a>>
     })
 }
 
+/// The line at the front of a piece, where it has the tag, goes to the trace of its session as it stands, without a CR, its LF is near and the
+/// piece goes on for long.
+#[inline(always)]
+fn near_line<'a>(tag: &Tag, piece: &'a [u8]) -> Option<NearLine<'a>>
+    requires tag { IsTag tag.now }
+    requires long { 49 ≤ length piece.now }
+    ensures { MatchOption result (Unit {0}) (λ l. (32 ≤ length l.rest.now) × (l.size ≤ 32) × (l.size ≤ l.bytes)
+        × ((content : List ℕ) × (take l.size l.rest.now ≡ content ++ newline) × IsOwnLine tag.now piece.now content l.bytes)) }
+{
+    let Some(rest) = tag.rest_of_long(piece) else {
+        return None;
+    };
+    let Some(at) = near_feed_behind(piece, rest) else {
+        return None;
+    };
+    if at == 0 || rest[at - 1] == b'\r' {
+        return None;
+    }
+    let content = content_of(&rest[..at]);
+    if content.len() < at || asks(content) || stops(content) {
+        return None;
+    }
+    Some(NearLine {
+        rest,
+        size: at + 1,
+        bytes: piece.len() - rest.len() + at + 1,
+    })
+}
+
+/// Puts the contents of the lines at the front of a piece that have this tag, at most so many, one after the other, each with its LF, to the
+/// front of the room, as long as `near_line` finds them.
+#[inline(always)]
+fn gather_near(room: &mut [u8], tag: &Tag, piece: &[u8], most: u64) -> Gathered
+    requires tag { IsTag tag.now }
+    requires room { length piece.now + 32 ≤ length room.old }
+    ensures gathered { HasGathered tag.now piece.now most result.bytes result.lines (take result.used room.new) }
+    ensures within { result.used ≤ result.bytes }
+    ensures room { length room.new ≡ length room.old }
+{
+    let mut all = Gathered {
+        bytes: 0,
+        lines: 0,
+        used: 0,
+    };
+    let Some(last) = piece.len().checked_sub(WIDE) else {
+        return all;
+    };
+    while all.lines < most && all.bytes <= last {
+        let Some(line) = near_line(tag, &piece[all.bytes..]) else {
+            return all;
+        };
+        all.used = put_wide(room, all.used, line.rest, line.size);
+        all.bytes += line.bytes;
+        all.lines += 1;
+    }
+    all
+}
+
 /// Puts the contents of the lines at the front of a piece that have this tag, which stands there, at most so many, one after the other, each
 /// with its LF, to the front of the room.
 ///
@@ -179,9 +257,10 @@ fn gather_all<'a>(
 {
     make_room(room, piece)?;
     let own = Tag::at_front(tag, piece);
-    let mut bytes = 0;
-    let mut lines = 0;
-    let mut used = 0;
+    let near = gather_near(room, &own, piece, most);
+    let mut bytes = near.bytes;
+    let mut lines = near.lines;
+    let mut used = near.used;
     while lines < most {
         let Some(line) = own_line(&own, &piece[bytes..]) else {
             return Ok(Run {

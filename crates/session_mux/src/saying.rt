@@ -4,7 +4,8 @@ ghost use Rattle.stl_syntax.specs.Texts.{newline};
 ghost use Rattle.trace_reader.specs.TraceText.{lines};
 ghost use Rattle.answer_lines.specs.Appended.{GrewInPart, Is};
 ghost use Rattle.circular_buffer.specs.Buffer.{buffer, keep_last};
-ghost use Rattle.session_mux.specs.Saying.{texts, prefixed_texts, said_lines, HasPutFirst, HasPutInPart, HasSaid};
+ghost use Rattle.session_mux.specs.Saying.{texts, prefixed_texts, said_lines, HasPutFirst, HasPutInPart, Putting, HasSaid};
+ghost use Rattle.session_mux.specs.Near.{IsNextFeed};
 
 use crate::near::{NEAR, first_feed, front_feed, is_next_feed};
 use crate::recent::{Recent, keep, last_lines};
@@ -106,25 +107,48 @@ fn put_any<'a>(
     Ok(others)
 }
 
-/// As `put_any`, at once where the line is short and the text long.
+/// As `put_any`, where the first LF is known, and is among the first 32 bytes.
 #[inline(always)]
-fn put_first<'a>(
+fn put_near<'a>(
+    waiting: &mut Waiting,
+    tag: &Tag,
+    text: &'a [u8],
+    at: usize,
+    out: &mut Text,
+) -> Result<&'a [u8], Memory>
+    requires long { 32 ≤ length text.now }
+    requires feed { IsNextFeed text.now 0 at }
+    ensures { MatchResult result
+        (λ r. HasPutFirst tag.now text.now r.now out.old waiting.old out.new waiting.new)
+        (λ _. HasPutInPart tag.now text.now out.old waiting.old out.new) }
+{
+    waiting.make_room(out)?;
+    waiting.put_near(tag, text, at + 1);
+    Ok(&text[at + 1..])
+}
+
+/// Says the lines at the front of a text whose LF is among 32 bytes, each after the tag and a space, as long as the text goes on for long, and
+/// answers the rest of the text. The lines may wait.
+///
+/// # Errors
+/// Want of memory. A first part of what waited and of these lines was added.
+#[inline(always)]
+fn put_all_near<'a>(
     waiting: &mut Waiting,
     tag: &Tag,
     text: &'a [u8],
     out: &mut Text,
 ) -> Result<&'a [u8], Memory>
-    requires { 0 < length text.now }
+    requires { waiting.old ≡ [] }
     ensures { MatchResult result
-        (λ r. HasPutFirst tag.now text.now r.now out.old waiting.old out.new waiting.new)
-        (λ _. HasPutInPart tag.now text.now out.old waiting.old out.new) }
+        (λ r. Putting (tag.now ++ codes " ") text.now out.old r.now out.new waiting.new)
+        (λ _. GrewInPart (Is (said_lines tag.now text.now)) out.old out.new) }
 {
-    let Some(at) = front_feed(text) else {
-        return put_any(waiting, tag, text, out);
-    };
-    waiting.make_room(out)?;
-    waiting.put_near(tag, text, at + 1);
-    Ok(&text[at + 1..])
+    let mut rest = text;
+    while let Some(at) = front_feed(rest) {
+        rest = put_near(waiting, tag, rest, at, out)?;
+    }
+    Ok(rest)
 }
 
 /// Adds the lines of a text, each after the tag and a space.
@@ -136,9 +160,9 @@ fn put_lines(tag: &Tag, text: &[u8], out: &mut Text) -> Result<(), Memory>
     ensures err { OnErr result (GrewInPart (Is (said_lines tag.now text.now)) out.old out.new) }
 {
     let mut waiting = Waiting::new();
-    let mut rest = text;
+    let mut rest = put_all_near(&mut waiting, tag, text, out)?;
     while !rest.is_empty() {
-        rest = put_first(&mut waiting, tag, rest, out)?;
+        rest = put_any(&mut waiting, tag, rest, out)?;
     }
     waiting.hand_over(out)
 }

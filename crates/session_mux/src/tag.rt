@@ -102,10 +102,19 @@ impl Tag {
     pub(crate) fn rest<'a>(&self, piece: &'a [u8]) -> Option<&'a [u8]>
         ensures { MatchOption result (Unit {0}) (λ r. piece.now ≡ self.now ++ 32 ∷ r.now) }
     {
-        let len = self.len + 1;
         if piece.len() < NEAR {
             return self.rest_of_few(piece);
         }
+        self.rest_of_long(piece)
+    }
+
+    /// The same, of a piece that is no shorter than what is looked at.
+    #[inline(always)]
+    pub(crate) fn rest_of_long<'a>(&self, piece: &'a [u8]) -> Option<&'a [u8]>
+        requires { 32 ≤ length piece.now }
+        ensures { MatchOption result (Unit {0}) (λ r. piece.now ≡ self.now ++ 32 ∷ r.now) }
+    {
+        let len = self.len + 1;
         if begins_with(piece, &self.bytes, len) {
             return Some(&piece[len..]);
         }

@@ -2,9 +2,9 @@
 ghost use Rattle.std.specs.Prelude.{◌≡◌, ◌≤◌, ◌++◌, ◌∷◌, ℕ, List, [], codes, length, take, OnOk, OnErr};
 ghost use Rattle.stl_syntax.specs.Texts.{newline};
 
-use crate::near::{NEAR, put_front};
+use crate::near::{put_front, put_wide};
 use crate::tag::Tag;
-use answer_lines::{add_byte, add_part};
+use answer_lines::add_byte;
 use frac128::Memory;
 use std::marker::Model;
 use stl_syntax::Text;
@@ -83,7 +83,7 @@ impl Waiting {
         ensures { self.new ≡ self.old ++ ((tag.now ++ codes " ") ++ take len text.now) }
     {
         let begin = tag.put(&mut self.bytes, self.used);
-        self.used = add_part(&mut self.bytes, begin, &text[..NEAR], len);
+        self.used = put_wide(&mut self.bytes, begin, text, len);
     }
 
     /// Puts a line after the tag and a space. The text, at whose front it stands, may be read behind it.

@@ -2,20 +2,23 @@ use Rattle.std.proofs.Common.{◌++◌, sym}
 use Rattle.std.proofs.lemmas.Result.{on_ok_weaker, on_err_weaker}
 use Rattle.std.specs.Prelude.{codes}
 use Rattle.rational.proofs.Lists.{empty_of_test, on_err_anyway}
-use Rattle.session_mux.proofs.LineTexts.{putting_begins, putting_on, putting_cut, putting_all, putting_left}
+use Rattle.session_mux.proofs.LineTexts.{putting_on, putting_cut, putting_all, putting_left}
 use Rattle.session_mux.proofs.saying.put_lines.Goals as goal
 
 pub loop-rest-init : goal.loop-rest-init
-loop-rest-init c = putting_begins (c.args.tag.now ++ codes " ") c.args.text.now c.args.out.now _ c.new-waiting.ensures
+loop-rest-init c = c.in_ok-rest.ensures
 
 pub returns-in_err-rest-clause-err : goal.returns-in_err-rest-clause-err
-returns-in_err-rest-clause-err c =
-    let h = c.in_err-rest.ensures in
+returns-in_err-rest-clause-err c = on_err_anyway _ c.in_err-rest.ensures
+
+pub returns-in_err-rest-2-clause-err : goal.returns-in_err-rest-2-clause-err
+returns-in_err-rest-2-clause-err c =
+    let h = c.in_err-rest-2.ensures in
     on_err_anyway _ (putting_cut (c.args.tag.now ++ codes " ") c.args.text.now c.args.out.now _ _ _ c.loop-rest.invariant h.line h.rest h.is _ h.cut h.begins)
 
 pub loop-rest-preserved : goal.loop-rest-preserved
 loop-rest-preserved c =
-    let h = c.in_ok-rest.ensures in
+    let h = c.in_ok-rest-2.ensures in
     putting_on (c.args.tag.now ++ codes " ") c.args.text.now c.args.out.now _ _ _ c.loop-rest.invariant h.line _ h.is _ _ h.added h.begins
 
 pub returns-clause-ok : goal.returns-clause-ok

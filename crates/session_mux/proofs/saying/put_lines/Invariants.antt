@@ -1,6 +1,6 @@
 use Rattle.std.proofs.Common.{length, ◌++◌}
 use Rattle.std.specs.Prelude.{codes}
-use Rattle.session_mux.proofs.LineTexts.{Putting}
+use Rattle.session_mux.specs.Saying.{Putting}
 use Rattle.session_mux.proofs.saying.put_lines.Given as goal
 
 abbrev pub invariant-loop-rest : goal.invariant-loop-rest

@@ -7,12 +7,12 @@ use Rattle.trace_reader.proofs.FeedLemmas.{at-taken}
 use Rattle.trace_reader.proofs.LineLemmas.{done}
 use Rattle.session_mux.proofs.LineTexts.{line_found}
 use Rattle.session_mux.proofs.NearLemmas.{near_is_first}
-use Rattle.session_mux.proofs.saying.put_first.Goals as goal
+use Rattle.session_mux.proofs.saying.put_near.Goals as goal
 
 pub put_near-requires : goal.put_near-requires
 put_near-requires c = record {
-  few = (let near = c.in-Some.ensures.1.near in omega (arith, near));
-  long = c.in-Some.ensures.0;
+  few = (let near = c.requires.feed.near in omega (arith, near));
+  long = c.requires.long;
   room = c.in_ok-make_room.ensures.room;
 }
 
@@ -20,8 +20,8 @@ pub returns-in_err-make_room : goal.returns-in_err-make_room
 returns-in_err-make_room c =
     let p = err_from_is_err_and c.from_residual.result c.from_residual.ensures.1 in
     let text = c.args.text.now in
-    let at = c.in-Some.at in
-    let found = near_is_first text at c.in-Some.ensures.1 c.in-Some.ensures.0 in
+    let at = c.args.at in
+    let found = near_is_first text at c.requires.feed c.requires.long in
     let line = (c.args.tag.now ++ codes " ") ++ take at text ++ newline in
     rw p.1 (record {
       line = take at text;
@@ -37,8 +37,8 @@ returns-in_err-make_room c =
 pub returns : goal.returns
 returns c =
     let text = c.args.text.now in
-    let at = c.in-Some.at in
-    let found = near_is_first text at c.in-Some.ensures.1 c.in-Some.ensures.0 in
+    let at = c.args.at in
+    let found = near_is_first text at c.requires.feed c.requires.long in
     let prefix = c.args.tag.now ++ codes " " in
     let line = prefix ++ take at text ++ newline in
     let out = c.make_room.new.out in

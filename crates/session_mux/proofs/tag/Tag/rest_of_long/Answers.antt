@@ -1,7 +1,7 @@
 use Rattle.std.proofs.Common.{◌+◌, ◌++◌, ◌∷◌, sym, ap, ◌∙◌}
 use Rattle.rational.proofs.Lists.{take_rest}
 use Rattle.session_mux.proofs.TagLemmas.{rest_is}
-use Rattle.session_mux.proofs.tag.Tag.rest.Goals as goal
+use Rattle.session_mux.proofs.tag.Tag.rest_of_long.Goals as goal
 
 pub returns-then-begins_with : goal.returns-then-begins_with
 returns-then-begins_with c =
