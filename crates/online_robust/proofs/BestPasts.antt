@@ -1,5 +1,5 @@
 -- The window of a node without a far bound: the best over it is the node's margin, and what is in play in it is in play at the node.
-use Rattle.std.proofs.Common.{◌≡◌, ◌⊎◌, inl, inr, ℕ, ◌^◌, Bool, true, false, sym, subst, arith, Some, None, ℤ, pos}
+use Rattle.std.proofs.Common.{◌≡◌, ◌⊎◌, inl, inr, ℕ, ◌^◌, Bool, true, false, sym, subst, arith, None, ℤ, pos}
 use Rattle.std.specs.Prelude.{neg_ℤ}
 use Rattle.std.proofs.lemmas.Int.{ints}
 use Rattle.rational.specs.Time.{Rational, shifted, whole, ◌≤ʳ◌, ◌<ʳ◌}

@@ -1,5 +1,5 @@
 -- The window of a node: the best over it is the node's margin, and what is in play in it is in play at the node.
-use Rattle.std.proofs.Common.{◌≡◌, inl, inr, ℕ, Bool, true, false, sym, subst, Some, None, ℤ, pos}
+use Rattle.std.proofs.Common.{◌≡◌, inl, inr, ℕ, Bool, true, false, sym, subst, Some, ℤ, pos}
 use Rattle.std.specs.Prelude.{◌⊎◌, neg_ℤ}
 use Rattle.rational.specs.Time.{Rational, shifted, later, whole, ◌<ʳ◌}
 use Rattle.rational.specs.Extended.{Affine, Extended, minus_infinity, infinity}

@@ -1,5 +1,5 @@
 -- The operator of a node before it gave out anything.
-use Rattle.std.proofs.Common.{◌≡◌, inl, inr, ℕ, refl, Some, None}
+use Rattle.std.proofs.Common.{◌≡◌, inl, inr, ℕ, refl, Some}
 use Rattle.stl_syntax.specs.Views.{view_of}
 use Rattle.stl_syntax.specs.declared.node.Node.{Node}
 use Rattle.stl_syntax.specs.declared.node.Node.TheVariants as N

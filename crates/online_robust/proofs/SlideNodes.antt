@@ -1,5 +1,5 @@
 -- The window of a node, with a far bound or without: what is so of the node, and that the best over the window is its margin.
-use Rattle.std.proofs.Common.{◌≡◌, ◌⊎◌, inl, inr, ℕ, ◌≤◌, Bool, true, false, refl, sym, subst, ◌∙◌, arith, Some, None, ℤ, pos, ◌+ℤ◌, ◌≤ℤ◌}
+use Rattle.std.proofs.Common.{◌≡◌, ◌⊎◌, inl, inr, ℕ, ◌≤◌, Bool, true, false, refl, sym, subst, ◌∙◌, arith, Some, ℤ, pos, ◌+ℤ◌, ◌≤ℤ◌}
 use Rattle.std.specs.Prelude.{neg_ℤ, int_lt, cond}
 use Rattle.std.proofs.lemmas.Int.{ints}
 use Rattle.rational.specs.Time.{Rational, whole, ◌≤ʳ◌}

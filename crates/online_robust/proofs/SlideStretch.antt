@@ -115,7 +115,8 @@ module _ (point : Margin) where
     where
       by_test : (b : Bool) → lines_of false (knots_told p.until.time (shape_at_end p ps point) ps) ≡ lines_told p.until.time ps point
           → lines_of false (knots_told at v ps) ≡ lines_told at ps point
-          → lines_of false (cond b (record { time = at; point = v; after = p.shape } ∷ knots_told p.until.time (shape_at_end p ps point) ps) (knots_told at v ps))
+          → lines_of false
+          (cond b (record { time = at; point = v; after = p.shape } ∷ knots_told p.until.time (shape_at_end p ps point) ps) (knots_told at v ps))
           ≡ cond b (Gap at p.until.time p.shape ∷ Point p.until.time (shape_at_end p ps point) ∷ lines_told p.until.time ps point) (lines_told at ps point)
       by_test true on off =
           with_head (λ ks. lines_after (record { time = at; point = v; after = p.shape }) ks

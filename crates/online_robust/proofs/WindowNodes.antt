@@ -1,5 +1,5 @@
 -- What is so of the node of a window, and of what its operator keeps in mind.
-use Rattle.std.proofs.Common.{◌≡◌, ◌⊎◌, inl, inr, ℕ, Bool, true, false, refl, sym, subst, arith, Some, None, pos, ◌+ℤ◌, ◌≤ℤ◌}
+use Rattle.std.proofs.Common.{◌≡◌, ◌⊎◌, inl, inr, ℕ, Bool, true, false, refl, sym, subst, arith, Some, pos, ◌+ℤ◌, ◌≤ℤ◌}
 use Rattle.std.specs.Prelude.{neg_ℤ}
 use Rattle.std.proofs.lemmas.Int.{ints}
 use Rattle.pl_signal.specs.declared.joining.Side.TheVariants.{Least, Greatest}

@@ -11,7 +11,8 @@ ghost use Rattle.online_robust.specs.Lines.{end_of, margin_of};
 ghost use Rattle.online_robust.specs.declared.line.MarginLine.{MarginLine as Line};
 ghost use Rattle.online_robust.specs.Told.{IsTick};
 ghost use Rattle.online_robust.specs.ReadLines.{HasReached, IsAhead, IsThere, LosesAt, LosesAtBoth, value_turned};
-ghost use Rattle.online_robust.specs.Couples.{CanJoin, CanNegate, Couple, GoesOnJoined, GoesOnNegated, IsCoupleFault, TellsJoined, IsJoinedTo, TellsNegated, IsNegatedTo};
+ghost use Rattle.online_robust.specs.Couples.{CanJoin, CanNegate, Couple, GoesOnJoined, GoesOnNegated, IsCoupleFault, IsJoinedTo, IsNegatedTo};
+ghost use Rattle.online_robust.specs.Couples.{TellsJoined, TellsNegated};
 ghost use Rattle.online_robust.specs.Couples.{IsReadTo, Source, both_of, left_of, right_of, turns_left, turns_left_of};
 ghost use Rattle.online_robust.specs.Refusing.{told_by};
 ghost use Rattle.online_robust.specs.Tails.{HasTurned, IsGivenOut};
@@ -60,12 +61,10 @@ fn up_to(edges: &mut Edges, of: u32, end: &Frac, shape: &Margin, t: &Frac) -> Ma
     match end.cmp(t) {
         Ordering::Equal => {
             edges.skip(of);
-            let Some(point) = edges.ahead(of) else {
+            let Some(point) = edges.take(of) else {
                 unreachable!()
             };
-            let value = point.margin();
-            edges.skip(of);
-            value
+            point.margin()
         }
         _ => *shape,
     }

@@ -2,65 +2,56 @@ use Rattle.std.proofs.Common.{◌≡◌, ◌<◌, ◌+◌, ◌∙◌, Some, suc,
 use Rattle.std.specs.Prelude.{slice_get, slice_set}
 use Rattle.std.proofs.lemmas.Option.{slice_get-get_or}
 use Rattle.std.proofs.lemmas.List.{length-set}
-use Rattle.online_robust.specs.Moving.{IsFaultOf}
-use Rattle.online_robust.specs.Nets.{Going, move_of}
+use Rattle.online_robust.specs.Moving.{CanMoveByEnd, IsFaultOf}
+use Rattle.online_robust.specs.Nets.{CanGoByEnd, Going, Passing, move_of}
 use Rattle.online_robust.proofs.Loops.{can_move_by_end, going_first, going_next, gone_last, go_fault}
+use Rattle.online_robust.proofs.net.take_end_all.Goals.{After-index_mut}
 use Rattle.online_robust.proofs.net.take_end_all.Goals as goal
 
 pub loop-i-init : goal.loop-i-init
 loop-i-init c = (refl, (λ p g. going_first p c.args.edges.now c.args.stations.now.items g.0), refl)
 
+module _ (c : After-index_mut) (p : Passing) (g : CanGoByEnd p c.args.edges.now c.args.stations.now.items c.args.now) where
+  within : c.loop-i.i < length p.nodes
+  within =
+      let all = g.0.shows.stations in
+      let same = c.loop-i.invariant.0 in
+      let test = c.loop-i-test.true in
+      let end = c.len-i-end.ensures in omega (arith, all, same, test, end)
+
+  here : slice_get c.loop-i.stations.items c.loop-i.i ≡ Some c.index_mut.result.now
+  here =
+      let same = c.loop-i.invariant.0 in
+      let test = c.loop-i-test.true in
+      let end = c.len-i-end.ensures in
+      slice_get-get_or c.loop-i.stations.items c.loop-i.i c.index_mut.result.now (omega (arith, same, test, end)) ∙ ap Some (sym c.index_mut.ensures.value)
+
+  -- the node at hand may move
+  may : CanMoveByEnd (move_of p c.loop-i.i) c.loop-i.i c.index_mut.result.now c.loop-i.edges c.args.now
+  may = can_move_by_end p c.args.edges.now c.args.stations.now.items g.0 c.loop-i.i c.loop-i.edges c.loop-i.stations.items c.index_mut.result.now within here
+      (c.loop-i.invariant.1 p g) c.args.now c.loop-i.i refl g.1
+
 pub take_end-requires-clause-can : goal.take_end-requires-clause-can
 take_end-requires-clause-can c =
-    let (p, g) = c.requires in
-    let all = g.0.shows.stations in
-    let same = c.loop-i.invariant.0 in
-    let test = c.loop-i-test.true in
-    let end = c.len-i-end.ensures in
-    let within : c.loop-i.i < length p.nodes = omega (arith, all, same, test, end) in
-    let low : c.loop-i.i < length c.loop-i.stations.items = omega (arith, same, test, end) in
-    let here : slice_get c.loop-i.stations.items c.loop-i.i ≡ Some c.index_mut.result.now =
-    slice_get-get_or c.loop-i.stations.items c.loop-i.i c.index_mut.result.now low ∙ ap Some (sym c.index_mut.ensures.value) in (
-      move_of p c.loop-i.i,
-      can_move_by_end p c.args.edges.now c.args.stations.now.items g.0 c.loop-i.i c.loop-i.edges c.loop-i.stations.items c.index_mut.result.now within
-          here (c.loop-i.invariant.1 p g) c.args.now c.loop-i.i refl g.1,
-    )
+    let (p, g) = c.requires in (move_of p c.loop-i.i, may (goal.at.take_end-requires-clause-can c).After-index_mut p g)
 
 pub returns-in-Err-clause-fault : goal.returns-in-Err-clause-fault
 returns-in-Err-clause-fault c = λ p g.
-    let all = g.0.shows.stations in
-    let same = c.loop-i.invariant.0 in
-    let test = c.loop-i-test.true in
-    let end = c.len-i-end.ensures in
-    let within : c.loop-i.i < length p.nodes = omega (arith, all, same, test, end) in
-    let low : c.loop-i.i < length c.loop-i.stations.items = omega (arith, same, test, end) in
-    let here : slice_get c.loop-i.stations.items c.loop-i.i ≡ Some c.index_mut.result.now =
-    slice_get-get_or c.loop-i.stations.items c.loop-i.i c.index_mut.result.now low ∙ ap Some (sym c.index_mut.ensures.value) in
-    go_fault p c.args.edges.now c.args.stations.now.items g.0 c.loop-i.i c.loop-i.edges c.loop-i.stations.items c.index_mut.result.now within
-    here (c.loop-i.invariant.1 p g) c.loop-i.i refl c.refused.result c.fault_at.result
-    (subst (IsFaultOf (move_of p c.loop-i.i)) (sym c.refused.ensures) (c.in-Err.ensures.fault (move_of p c.loop-i.i)
-    (can_move_by_end p c.args.edges.now c.args.stations.now.items g.0 c.loop-i.i c.loop-i.edges c.loop-i.stations.items c.index_mut.result.now within
-    here (c.loop-i.invariant.1 p g) c.args.now c.loop-i.i refl g.1))) c.fault_at.ensures
+    let a = (goal.at.returns-in-Err-clause-fault c).After-index_mut in
+    go_fault p c.args.edges.now c.args.stations.now.items g.0 c.loop-i.i c.loop-i.edges c.loop-i.stations.items c.index_mut.result.now (within a p g)
+    (here a p g) (c.loop-i.invariant.1 p g) c.loop-i.i refl c.refused.result c.fault_at.result
+    (subst (IsFaultOf (move_of p c.loop-i.i)) (sym c.refused.ensures) (c.in-Err.ensures.fault (move_of p c.loop-i.i) (may a p g))) c.fault_at.ensures
 
 pub loop-i-preserved : goal.loop-i-preserved
 loop-i-preserved c = (
   length-set c.loop-i.stations.items c.loop-i.i c.take_end.new.self ∙ c.loop-i.invariant.0,
   (λ p g.
-      let all = g.0.shows.stations in
-      let same = c.loop-i.invariant.0 in
-      let test = c.loop-i-test.true in
-      let end = c.len-i-end.ensures in
-      let within : c.loop-i.i < length p.nodes = omega (arith, all, same, test, end) in
-      let low : c.loop-i.i < length c.loop-i.stations.items = omega (arith, same, test, end) in
-      let here : slice_get c.loop-i.stations.items c.loop-i.i ≡ Some c.index_mut.result.now =
-      slice_get-get_or c.loop-i.stations.items c.loop-i.i c.index_mut.result.now low ∙ ap Some (sym c.index_mut.ensures.value) in
+      let a = (goal.at.loop-i-preserved c).After-index_mut in
       let up : suc c.loop-i.i ≡ c.loop-i.i + 1 = omega arith in
       subst (λ k. Going p k c.take_end.new.edges (slice_set c.loop-i.stations.items c.loop-i.i c.take_end.new.self)) up
-      (going_next p c.args.edges.now c.args.stations.now.items g.0 c.loop-i.i c.loop-i.edges c.loop-i.stations.items c.index_mut.result.now within
-      here (c.loop-i.invariant.1 p g) c.take_end.new.edges c.take_end.new.self c.take_end.ensures.ahead
-      (c.in-Ok.ensures.moved (move_of p c.loop-i.i)
-      (can_move_by_end p c.args.edges.now c.args.stations.now.items g.0 c.loop-i.i c.loop-i.edges c.loop-i.stations.items c.index_mut.result.now within
-      here (c.loop-i.invariant.1 p g) c.args.now c.loop-i.i refl g.1)))),
+      (going_next p c.args.edges.now c.args.stations.now.items g.0 c.loop-i.i c.loop-i.edges c.loop-i.stations.items c.index_mut.result.now (within a p g)
+      (here a p g) (c.loop-i.invariant.1 p g) c.take_end.new.edges c.take_end.new.self c.take_end.ensures.ahead
+      (c.in-Ok.ensures.moved (move_of p c.loop-i.i) (may a p g)))),
   c.in-Ok.ensures.still,
 )
 

@@ -30,7 +30,8 @@ returns c =
       swept = out.swept;
       between = out.between;
       told = λ t b. not_told t not e c.args.to b out.swept (out.is (not_couple t not e c.args.to b) (can_negate t not e c.args.to b) end).0;
-      edges = λ t b. not_edges t not e c.args.to b out.between (value c.of-end.result) end (one_of_both out.lost) (out.is (not_couple t not e c.args.to b) (can_negate t not e c.args.to b) end).1;
+      edges = λ t b. not_edges t not e c.args.to b out.between (value c.of-end.result) end (one_of_both out.lost)
+          (out.is (not_couple t not e c.args.to b) (can_negate t not e c.args.to b) end).1;
       stands = λ t b. not_stands t not e c.args.to b c.sweep.new.self out.between (ap (λ (y : Own.Not). y.of) ens.kept) ens.some
           (ens.reached (not_couple t not e c.args.to b) (can_negate t not e c.args.to b) end);
       put = out.put;

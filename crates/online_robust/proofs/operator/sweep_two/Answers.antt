@@ -31,8 +31,10 @@ returns-clause-out c =
       swept = out.swept;
       between = out.between;
       told = λ t b. two_told t two e c.args.to b out.swept (out.is (two_couple t two e c.args.to b) (can_join t two e c.args.to b) end).0;
-      edges = λ t b. two_edges t two e c.args.to b out.between (value c.of-end.result) end out.lost (out.is (two_couple t two e c.args.to b) (can_join t two e c.args.to b) end).1;
-      stands = λ t b. two_stands t two e c.args.to b c.sweep.new.self out.between ens.kept ens.some (ens.reached (two_couple t two e c.args.to b) (can_join t two e c.args.to b) end);
+      edges = λ t b. two_edges t two e c.args.to b out.between (value c.of-end.result) end out.lost
+          (out.is (two_couple t two e c.args.to b) (can_join t two e c.args.to b) end).1;
+      stands = λ t b. two_stands t two e c.args.to b c.sweep.new.self out.between ens.kept ens.some
+          (ens.reached (two_couple t two e c.args.to b) (can_join t two e c.args.to b) end);
       put = out.put;
     }
 

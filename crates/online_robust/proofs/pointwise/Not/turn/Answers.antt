@@ -19,8 +19,9 @@ use Rattle.online_robust.proofs.JoinedLemmas.{first_gap}
 use Rattle.online_robust.proofs.LinesGone.{both_of_one}
 use Rattle.online_robust.proofs.LinesPut.{put_others}
 use Rattle.online_robust.proofs.PointwiseLemmas.{TakesTwo, has_second, no_gap_none}
-use Rattle.online_robust.proofs.NotLemmas.{IsMinus, built_more, fewer_left, gap_level, later_point, negated_held, point_level, point_negated, point_reached, two_lost_here}
-use Rattle.online_robust.proofs.pointwise.Not.turn.Goals.{After-neg}
+use Rattle.online_robust.proofs.NotLemmas.{IsMinus, built_more, fewer_left, gap_level, later_point, negated_held}
+use Rattle.online_robust.proofs.NotLemmas.{point_level, point_negated, point_reached, two_lost_here}
+use Rattle.online_robust.proofs.pointwise.Not.turn.Goals.{After-neg, In-Some-take}
 use Rattle.online_robust.proofs.pointwise.Not.turn.Goals as goal
 
 pub unreachable-requires : goal.unreachable-requires
@@ -36,35 +37,8 @@ unreachable-requires-in_default-take c =
     (first_gap (Robustness x.left x.trace) x.reach (value c.args.tail.now.end.at) x.left_to (held_at c.args.edges.now c.args.self.now.of) to.of
     (lt_of_lt_of_le more (ge_of_same to.all))) (sym c.take-2.ensures.first ∙ c.in_default-take.is)
 
-pub neg-value-requires : goal.neg-value-requires
-neg-value-requires c =
-    let (x, to, more) = c.requires.can in
-    let two : TakesTwo c.args.edges.now c.take.new.self c.take-2.new.self c.args.self.now.of c.in-Some.gap c.in-Some-take.point = record {
-      within = to.of_in;
-      first = sym c.take.ensures.first ∙ c.in-Some.is;
-      taken = c.take.ensures.taken;
-      start = c.take.ensures.start;
-      second = sym c.take-2.ensures.first ∙ c.in-Some-take.is;
-      taken_too = c.take-2.ensures.taken;
-      start_too = c.take-2.ensures.start;
-    } in
-    subst (λ (m : Margin). HasBoundedLevel (2 ^ 31) (margin_function m)) (sym c.margin.ensures) (point_level x c.args.self.now to more two)
-
-pub neg-requires : goal.neg-requires
-neg-requires c =
-    let (x, to, more) = c.requires.can in
-    let two : TakesTwo c.args.edges.now c.take.new.self c.take-2.new.self c.args.self.now.of c.in-Some.gap c.in-Some-take.point = record {
-      within = to.of_in;
-      first = sym c.take.ensures.first ∙ c.in-Some.is;
-      taken = c.take.ensures.taken;
-      start = c.take.ensures.start;
-      second = sym c.take-2.ensures.first ∙ c.in-Some-take.is;
-      taken_too = c.take-2.ensures.taken;
-      start_too = c.take-2.ensures.start;
-    } in
-    subst (λ (m : Margin). HasBoundedLevel (2 ^ 31) (margin_function m)) (sym c.margin-2.ensures) (gap_level x c.args.self.now to more two)
-
-two_of : (c : After-neg) → (x : Couple) → IsNegatedTo x c.args.self.now c.args.edges.now (value c.args.tail.now.end.at)
+-- a gap and the point behind it were taken
+two_of : (c : In-Some-take) → (x : Couple) → IsNegatedTo x c.args.self.now c.args.edges.now (value c.args.tail.now.end.at)
     → TakesTwo c.args.edges.now c.take.new.self c.take-2.new.self c.args.self.now.of c.in-Some.gap c.in-Some-take.point
 two_of c x to = record {
   within = to.of_in;
@@ -76,10 +50,22 @@ two_of c x to = record {
   start_too = c.take-2.ensures.start;
 }
 
+pub neg-value-requires : goal.neg-value-requires
+neg-value-requires c =
+    let (x, to, more) = c.requires.can in
+    subst (λ (m : Margin). HasBoundedLevel (2 ^ 31) (margin_function m)) (sym c.margin.ensures)
+    (point_level x c.args.self.now to more (two_of (goal.at.neg-value-requires c).In-Some-take x to))
+
+pub neg-requires : goal.neg-requires
+neg-requires c =
+    let (x, to, more) = c.requires.can in
+    subst (λ (m : Margin). HasBoundedLevel (2 ^ 31) (margin_function m)) (sym c.margin-2.ensures)
+    (gap_level x c.args.self.now to more (two_of (goal.at.neg-requires c).In-Some-take x to))
+
 pub go_on-requires-clause-edge : goal.go_on-requires-clause-edge
 go_on-requires-clause-edge c =
     let (x, to, more) = c.requires.can in
-    let lost = (two_lost_here x c.args.self.now to more (two_of (goal.at.go_on-requires-clause-edge c).After-neg x to)).edges in
+    let lost = (two_lost_here x c.args.self.now to more (two_of (goal.at.go_on-requires-clause-edge c).In-Some-take x to)).edges in
     omega (arith, c.requires.edge, lost)
 
 pub go_on-requires-clause-within : goal.go_on-requires-clause-within
@@ -90,7 +76,7 @@ pub go_on-requires-clause-later : goal.go_on-requires-clause-later
 go_on-requires-clause-later c =
     let (x, to, more) = c.requires.can in
     subst (λ (f : Frac). value c.args.tail.now.end.at <ʳ value f) (sym c.end-at.ensures)
-    (later_point x c.args.self.now to more (two_of (goal.at.go_on-requires-clause-later c).After-neg x to))
+    (later_point x c.args.self.now to more (two_of (goal.at.go_on-requires-clause-later c).In-Some-take x to))
 
 minus_point : (c : After-neg) → IsMinus (margin_of c.in-Some-take.point) c.neg-value.result
 minus_point c = let m : IsMinus c.margin.result c.neg-value.result = record { value = c.neg-value.ensures.value; base = c.neg-value.ensures.base } in
@@ -102,15 +88,16 @@ minus_gap c = let m : IsMinus c.margin-2.result c.neg.result = record { value = 
 
 pub returns-clause-reached : goal.returns-clause-reached
 returns-clause-reached c x to more =
-    let step = (goal.at.returns-clause-reached c).After-neg in
+    let step = (goal.at.returns-clause-reached c).In-Some-take in
     on_ok_weaker c.go_on.result
     (λ g. subst (λ r. HasReached (left_of x true) x.reach (value r.at) (Some r)) (sym g.end)
-    (point_reached x c.args.self.now to more (two_of step x to) c.end-at.result c.neg-value.result c.end-at.ensures (minus_point step)))
+    (point_reached x c.args.self.now to more (two_of step x to) c.end-at.result c.neg-value.result c.end-at.ensures
+    (minus_point (goal.at.returns-clause-reached c).After-neg)))
     c.go_on.ensures
 
 pub returns-clause-negated : goal.returns-clause-negated
 returns-clause-negated c x to more =
-    let step = (goal.at.returns-clause-negated c).After-neg in
+    let step = (goal.at.returns-clause-negated c).In-Some-take in
     on_ok_weaker c.go_on.result
     (λ g. subst (λ r. IsNegatedTo x c.args.self.now c.go_on.new.edges (value r.at)) (sym g.end)
     (negated_held x c.args.self.now (put_but g.put) c.requires.apart
@@ -121,7 +108,7 @@ pub returns-clause-turned : goal.returns-clause-turned
 returns-clause-turned c =
     let (x, to, more) = c.requires.can in
     let op = c.args.self.now in
-    let step = (goal.at.returns-clause-turned c).After-neg in
+    let step = (goal.at.returns-clause-turned c).In-Some-take in
     let lost = subst (λ (f : Frac). LosesAt (value f) op.of c.args.edges.now c.take-2.new.self) (sym c.end-at.ensures)
     (two_lost_here x op to more (two_of step x to)) in
     on_ok_weaker c.go_on.result
@@ -137,8 +124,9 @@ returns-clause-turned c =
               goes.signal,
               λ x to more built.
                   subst (λ r. IsBuilt (left_of x true) x.reach x.from (value r.at) ks') (sym g.end)
-                  (built_more x op to more (two_of step x to) ks ks' c.end-at.result c.neg.result c.neg-value.result c.end-at.ensures (minus_gap step)
-                  (minus_point step) built goes),
+                  (built_more x op to more (two_of step x to) ks ks' c.end-at.result c.neg.result c.neg-value.result c.end-at.ensures
+                  (minus_gap (goal.at.returns-clause-turned c).After-neg)
+                  (minus_point (goal.at.returns-clause-turned c).After-neg) built goes),
             ),
             tail',
           );
@@ -149,7 +137,7 @@ pub returns-clause-nearer : goal.returns-clause-nearer
 returns-clause-nearer c =
     let (x, to, more) = c.requires.can in
     let op = c.args.self.now in
-    let step = (goal.at.returns-clause-nearer c).After-neg in
+    let step = (goal.at.returns-clause-nearer c).In-Some-take in
     on_ok_weaker c.go_on.result
     (λ g. subst (λ n. n < turns_left_of op c.args.edges.now) (sym (ap (λ e. length (held_of e)) (put_others g.put op.of (λ e. c.requires.apart (sym e)))))
     (fewer_left x op to more (two_of step x to)))

@@ -59,7 +59,8 @@ stop_at c x to e =
     c.requires.order of_ends of_all
 
 read_left : (c : After-earlier-t) → (x : Couple) → IsJoinedTo x c.args.self.now c.args.edges.now (value c.args.tail.now.end.at) → value c.args.to.now ≈ x.to
-    → IsReadTo (left_source x c.args.self.now (value c.args.tail.now.end.at)) c.in-Some.p.now (value c.earlier-t.result) (held_at c.args.edges.now c.args.self.now.left)
+    → IsReadTo (left_source x c.args.self.now (value c.args.tail.now.end.at)) c.in-Some.p.now (value c.earlier-t.result)
+    (held_at c.args.edges.now c.args.self.now.left)
 read_left c x to e =
     let s = stop_at c x to e in
     record { ahead = to.left; first = sym (rw c.in-Some.is at c.ahead.ensures); after = s.after; before = s.left }
@@ -111,7 +112,8 @@ up_to-y-requires-clause-read c =
           (stop_at (goal.at.up_to-y-requires-clause-read c).After-earlier-t x to e),
     )
 
-there_left : (c : After-up_to-y) → (x : Couple) → IsReadTo (left_source x c.args.self.now (value c.args.tail.now.end.at)) c.in-Some.p.now (value c.earlier-t.result)
+there_left : (c : After-up_to-y) → (x : Couple)
+    → IsReadTo (left_source x c.args.self.now (value c.args.tail.now.end.at)) c.in-Some.p.now (value c.earlier-t.result)
     (held_at c.args.edges.now c.args.self.now.left) → IsThere (Robustness x.left x.trace) x.reach (value c.earlier-t.result) c.up_to-x.result
 there_left c x read = c.up_to-x.ensures.there (left_source x c.args.self.now (value c.args.tail.now.end.at)) c.in-Some.p.now c.end-p_end.ensures
     c.margin-p_shape.ensures read

@@ -1,10 +1,8 @@
 use Rattle.std.proofs.Common.{if◌then◌else◌, subst}
-use Rattle.std.proofs.lemmas.Result.{on_ok_weaker, on_err_weaker}
+use Rattle.std.proofs.lemmas.Result.{on_ok_weaker}
 use Rattle.frac128.specs.Value.{value}
 use Rattle.value_laws.specs.Kinds.{margin_shape}
-use Rattle.pl_signal.specs.declared.faults.OpFault.TheVariants as F
-use Rattle.pl_signal.specs.Joining.{IsAllOver, IsGapFault}
-use Rattle.pl_signal.proofs.Kept.{none_kept}
+use Rattle.pl_signal.specs.Joining.{IsAllOver}
 use Rattle.pl_signal.proofs.JoiningLemmas.{turns_over}
 use Rattle.online_robust.proofs.TailLemmas.{joined_along}
 use Rattle.online_robust.proofs.tail.Tail.join.Goals as goal
