@@ -1,12 +1,11 @@
 -- One node more in the loop over a formula.
 use Rattle.std.proofs.Common.{◌≡◌, ℕ, ℤ, pos, neg_ℤ, ◌≤ℤ◌, ◌<ℤ◌, true, zero, suc, ◌+◌, ◌-◌, ◌<◌, ◌≤◌, ◌^◌, ◌⊎◌, inl, inr}
-use Rattle.std.proofs.Common.{cond, List, [], ◌∷◌, ◌++◌, length, drop, get_or, Some, ap, sym, ◌∙◌, subst, arith}
+use Rattle.std.proofs.Common.{cond, List, [], ◌∷◌, ◌++◌, length, take, drop, get_or, Some, ap, sym, ◌∙◌, subst, arith}
 use Rattle.std.specs.Prelude.{slice_get, sum_by, All}
 use Rattle.std.proofs.lemmas.Int.{ints}
 use Rattle.std.proofs.lemmas.Option.{slice_get_within, get_or_from_slice_get, slice_get-get_or}
-use Rattle.std.proofs.lemmas.List.{length-drop, length-append}
+use Rattle.std.proofs.lemmas.List.{length-drop, length-append, take-take}
 use Rattle.std.proofs.lemmas.List.Sums.{sum_by-take-le}
-use Rattle.std.proofs.Math.Seq.{take-length}
 use Rattle.rational.proofs.Lists.{slice_get-push_cases, slice_get_there}
 use Rattle.value_laws.specs.Members.{ShapeOf}
 use Rattle.pl_signal.specs.declared.faults.WidePair.TheVariants.{Cross, Value}
@@ -41,17 +40,16 @@ dropped_at (suc m) (y ∷ all) k x h = subst (λ n. slice_get (y ∷ all) n ≡ 
     next : (m k : ℕ) → suc (m + k) ≡ suc m + k
     next m k = omega arith
 
--- a signal is left for an atom
-pub some_left : {X : Type 0} (nodes : List Node) (all rest : List X) (i : ℕ) (a : Atom) → length all ≡ atoms_before nodes (length nodes)
+-- a signal is left for an atom among the first nodes
+pub some_left : {X : Type 0} (nodes : List Node) (all rest : List X) (i n : ℕ) (a : Atom) → i < n → length all ≡ atoms_before nodes n
     → rest ≡ drop (atoms_before nodes i) all → slice_get nodes i ≡ Some (Leaf a) → 0 < length rest
-some_left nodes all rest i a count left at =
-    let whole_count : atoms_before nodes (length nodes) ≡ sum_by (λ n. cond (is_atom n) 1 0) nodes =
-    ap (sum_by (λ n. cond (is_atom n) 1 0)) (take-length nodes) in
-    let within : atoms_before nodes (i + 1) ≤ sum_by (λ n. cond (is_atom n) 1 0) nodes = sum_by-take-le (λ n. cond (is_atom n) 1 0) nodes (i + 1) in
+some_left nodes all rest i n a inside count left at =
+    let f : Node → ℕ = λ m. cond (is_atom m) 1 0 in
+    let within : atoms_before nodes (i + 1) ≤ atoms_before nodes n =
+    subst (λ xs. sum_by f xs ≤ sum_by f (take n nodes)) (take-take (i + 1) n nodes (omega (arith, inside))) (sum_by-take-le f (take n nodes) (i + 1)) in
     let more = atoms_on_atom nodes i a at in
     let long : length rest ≡ length all - atoms_before nodes i = ap length left ∙ length-drop (atoms_before nodes i) all in
-    by_numbers (length rest) (length all) (atoms_before nodes i) (atoms_before nodes (i + 1)) (sum_by (λ n. cond (is_atom n) 1 0) nodes)
-    (count ∙ whole_count) within more long
+    by_numbers (length rest) (length all) (atoms_before nodes i) (atoms_before nodes (i + 1)) (atoms_before nodes n) count within more long
   where
     by_numbers : (r n k m t : ℕ) → n ≡ t → m ≤ t → m ≡ k + 1 → r ≡ n - k → 0 < r
     by_numbers r n k m t e h f g = omega (arith, e, h, f, g)

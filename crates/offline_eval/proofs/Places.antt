@@ -14,7 +14,7 @@ use Rattle.stl_syntax.specs.declared.atom.Atom.{Atom}
 use Rattle.stl_syntax.specs.declared.node.Node.{Node}
 use Rattle.stl_syntax.specs.declared.node.Node.TheVariants.{Atom as Leaf}
 use Rattle.offline_eval.specs.Forms.{of_knots}
-use Rattle.offline_eval.specs.Inputs.{is_atom, atoms_before, TellAtoms, TellAtomsBelow}
+use Rattle.offline_eval.specs.Inputs.{is_atom, atoms_before, TellAtomsBelow}
 use Rattle.offline_eval.specs.Making.{AreSound, IsSound, TellsValue}
 use Rattle.offline_eval.specs.Places.{TakesOwn}
 
@@ -78,10 +78,10 @@ module _ {P : Type 0} (shape : ShapeOf P) where
   -- the signal that an atom takes tells the atom
   pub atom_told : {x : List (Knot P)} {new : List (List (Knot P))} (nodes : List Node) (i : ℕ) (a : Atom) (old all : List (List (Knot P))) (s : Setting)
       → slice_get nodes i ≡ Some (Leaf a) → subformula nodes i ≡ tree_of (subformula nodes) i (Leaf a)
-      → old ≡ x ∷ new → old ≡ drop (atoms_before nodes i) all → TellAtoms shape nodes all s
+      → old ≡ x ∷ new → old ≡ drop (atoms_before nodes i) all → TellAtomsBelow shape (i + 1) nodes all s
       → TellsValue (of_knots shape) s (subformula nodes i) x
   atom_told {x} {new} nodes i a old all s at tree e left told =
-      let o = told i a (slice_get_within nodes i (Leaf a) at) at in
+      let o = told i a (omega arith) at in
       let here = (drop_at all (atoms_before nodes i) x new (sym e ∙ left)).0 in
       let same : o.0 ≡ x = same_Some _ _ (sym o.1 ∙ here) in
       subst (λ f. TellsValue (of_knots shape) s f x) (sym tree) (subst (TellsValue (of_knots shape) s (atom i a)) same o.2)

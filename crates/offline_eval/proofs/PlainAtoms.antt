@@ -50,7 +50,7 @@ module _ {P : Type 0} (shape : ShapeOf P) (nodes : List Node) (from to : ℕ) (a
   -- the signal of an atom
   its_signal : (i : ℕ) (a : Atom) → slice_get nodes i ≡ Some (Leaf a) → (x : List (Knot P)) × (slice_get atoms (atoms_before nodes i) ≡ Some x)
   its_signal i a at =
-      let left = some_left nodes atoms (drop (atoms_before nodes i) atoms) i a count refl at in
+      let left = some_left nodes atoms (drop (atoms_before nodes i) atoms) i (length nodes) a (slice_get_within nodes i (Leaf a) at) count refl at in
       slice_get_there atoms (atoms_before nodes i) (omega (arith, left, length-drop (atoms_before nodes i) atoms))
 
   -- each atom's signal tells its own plain knots

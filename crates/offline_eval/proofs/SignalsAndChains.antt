@@ -1,7 +1,8 @@
 -- The chain of a signal, and the signal of a chain: the one tells what the other does.
-use Rattle.std.proofs.Common.{◌≡◌, ℕ, ◌<◌, List, [], ◌∷◌, ◌++◌, length, Some, true, false, inl, inr, ap, sym, ◌∙◌, subst, arith}
+use Rattle.std.proofs.Common.{◌≡◌, ℕ, ◌+◌, ◌-◌, ◌<◌, List, [], ◌∷◌, ◌++◌, length, Some, true, false, inl, inr, ap, sym, ◌∙◌, subst, arith}
 use Rattle.std.specs.Prelude.{slice_get}
 use Rattle.std.proofs.lemmas.Bool.{false≢true}
+use Rattle.std.proofs.lemmas.List.{length-append}
 use Rattle.std.proofs.lemmas.Option.{same_Some, slice_get_within}
 use Rattle.rational.specs.Time.{Rational}
 use Rattle.rational.specs.Places.{Place}
@@ -21,7 +22,7 @@ use Rattle.stl_syntax.specs.SupInf.{Setting, SupInf}
 use Rattle.stl_syntax.specs.declared.node.Node.{Node}
 use Rattle.offline_eval.specs.Forms.{of_knots, of_pieces}
 use Rattle.offline_eval.specs.Evaluation.{AreSignalsOf, IsSignalOf, TellNodes}
-use Rattle.offline_eval.specs.Making.{IsSound}
+use Rattle.offline_eval.specs.Making.{IsSound, TellAt}
 use Rattle.offline_eval.proofs.Along.{tells_along}
 use Rattle.offline_eval.proofs.Forms.{knots_laws, pieces_laws}
 use Rattle.offline_eval.proofs.Pointwise.{value_of}
@@ -59,6 +60,27 @@ module _ {P : Type 0} (shape : ShapeOf P) where
       let within = slice_get_within cs i c at in
       let (x, there) = slice_get_there xs i (let e = are.count in omega (arith, within, e)) in
       (x, there, signal_tells (SupInf (subformula nodes i) s) s.from s.to c x tells (are.each i c x at there))
+
+  -- so do the signals of the chains of all nodes but the last, with one more that tells the last
+  pub signals_tell_under : {ys : List (List (Knot P))} (nodes : List Node) (s : Setting) (cs : List (Chain P)) (xs : List (List (Knot P))) (y : List (Knot P))
+      → length cs + 1 ≡ length nodes → ys ≡ xs ++ y ∷ [] → AreSignalsOf shape cs xs → TellAt (of_pieces shape) s (subformula nodes) cs
+      → moves.Tells shape (SupInf (subformula nodes (length nodes - 1)) s) s.from s.to y → TellNodes (of_knots shape) nodes ys s
+  signals_tell_under {ys} nodes s cs xs y count pushed are told last i inside =
+      let long = are.count in
+      let all : length ys ≡ length nodes = ap length pushed ∙ length-append xs (y ∷ []) ∙ ap (λ n. n + 1) long ∙ count in
+      let (x, there) = slice_get_there ys i (omega (arith, inside, all)) in (
+        x,
+        there,
+        elim (slice_get-push_cases xs y i x (subst (λ l. slice_get l i ≡ Some x) pushed there)) [
+          | inl h ↦ (
+              let (c, at) = slice_get_there cs i (let within = slice_get_within xs i x h in omega (arith, within, long)) in
+              signal_tells (SupInf (subformula nodes i) s) s.from s.to c x (told i c at) (are.each i c x at h))
+          | inr (e, f) ↦ (
+              let place : length nodes - 1 ≡ i = omega (arith, e, long, count) in
+              subst (λ k. moves.Tells shape (SupInf (subformula nodes k) s) s.from s.to x) place
+              (subst (moves.Tells shape (SupInf (subformula nodes (length nodes - 1)) s) s.from s.to) (sym f) last))
+        ],
+      )
 
   -- one signal more, of the chain at its place
   pub pushed_signal : (cs : List (Chain P)) (xs ys : List (List (Knot P))) (k : ℕ) (c : Chain P) (x : List (Knot P)) → length xs ≡ k → ys ≡ xs ++ x ∷ []

@@ -9,7 +9,7 @@ use Rattle.stl_syntax.specs.Limits.{own_reach}
 use Rattle.stl_syntax.specs.SupInf.{Setting}
 use Rattle.stl_syntax.specs.declared.node.Node.{Node}
 use Rattle.offline_eval.specs.Forms.{of_pieces}
-use Rattle.offline_eval.specs.Inputs.{atoms_before, IsOver, TellAtoms}
+use Rattle.offline_eval.specs.Inputs.{atoms_before, IsOver, TellAtomsBelow}
 use Rattle.offline_eval.specs.Making.{AreSound, IsSound, TellAt, TellsValue, IsFaultOf}
 
 -- what the first nodes add to the reach
@@ -31,11 +31,11 @@ abbrev pub AgreeAt : List Node → ℕ → (ℕ → Subformula) → Type 0
 AgreeAt nodes i at = (n : Node) → slice_get nodes i ≡ Some n → tree_of at i n ≡ tree_of (subformula nodes) i n
 
 module _ {P : Type 0} (shape : ShapeOf P) where
-  -- where the atoms' signals tell the atoms, and the chains of its children tell their nodes, the new chain tells its node
+  -- where the atoms' signals tell the atoms up to this place, and the chains of its children tell their nodes, the new chain tells its node
   abbrev pub TellsPlace : ℕ → ℕ → List Node → ℕ → List (List (Knot P)) → List (Chain P) → Chain P → Type 0
   TellsPlace from to nodes i left xs r =
       (s : Setting) (at : ℕ → Subformula) (all : List (List (Knot P))) → IsOver shape.lowest shape.highest from to s
-      → left ≡ drop (atoms_before nodes i) all → TellAtoms shape nodes all s
+      → left ≡ drop (atoms_before nodes i) all → TellAtomsBelow shape (i + 1) nodes all s
       → AgreeAt nodes i at → TellAt (of_pieces shape) s at xs → TellsValue (of_pieces shape) s (subformula nodes i) r
 
   -- there a fault is one of its node

@@ -4,9 +4,10 @@ ghost use Rattle.stl_syntax.specs.SupInf.{Setting};
 ghost use Rattle.stl_syntax.specs.declared.atom.Atom.{Atom};
 ghost use Rattle.stl_syntax.specs.declared.node.Node.TheVariants.{Atom as Leaf};
 ghost use Rattle.offline_eval.specs.Forms.{of_knots, of_pieces};
-ghost use Rattle.offline_eval.specs.Inputs.{atoms_before, IsInput, IsOver, TellAtoms};
+ghost use Rattle.offline_eval.specs.Inputs.{atoms_before, IsInput, IsOver, TellAtoms, TellAtomsBelow};
 ghost use Rattle.offline_eval.specs.Evaluation.{AreClosed, AreSignalsOf, IsFault, TellNodes};
-ghost use Rattle.offline_eval.specs.Making.{AreSound, fault_at};
+ghost use Rattle.offline_eval.specs.Making.{AreSound, TellAt, fault_at};
+ghost use Rattle.stl_syntax.specs.Formula.{subformula};
 ghost use Rattle.offline_eval.specs.Places.{FaultOfPlace, PlaceStaysSound, TakesOwn, TellsPlace};
 
 use crate::nodes::of_node;
@@ -111,6 +112,46 @@ pub(crate) fn at_node<P>(node: u32, fault: OpFault<P>) -> EvalFault<P>
     }
 }
 
+/// The chain of each of the first `count` nodes of the formula, over the domain from `from` to `to`, both in ticks. There is a signal for
+/// each atom among them.
+pub(crate) fn first_chains<P: Shape>(
+    alloc: Global,
+    formula: &Formula,
+    count: u32,
+    from: u32,
+    to: u32,
+    atoms: Atoms<P>,
+) -> Result<Chains<P>, EvalFault<P>>
+    requires order { from ≤ to }
+    requires within { count ≤ length formula.now.nodes }
+    requires count { length atoms ≡ atoms_before formula.now.nodes count }
+    requires inputs { All (IsInput (of_knots P.Shape) from to) atoms }
+    ensures count { IfOk result (λ r. length r ≡ count) }
+    ensures sound { IfOk result (AreSound (of_pieces P.Shape) from to 4294967295) }
+    ensures told { IfOk result (λ r. (s : Setting) → IsOver P.lowest P.highest from to s
+        → TellAtomsBelow P.Shape count formula.now.nodes atoms s → TellAt (of_pieces P.Shape) s (subformula formula.now.nodes) r) }
+    ensures wide { IfErr result (λ e. (s : Setting) → IsOver P.lowest P.highest from to s
+        → TellAtomsBelow P.Shape count formula.now.nodes atoms s → IsFault P.Shape formula.now.nodes s e) }
+{
+    // For the proof alone: that the formula is well formed is a clause of `len`.
+    let _ = formula.len();
+    let mut rest = atoms;
+    let Ok(mut done) = Vec::with_capacity(alloc, count as usize) else {
+        return Err(EvalFault::Memory);
+    };
+    for i in 0..count {
+        match next_chain(alloc, formula, i, from, to, &done, &mut rest) {
+            Ok(chain) => {
+                if done.push(chain).is_err() {
+                    return Err(EvalFault::Memory);
+                }
+            }
+            Err(fault) => return Err(at_node(i, fault)),
+        }
+    }
+    Ok(Chains { all: done })
+}
+
 /// The chain of each node of the formula, over the domain from `from` to `to`, both in ticks: what `eval` tells by signals.
 ///
 /// # Errors
@@ -137,20 +178,5 @@ pub fn eval_chains<P: Shape, L: Ledger>(
     ensures steps { steps.new ≡ steps.old + 1 }
 {
     steps.tick();
-    let mut rest = atoms;
-    let count = formula.len();
-    let Ok(mut done) = Vec::with_capacity(alloc, count as usize) else {
-        return Err(EvalFault::Memory);
-    };
-    for i in 0..count {
-        match next_chain(alloc, formula, i, from, to, &done, &mut rest) {
-            Ok(chain) => {
-                if done.push(chain).is_err() {
-                    return Err(EvalFault::Memory);
-                }
-            }
-            Err(fault) => return Err(at_node(i, fault)),
-        }
-    }
-    Ok(Chains { all: done })
+    first_chains(alloc, formula, formula.len(), from, to, atoms)
 }

@@ -1,11 +1,13 @@
 //! The evaluation of a formula by signals. It goes by way of chains of pieces, one for each node.
 ghost use Rattle.std.specs.Prelude.{◌≡◌, ◌+◌, ◌-◌, ◌<◌, ◌≤◌, All, Some, slice_get, length, IfOk, IfErr};
-ghost use Rattle.stl_syntax.specs.SupInf.{Setting};
+ghost use Rattle.pl_signal.specs.Moves.{Tells};
+ghost use Rattle.stl_syntax.specs.Formula.{subformula};
+ghost use Rattle.stl_syntax.specs.SupInf.{Setting, SupInf};
 ghost use Rattle.offline_eval.specs.Forms.{of_knots};
-ghost use Rattle.offline_eval.specs.Inputs.{atoms_before, IsInput, IsOver, TellAtoms};
+ghost use Rattle.offline_eval.specs.Inputs.{atoms_before, IsInput, IsOver, TellAtoms, TellAtomsBelow};
 ghost use Rattle.offline_eval.specs.Evaluation.{IsFault, TellNodes};
 
-use crate::chains::{eval_chains, signals_of};
+use crate::chains::{eval_chains, first_chains, signals_of};
 use crate::{Atoms, EvalFault};
 use frac128::Steps;
 use pl_signal::Signal;
@@ -83,6 +85,48 @@ pub fn eval<P: Shape, L: Ledger>(
     match eval_chains(alloc, formula, from, to, atoms, steps) {
         Ok(chains) => {
             let signals = signals_of(alloc, chains.list())?;
+            Ok(Evaluated { signals })
+        }
+        Err(fault) => Err(fault),
+    }
+}
+
+/// The signal of each node of the formula, as `eval` tells it, where that of the root stands already: `root`. Only the atoms below the root
+/// need a signal, and the root's own step is not made.
+///
+/// # Errors
+///
+/// `Wide` at a node with a pair that is in play there and needs a denominator of 2^60 or more, never for truth and three-valued
+/// truth; `Memory` where memory is wanting.
+pub fn eval_under<P: Shape, L: Ledger>(
+    alloc: Global,
+    formula: &Formula,
+    from: u32,
+    to: u32,
+    atoms: Atoms<P>,
+    root: Signal<P>,
+    steps: &mut Steps<L>,
+) -> Result<Evaluated<P>, EvalFault<P>>
+    requires order { from ≤ to }
+    requires count { length atoms ≡ atoms_before formula.now.nodes (length formula.now.nodes - 1) }
+    requires inputs { All (IsInput (of_knots P.Shape) from to) atoms }
+    ensures count { IfOk result (λ r. length r ≡ length formula.now.nodes) }
+    ensures root { IfOk result (λ r. slice_get r (length formula.now.nodes - 1) ≡ Some root) }
+    ensures told { IfOk result (λ r. (s : Setting) → IsOver P.lowest P.highest from to s
+        → TellAtomsBelow P.Shape (length formula.now.nodes - 1) formula.now.nodes atoms s
+        → Tells P.Shape (SupInf (subformula formula.now.nodes (length formula.now.nodes - 1)) s) s.from s.to root
+        → TellNodes (of_knots P.Shape) formula.now.nodes r s) }
+    ensures wide { IfErr result (λ e. (s : Setting) → IsOver P.lowest P.highest from to s
+        → TellAtomsBelow P.Shape (length formula.now.nodes - 1) formula.now.nodes atoms s → IsFault P.Shape formula.now.nodes s e) }
+    ensures steps { steps.new ≡ steps.old + 1 }
+{
+    steps.tick();
+    match first_chains(alloc, formula, formula.len() - 1, from, to, atoms) {
+        Ok(chains) => {
+            let mut signals = signals_of(alloc, chains.list())?;
+            if signals.push(root).is_err() {
+                return Err(EvalFault::Memory);
+            }
             Ok(Evaluated { signals })
         }
         Err(fault) => Err(fault),

@@ -14,7 +14,7 @@ mod windows;
 
 pub use atoms::Atoms;
 pub use chains::{Chains, eval_chains};
-pub use evaluation::{Evaluated, eval};
+pub use evaluation::{Evaluated, eval, eval_under};
 pub use faults::{EvalFault, WideCause};
 pub use nodes::of_node;
 pub use root::Stack;

@@ -1,78 +1,30 @@
-use Rattle.std.proofs.Common.{rules, ◌≡◌, ℕ, ◌<◌, sym, ap, subst, refl, [], ◌∷◌, ◌++◌, length, Some, arith}
-use Rattle.std.specs.Prelude.{slice_get}
-use Rattle.offline_eval.specs.Inputs.{atoms_before}
-use Rattle.stl_syntax.specs.Formula.{subformula}
-use Rattle.offline_eval.specs.Making.{AreSound, TellAt}
-use Rattle.offline_eval.specs.Evaluation.{IsFault}
-use Rattle.offline_eval.specs.Places.{reach_before}
-use Rattle.offline_eval.proofs.NextNode.{pushed_count, some_left, left_sound, all_more, reach_within, all_pushed, told_pushed, all_told, fault_is}
-use Rattle.offline_eval.specs.Forms.{of_knots, of_pieces}
+use Rattle.std.proofs.Common.{◌∙◌, sym, ap, subst}
+use Rattle.std.specs.Prelude.{Result, Ok, Err, IfOk}
+use Rattle.std.proofs.lemmas.Result.{IfOk-weaker, IfErr-weaker}
+use Rattle.offline_eval.specs.Inputs.{atoms_before, TellAtomsBelow}
+use Rattle.offline_eval.specs.Forms.{of_pieces}
+use Rattle.offline_eval.proofs.NextNode.{all_told}
 use Rattle.offline_eval.proofs.chains.eval_chains.Goals as goal
 
-pub next_chain-requires-clause-left : goal.next_chain-requires-clause-left
-next_chain-requires-clause-left g c a at =
-    some_left c.args.formula.now.nodes c.args.atoms c.loop-i.rest c.loop-i.i a c.requires.count c.loop-i.invariant.rest at
+pub first_chains-requires-clause-count : goal.first_chains-requires-clause-count
+first_chains-requires-clause-count g c = c.requires.count ∙ ap (atoms_before c.args.formula.now.nodes) (sym c.len.ensures.count)
 
-pub next_chain-requires-clause-inputs : goal.next_chain-requires-clause-inputs
-next_chain-requires-clause-inputs g c = left_sound (of_knots g.P.Shape) c.args.from c.args.to c.args.atoms c.loop-i.rest
-    (atoms_before c.args.formula.now.nodes c.loop-i.i) c.requires.inputs c.loop-i.invariant.rest
-
-pub next_chain-requires-clause-sound : goal.next_chain-requires-clause-sound
-next_chain-requires-clause-sound g c =
-    subst (AreSound (of_pieces g.P.Shape) c.args.from c.args.to 4294967295) (sym c.deref.ensures.value)
-    (all_more (of_pieces g.P.Shape) c.args.from c.args.to (reach_before c.args.formula.now.nodes c.loop-i.i) 4294967295 c.loop-i.done.items
-    (reach_within c.args.formula.now.nodes c.loop-i.i c.len-count.ensures.well_formed.nodes.reach) c.loop-i.invariant.sound)
-
-pub loop-i-init : goal.loop-i-init
-loop-i-init g c = record {
-  count = ap length c.in-Ok.ensures.items;
-  rest = refl;
-  sound = λ k x at. absurd (none k x (subst (λ xs. slice_get xs k ≡ Some x) c.in-Ok.ensures.items at));
-  told = λ s over atoms k x at. absurd (none k x (subst (λ xs. slice_get xs k ≡ Some x) c.in-Ok.ensures.items at));
-}
-  where
-    none : {X : Type 0} (k : ℕ) (x : X) → slice_get [] k ≡ Some x → ⊥
-    none k x e = cc
-
-pub loop-i-preserved : goal.loop-i-preserved
-loop-i-preserved g c =
-    let nodes = c.args.formula.now.nodes in
-    let pushed : c.push.new.self.items ≡ c.loop-i.done.items ++ c.in-Ok-next_chain.chain ∷ [] =
-    search (rules, c.push.ensures.items, c.if-is_err.false, c.is_err.ensures) in
-    let count = c.loop-i.invariant.count in
-    let inside : c.loop-i.i < length nodes = let t = c.loop-i-test.true in let e = c.len-count.ensures.count in omega arith in
-    let before = subst (λ xs. AreSound (of_pieces g.P.Shape) c.args.from c.args.to (reach_before nodes c.loop-i.i) xs)
-    (sym c.deref.ensures.value) c.loop-i.invariant.sound in
-    record {
-      count = pushed_count c.loop-i.done.items c.push.new.self.items c.in-Ok-next_chain.chain c.loop-i.i count pushed;
-      rest = c.in-Ok-next_chain.ensures.rest c.args.atoms c.loop-i.invariant.rest;
-      sound = all_pushed (of_pieces g.P.Shape) c.args.from c.args.to nodes c.loop-i.i c.loop-i.done.items c.push.new.self.items c.in-Ok-next_chain.chain inside
-          pushed c.loop-i.invariant.sound (c.in-Ok-next_chain.ensures.sound before);
-      told = λ s over atoms.
-          let before_told = subst (TellAt (of_pieces g.P.Shape) s (subformula nodes)) (sym c.deref.ensures.value) (c.loop-i.invariant.told s over atoms) in
-          told_pushed (of_pieces g.P.Shape) nodes s c.loop-i.i c.loop-i.done.items c.in-Ok-next_chain.chain count pushed
-          (c.loop-i.invariant.told s over atoms)
-          (c.in-Ok-next_chain.ensures.told s (subformula nodes) c.args.atoms over c.loop-i.invariant.rest atoms (λ n e. refl) before_told);
-    }
-
-pub returns-in-Err-clause-wide : goal.returns-in-Err-clause-wide
-returns-in-Err-clause-wide g c s over atoms =
-    let nodes = c.args.formula.now.nodes in
-    let inside : c.loop-i.i < length nodes = let t = c.loop-i-test.true in let e = c.len-count.ensures.count in omega arith in
-    let before_told = subst (TellAt (of_pieces g.P.Shape) s (subformula nodes)) (sym c.deref.ensures.value) (c.loop-i.invariant.told s over atoms) in
-    subst (IsFault g.P.Shape nodes s) (sym c.at_node.ensures)
-    (fault_is g.P.Shape nodes s c.loop-i.i c.in-Err.fault inside (c.in-Err.ensures.wide s (subformula nodes) over (λ n e. refl) before_told))
+both : {A E : Type 0} (r : Result A E) (P Q R : A → Type 0) → ((x : A) → P x → Q x → R x) → IfOk r P → IfOk r Q → IfOk r R
+both (Ok x) P Q R f p q = f x p q
+both (Err e) P Q R f p q = tt
 
 pub returns : goal.returns
 returns g c =
     let nodes = c.args.formula.now.nodes in
-    let count : length c.loop-i.done.items ≡ length nodes = let t = c.loop-i-test.false in let e = c.len-count.ensures.count in let m =
-    c.loop-i.auto.i-end in let n = c.loop-i.invariant.count in omega arith in
+    let same = c.len.ensures.count in
     record {
-      count = count;
-      sound = all_more (of_pieces g.P.Shape) c.args.from c.args.to (reach_before nodes c.loop-i.i) 4294967295 c.loop-i.done.items
-          (reach_within nodes c.loop-i.i c.len-count.ensures.well_formed.nodes.reach) c.loop-i.invariant.sound;
-      told = λ s over atoms. all_told (of_pieces g.P.Shape) nodes s c.loop-i.done.items count (c.loop-i.invariant.told s over atoms);
-      wide = tt;
+      count = IfOk-weaker c.first_chains.result _ _ (λ r h. h ∙ same) c.first_chains.ensures.count;
+      sound = c.first_chains.ensures.sound;
+      told = both c.first_chains.result _ _ _
+          (λ r count told s over atoms. all_told (of_pieces g.P.Shape) nodes s r (count ∙ same)
+          (told s over (subst (λ n. TellAtomsBelow g.P.Shape n nodes c.args.atoms s) (sym same) atoms)))
+          c.first_chains.ensures.count c.first_chains.ensures.told;
+      wide = IfErr-weaker c.first_chains.result _ _
+          (λ e h s over atoms. h s over (subst (λ n. TellAtomsBelow g.P.Shape n nodes c.args.atoms s) (sym same) atoms)) c.first_chains.ensures.wide;
       steps = c.tick.ensures;
     }
