@@ -6,45 +6,40 @@ use Rattle.std.proofs.lemmas.Bool.{false≢true}
 use Rattle.std.proofs.lemmas.List.{length-drop, nil_from_length}
 use Rattle.std.proofs.lemmas.Option.{none-some, slice_get_within}
 use Rattle.rational.specs.Rational.{IsWithin}
-use Rattle.rational.specs.Time.{Rational, ◌<ʳ◌, add, whole}
+use Rattle.rational.specs.Time.{Rational}
 use Rattle.rational.specs.Extended.{Extended, value_at, ◌≈ᵉ◌}
 use Rattle.rational.specs.Affine.{HasBoundedLevel, IsSteady}
-use Rattle.rational.specs.InPlay.{IsBreakpoint}
 use Rattle.rational.specs.Places.{Place, After, AtMost, Before, Upto}
 use Rattle.rational.proofs.Lists.{drop_none, slice_get-append_here, slice_get-append_left, slice_get-drop, slice_get-push_cases, slice_get_there}
 use Rattle.rational.proofs.Mixed.{within_between}
 use Rattle.rational.proofs.Order.{lt_of_le_of_lt, same_refl}
-use Rattle.rational.proofs.Sames.{symᵉ, transᵉ}
-use Rattle.rational.proofs.PlaceLemmas.{after_at_most, before_of_at_most, before_through, before_trans, between, le_of_at_most, not_both, sides}
+use Rattle.rational.proofs.Sames.{symᵉ}
+use Rattle.rational.proofs.PlaceLemmas.{after_at_most, before_of_at_most, before_trans, le_of_at_most, not_both}
 use Rattle.frac128.specs.Cuts.{place}
 use Rattle.frac128.specs.declared.cut.Cut.{Cut}
 use Rattle.value_laws.specs.Members.{ShapeOf, ShapeLaws}
 use Rattle.window_extrema.specs.Range.{IsGreatestOf, Range}
 use Rattle.pl_signal.specs.declared.joining.Side.{Side}
 use Rattle.pl_signal.proofs.Values.{some_is}
-use Rattle.pieces.specs.declared.piece.Piece.{Piece}
 use Rattle.pieces.specs.declared.reach.Way.{Way}
 use Rattle.pieces.specs.declared.sliding.Sliding.{Sliding}
 use Rattle.pieces.specs.declared.steps.Step.{Step}
 use Rattle.pieces.specs.Best.{IsNoWorse}
 use Rattle.pieces.specs.Building.{GoesOn}
-use Rattle.pieces.specs.Chains.{Chain, HasShape, IsNormal, IsWorth, Rise, end, stop}
+use Rattle.pieces.specs.Chains.{Chain, Rise, stop}
 use Rattle.pieces.specs.Constants.{AreAsked, AreConstantSteps, CountsAll, HasAbove, HasSettled, IsConstantStep, IsCounted, IsFirstBest}
 use Rattle.pieces.specs.Levels.{IsTurned}
 use Rattle.pieces.specs.Over.{IsMovedTo}
 use Rattle.pieces.specs.Sliding.{last_end}
 use Rattle.pieces.specs.Steps.{AreSteps, IsOther, step_end, steps_end}
-use Rattle.pieces.specs.Windows.{Best, BestTo, CanSlide, HasEntered, IsLeft, IsNonEmpty, IsPieceFrom, Sees}
+use Rattle.pieces.specs.Windows.{Best, BestTo, CanSlide}
 use Rattle.pieces.proofs.Bests.{best_value, nw_same, nw_trans}
-use Rattle.pieces.proofs.CountsInPlay.{steady_plays}
 use Rattle.pieces.proofs.Ends.{at_most_itself, at_most_of_before, at_most_trans}
 use Rattle.pieces.proofs.LevelsLemmas.{below_or_not, turned_no_worse}
 use Rattle.pieces.proofs.OverWindow.{best_is_function}
-use Rattle.pieces.proofs.SeenBest.{earlier_place, floor, high, later_place, low, none, none_seen}
+use Rattle.pieces.proofs.SeenBest.{floor, high, low, none, none_seen}
 use Rattle.pieces.proofs.StepLemmas.{to_end}
-use Rattle.pieces.proofs.WindowEnds.{room_in}
 use Rattle.pieces.proofs.WindowGoesOn.{of_best, to_best}
-use Rattle.pieces.proofs.ChainLemmas.{worth_same}
 
 module _ {P : Type 0} (shape : ShapeOf P) (side : Side) where
   -- each step ends behind where the steps begin

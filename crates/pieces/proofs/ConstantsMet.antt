@@ -1,8 +1,7 @@
 -- A window that has met constants alone takes one more up, or counts the one at hand further; and it tells the best of those that count.
-use Rattle.std.proofs.Common.{◌≡◌, ◌⊎◌, inl, inr, ℕ, suc, ◌^◌, ◌<◌, ◌≤◌, ◌+◌, ◌-◌, List, [], ◌∷◌, ◌++◌, drop, length, Option, None, Some}
-use Rattle.std.proofs.Common.{refl, sym, ◌∙◌, subst, ap, arith, length-append}
+use Rattle.std.proofs.Common.{◌≡◌, ◌⊎◌, inl, inr, ℕ, ◌^◌, ◌≤◌, ◌+◌, ◌-◌, List, [], ◌∷◌, ◌++◌, length, Some}
+use Rattle.std.proofs.Common.{sym, ◌∙◌, subst, arith, length-append}
 use Rattle.std.specs.Prelude.{slice_get}
-use Rattle.rational.specs.Rational.{IsWithin}
 use Rattle.rational.specs.Time.{Rational, add, whole}
 use Rattle.rational.specs.Extended.{Extended, value_at, ◌≈ᵉ◌}
 use Rattle.rational.specs.Affine.{IsSteady}
@@ -14,7 +13,6 @@ use Rattle.rational.proofs.Order.{same_refl}
 use Rattle.rational.proofs.Sames.{symᵉ, transᵉ}
 use Rattle.rational.proofs.PlaceLemmas.{after_at_most, before_through, before_trans, between, sides, upto_of_before}
 use Rattle.frac128.specs.Cuts.{place}
-use Rattle.frac128.specs.declared.cut.Cut.{Cut}
 use Rattle.value_laws.specs.Members.{ShapeOf, ShapeLaws}
 use Rattle.pieces.specs.declared.piece.Piece.{Piece}
 use Rattle.pieces.specs.declared.reach.Way.{Way}
@@ -25,7 +23,7 @@ use Rattle.pieces.specs.Chains.{Chain, HasShape, IsNormal, IsWorth, end, stop}
 use Rattle.pieces.specs.Constants.{AreConstantSteps, CountsAll, Fits, HasAbove, HasSettled, IsConstantStep, IsCounted}
 use Rattle.pieces.specs.Steps.{AreSteps, IsOther, IsStep, step_end, steps_end}
 use Rattle.pieces.specs.Sliding.{last_end}
-use Rattle.pieces.specs.Windows.{Best, CanSlide, HasEntered, IsNonEmpty, IsPieceFrom}
+use Rattle.pieces.specs.Windows.{CanSlide, HasEntered, IsNonEmpty, IsPieceFrom}
 use Rattle.pieces.proofs.Bests.{nw_same}
 use Rattle.pieces.proofs.ChainLemmas.{worth_same}
 use Rattle.pieces.proofs.ChainsTell.{rising_is_function}

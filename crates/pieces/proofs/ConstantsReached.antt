@@ -1,5 +1,5 @@
 -- A window that has met constants alone tells up to where it reaches past them, and takes a constant up by its value under the high end.
-use Rattle.std.proofs.Common.{◌≡◌, ◌^◌, inl, inr, refl, sym, subst, IsTrue, None}
+use Rattle.std.proofs.Common.{◌≡◌, ◌^◌, inl, inr, refl, IsTrue, None}
 use Rattle.std.specs.Prelude.{◌-ℤ◌}
 use Rattle.rational.specs.Time.{add, whole}
 use Rattle.rational.specs.Time.{Rational}

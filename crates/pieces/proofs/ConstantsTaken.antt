@@ -1,15 +1,15 @@
 -- A window that has met constants alone has the next one at hand, or has counted the one at hand further; and its constants become steps.
-use Rattle.std.proofs.Common.{◌≡◌, ◌⊎◌, inl, inr, ℕ, zero, suc, ◌^◌, ◌<◌, ◌≤◌, ◌+◌, ◌-◌, List, [], ◌∷◌, ◌++◌, drop, length, None, Some}
+use Rattle.std.proofs.Common.{◌≡◌, ◌⊎◌, inl, inr, ℕ, zero, suc, ◌<◌, ◌≤◌, ◌+◌, List, [], ◌∷◌, ◌++◌, drop, length, Some}
 use Rattle.std.proofs.Common.{refl, sym, ◌∙◌, subst, ap, arith, length-append}
 use Rattle.std.specs.Prelude.{slice_get}
 use Rattle.std.proofs.lemmas.List.{length-drop}
 use Rattle.std.proofs.lemmas.Option.{none-some, slice_get_within}
-use Rattle.rational.specs.Time.{Rational, ◌<ʳ◌, add, whole}
-use Rattle.rational.specs.Extended.{Extended, value_at, ◌≈ᵉ◌}
+use Rattle.rational.specs.Time.{Rational}
+use Rattle.rational.specs.Extended.{value_at, ◌≈ᵉ◌}
 use Rattle.rational.specs.Places.{Place, After, AtMost, Before, Same, Upto}
 use Rattle.rational.proofs.Lists.{drop_none, slice_get-append_here, slice_get-append_left, slice_get-push_cases, slice_get_there}
 use Rattle.rational.proofs.Sames.{symᵉ, transᵉ}
-use Rattle.rational.proofs.PlaceLemmas.{after_at_most, at_most_of_not_before, before_at_most, before_of_at_most, before_trans, not_both, same_places, upto_same}
+use Rattle.rational.proofs.PlaceLemmas.{after_at_most, at_most_of_not_before, before_trans, not_both, same_places, upto_same}
 use Rattle.frac128.specs.Cuts.{place}
 use Rattle.frac128.specs.declared.cut.Cut.{Cut}
 use Rattle.value_laws.specs.Members.{ShapeOf, ShapeLaws}
@@ -21,7 +21,7 @@ use Rattle.pieces.specs.declared.sliding.Sliding.{Sliding}
 use Rattle.pieces.specs.declared.steps.Step.{Step}
 use Rattle.pieces.specs.Best.{IsNoWorse}
 use Rattle.pieces.specs.Chains.{Chain, end, stop}
-use Rattle.pieces.specs.Constants.{AreConstantSteps, CountsAll, Fits, GivesFirst, HasReached, HasSettled, IsConstantStep, IsFirstBest}
+use Rattle.pieces.specs.Constants.{AreConstantSteps, CountsAll, Fits, GivesFirst, HasReached, HasSettled, IsFirstBest}
 use Rattle.pieces.specs.ConstantsMet.{GoesOnConstant, HasReachedPast, IsLeftOver, TakesUp}
 use Rattle.pieces.specs.Sliding.{last_end}
 use Rattle.pieces.specs.Steps.{AreSteps, CountsInside, HasCounted, IsOfSteps, StepsGive, step_end, steps_end}
@@ -30,12 +30,11 @@ use Rattle.pieces.specs.Windows.{IsLeft, IsPieceFrom, high_place}
 use Rattle.pieces.proofs.Bests.{nw_refl, nw_same, nw_trans, same_of_nw}
 use Rattle.pieces.proofs.ConstantLemmas.{end_behind, end_dropped, ends_rise, settled_at, settled_first, step_later}
 use Rattle.pieces.proofs.ConstantsMet.{grown, grown_further, grown_pushed, past_more}
-use Rattle.pieces.proofs.Ends.{at_most_itself, at_most_of_before, at_most_of_same}
+use Rattle.pieces.proofs.Ends.{at_most_itself, at_most_of_before}
 use Rattle.pieces.proofs.FollowedConstants.{end_at, last_left}
 use Rattle.pieces.proofs.Hands.{piece_joined}
 use Rattle.pieces.proofs.LevelsLemmas.{below_or_not}
-use Rattle.pieces.proofs.SeenBest.{low}
-use Rattle.pieces.proofs.StepLemmas.{give_upto, steps_end_append, to_end}
+use Rattle.pieces.proofs.StepLemmas.{give_upto, steps_end_append}
 use Rattle.pieces.proofs.StepsToTell.{counted_falls, none_falls}
 
 -- a list has a last item or none

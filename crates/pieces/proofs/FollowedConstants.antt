@@ -1,8 +1,7 @@
 -- A window that has met constants alone, as a stream: how it stands for a chain once it has met more, told more, and made steps of them.
-use Rattle.std.proofs.Common.{◌≡◌, ◌⊎◌, ◌^◌, inl, inr, ℕ, zero, suc, ◌<◌, ◌≤◌, ◌+◌, ◌<ℤ◌, List, [], ◌∷◌, drop, length, Option, None, Some, false}
+use Rattle.std.proofs.Common.{◌≡◌, ◌⊎◌, ◌^◌, inl, inr, ℕ, zero, suc, ◌+◌, ◌<ℤ◌, List, [], ◌∷◌, length, Option, None, Some, false}
 use Rattle.std.proofs.Common.{refl, sym, ◌∙◌, subst, ap, arith}
 use Rattle.std.specs.Prelude.{slice_get, IfSome}
-use Rattle.std.specs.declared.cmp.Ordering.{Ordering}
 use Rattle.std.specs.declared.cmp.Ordering.TheVariants.{Equal, Greater}
 use Rattle.std.proofs.lemmas.Bool.{false≢true}
 use Rattle.std.proofs.lemmas.List.{length-drop}
@@ -19,7 +18,6 @@ use Rattle.rational.proofs.Order.{le_of_same, le_refl, le_trans, not_lt_of_le, s
 use Rattle.rational.proofs.Sames.{symᵉ}
 use Rattle.rational.proofs.PlaceLemmas.{after_at_most, after_same, before_through, le_of_at_most, not_before_itself, not_both, same_before, same_places}
 use Rattle.frac128.specs.Cuts.{place}
-use Rattle.frac128.specs.declared.cut.Cut.{Cut}
 use Rattle.value_laws.specs.Members.{ShapeOf, ShapeLaws}
 use Rattle.window_extrema.specs.Range.{Range}
 use Rattle.pl_signal.specs.declared.joining.Side.{Side}
@@ -31,7 +29,6 @@ use Rattle.pieces.specs.declared.steps.Step.{Step}
 use Rattle.pieces.specs.declared.stream.Stream.{Stream}
 use Rattle.pieces.specs.Best.{none_of}
 use Rattle.pieces.specs.Chains.{Chain, HasShape, IsNormal, IsWorth, Rise, Tells, end, stop}
-use Rattle.pieces.specs.Causes.{HasPassed}
 use Rattle.pieces.specs.Constants.{AreAsked, AreConstantSteps, CountsAll, GivesFirst, HasReached, IsFirstBest}
 use Rattle.pieces.specs.ConstantsMet.{GoesOnConstant, HasConstants, IsLeftOver, TakesUp, TellsBest}
 use Rattle.pieces.specs.Hands.{FirstGives, GoesOnAs}

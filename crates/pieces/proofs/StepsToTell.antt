@@ -2,7 +2,7 @@
 use Rattle.std.proofs.Common.{◌≡◌, ◌⊎◌, ◌<◌, ℕ, inl, inr, false, List, [], ◌∷◌, arith, drop, length, refl, sym, subst, ap, ◌∙◌}
 use Rattle.std.specs.Prelude.{slice_index_or, ◌-ℤ◌, IsTrue}
 use Rattle.std.proofs.lemmas.Bool.{false≢true}
-use Rattle.rational.specs.Time.{Rational, ◌≤ʳ◌, ◌<ʳ◌, add, whole}
+use Rattle.rational.specs.Time.{Rational, ◌≤ʳ◌, add, whole}
 use Rattle.rational.specs.Extended.{Extended, ◌≈ᵉ◌, value_at, Passes}
 use Rattle.rational.specs.Places.{Place, After, Upto, Before, AtMost, Same}
 use Rattle.rational.proofs.Order.{le_or_lt}

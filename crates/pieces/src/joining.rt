@@ -55,7 +55,7 @@ impl<P: Shape> Pieces<P> {
     {
         let from = self.until();
         let taken = takes_first(side, p, q, &from, until);
-        self.put_taken(side, p, q, taken, &from, until, fault)
+        self.put_taken(side, p, q, taken, until, fault)
     }
 
     /// Does what `join` does for a shape that gets no better on the way and one that gets no worse: where the first is no worse at the end,
@@ -86,9 +86,8 @@ impl<P: Shape> Pieces<P> {
         ensures wide { OnErr result (IfSome fault.new
             (λ pair. (from : Time) × (value from ≡ (stop self.old).at) × IsGapFault P.Shape p.now q.now from until.now.time (F.Wide pair))) }
     {
-        let from = self.until();
-        let taken = takes_falling(side, p, q, &from, until);
-        self.put_taken(side, p, q, taken, &from, until, fault)
+        let taken = takes_falling(side, p, q, self.until_in_place(), until);
+        self.put_taken(side, p, q, taken, until, fault)
     }
 
     /// Goes on with the one of the two that is taken, or with both where they cross: `Err` says whether the first is taken before.
@@ -99,14 +98,12 @@ impl<P: Shape> Pieces<P> {
         p: &P,
         q: &P,
         taken: Result<bool, bool>,
-        from: &Cut,
         until: &Cut,
         fault: &mut Option<WidePair<P>>,
     ) -> Result<(), Memory>
-        requires begins { place from.now ≡ stop self.old }
         requires taken { MatchResult taken
-            (λ first. IsTakenOn P.Shape side p.now q.now (place from.now) (place until.now) (if first then p.now else q.now))
-            (IsTurn P.Shape side p.now q.now (value from.now.time) (value until.now.time)) }
+            (λ first. IsTakenOn P.Shape side p.now q.now (stop self.old) (place until.now) (if first then p.now else q.now))
+            (IsTurn P.Shape side p.now q.now (stop self.old).at (value until.now.time)) }
         requires later { Before (stop self.old) (place until.now) }
         requires from_within { IsWithin (2 ^ 34) (stop self.old).at }
         requires to_within { IsWithin (2 ^ 34) (value until.now.time) }
@@ -124,7 +121,10 @@ impl<P: Shape> Pieces<P> {
         match taken {
             Ok(true) => self.put(until, p),
             Ok(false) => self.put(until, q),
-            Err(first) => self.join_crossing(p, q, first, from, until, fault),
+            Err(first) => {
+                let from = self.until();
+                self.join_crossing(p, q, first, &from, until, fault)
+            }
         }
     }
 

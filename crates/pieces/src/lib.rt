@@ -10,6 +10,7 @@ pub mod laws;
 mod levels;
 mod negation;
 mod next;
+mod order;
 mod piece;
 mod pieces;
 mod pointwise;

@@ -144,7 +144,7 @@ impl<P: Shape> Pieces<P> {
 
     /// The same by reference, so that only what is read of the place is loaded.
     #[inline(always)]
-    fn until_in_place(&self) -> &Cut
+    pub(crate) fn until_in_place(&self) -> &Cut
         ensures { place result.now ≡ stop self.now }
     {
         let count = self.items.len();

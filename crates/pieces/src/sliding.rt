@@ -12,6 +12,7 @@ ghost use Rattle.pieces.specs.Steps.{AreSteps, IsLastChoice, IsOfStep, IsStep, s
 ghost use Rattle.pieces.specs.Sliding.{HasTold, IsCrossFault, IsToldFault, IsWritten};
 
 use crate::Pieces;
+use crate::order::order_of;
 use crate::steps::Step;
 use frac128::{Cut, Memory};
 use pl_signal::{Side, WidePair, crossing, favour, keep};
@@ -63,12 +64,16 @@ impl<P: Shape> Sliding<P> {
             let Some(first) = self.steps.front() else {
                 return self.out.put(until, gap);
             };
-            if until.precedes(&first.until) {
+            let order = order_of(until, &first.until);
+            if let Ordering::Less = order {
                 write(side, &mut self.out, first, gap, alone, until, fault)?;
                 return Ok(());
             }
             write(side, &mut self.out, first, gap, alone, &first.until, fault)?;
             let _ = self.steps.pop_front();
+            if let Ordering::Equal = order {
+                return Ok(());
+            }
         }
         Ok(())
     }

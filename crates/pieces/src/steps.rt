@@ -1,5 +1,5 @@
 //! What a window will give, should no more come into it: steps down, of which each counts up to a place.
-ghost use Rattle.std.specs.Prelude.{◌≡◌, ◌<◌, ◌^◌, ◌++◌, ◌∷◌, [], List, OnOk};
+ghost use Rattle.std.specs.Prelude.{◌≡◌, ◌<◌, ◌^◌, ◌++◌, ◌∷◌, ◌↔◌, [], List, IsTrue, OnOk};
 ghost use Rattle.std.specs.VecDeque.{deque_len, deque_capacity};
 ghost use Rattle.rational.specs.Rational.{IsWithin};
 ghost use Rattle.rational.specs.Affine.{HasBoundedLevel};
@@ -49,8 +49,7 @@ pub(crate) fn count<P: Shape>(
         return Err(Memory);
     }
     cap(side, from, steps, constant);
-    let begin = end_of(from, steps);
-    if begin.precedes(until) {
+    if ends_before(from, steps, until) {
         steps.push_back_reserved(Step {
             until: *until,
             shape: *constant,
@@ -149,12 +148,26 @@ fn begin_of_last<'a, P: Shape>(from: &'a Cut, steps: &'a VecDeque<Step<P>>) -> &
 
 /// Where the last of the steps ends; where the first is to begin, as long as there is none.
 #[inline(always)]
-pub(crate) fn end_of<P: Shape>(from: &Cut, steps: &VecDeque<Step<P>>) -> Cut
-    ensures { place result ≡ steps_end (place from.now) steps.now.items }
+pub(crate) fn end_of<'a, P: Shape>(from: &'a Cut, steps: &'a VecDeque<Step<P>>) -> &'a Cut
+    ensures { place result.now ≡ steps_end (place from.now) steps.now.items }
 {
     match steps.back() {
-        Some(last) => last.until,
-        None => *from,
+        Some(last) => &last.until,
+        None => from,
+    }
+}
+
+/// Whether the last of the steps ends before a place, which comes after where the first of them begins.
+#[inline(always)]
+fn ends_before<P: Shape>(from: &Cut, steps: &VecDeque<Step<P>>, until: &Cut) -> bool
+    requires { Before (place from.now) (place until.now) }
+    ensures { IsTrue result ↔ Before (steps_end (place from.now) steps.now.items) (place until.now) }
+{
+    // For the proof alone: where the steps begin.
+    let _ = from;
+    match steps.back() {
+        Some(last) => last.until.precedes(until),
+        None => true,
     }
 }
 

@@ -152,7 +152,30 @@ impl<P: Shape> Stream<P> {
     /// # Errors
     ///
     /// `Memory` where memory is wanting.
+    #[inline(always)]
     fn meets_constant(&mut self, piece: &Piece<P>) -> Result<bool, Memory>
+        requires next { (s : Chain P) × Follows P.Shape s self.old × ComesNext P.Shape s self.old piece.now }
+        ensures met { (s : Chain P) → Follows P.Shape s self.old → ComesNext P.Shape s self.old piece.now
+            → IfOk result (λ is. IsTrue is → Follows P.Shape s self.new) }
+        ensures upto { IfOk result (λ is. IsTrue is → HasToldTo self.old.way (place self.old.met) self.old.sliding self.new.sliding) }
+        ensures end { IfOk result (λ is. IsTrue is → place self.new.met ≡ end piece.now) }
+        ensures from { IfOk result (λ is. IsTrue is → self.new.sliding.out.from ≡ self.old.sliding.out.from) }
+        ensures steps { (s : Chain P) → Follows P.Shape s self.old → ComesNext P.Shape s self.old piece.now
+            → IfOk result (λ is. is ≡ false → FollowsSteps P.Shape s self.new) }
+        ensures range { IfOk result (λ is. is ≡ false → self.new.range ≡ None) }
+        ensures way { IfOk result (λ is. self.new.way ≡ self.old.way) }
+        ensures same { IfOk result (λ is. is ≡ false → self.new.met ≡ self.old.met) }
+        ensures out { IfOk result (λ is. is ≡ false → self.new.sliding.out ≡ self.old.sliding.out) }
+    {
+        if let Some(_) = &self.range {
+            return self.takes_constant(piece);
+        }
+        Ok(false)
+    }
+
+    /// The same, where all pieces were constants: apart, so that a window that meets lines is not slowed by it.
+    #[inline(never)]
+    fn takes_constant(&mut self, piece: &Piece<P>) -> Result<bool, Memory>
         requires next { (s : Chain P) × Follows P.Shape s self.old × ComesNext P.Shape s self.old piece.now }
         ensures met { (s : Chain P) → Follows P.Shape s self.old → ComesNext P.Shape s self.old piece.now
             → IfOk result (λ is. IsTrue is → Follows P.Shape s self.new) }
@@ -172,7 +195,7 @@ impl<P: Shape> Stream<P> {
         if let Some(shape) = continued(&self.piece, &self.met, piece) {
             let whole = Piece {
                 until: piece.until,
-                shape,
+                shape: *shape,
             };
             count_further(&self.way, &self.met, &whole, &mut self.sliding, range)?;
             self.met = piece.until;
@@ -259,7 +282,7 @@ impl<P: Shape> Stream<P> {
         };
         let whole = Piece {
             until: piece.until,
-            shape,
+            shape: *shape,
         };
         lengthen(&self.way, self.trend, &self.met, &whole, &mut self.sliding)?;
         self.met = piece.until;
@@ -562,16 +585,17 @@ fn with_climb<P: Shape>(way: &Way, piece: &Piece<P>, to: &Frac, best: P) -> P
 }
 
 /// The shape at hand, if it goes on as the piece, which comes next.
-fn continued<P: Shape>(hand: &Option<P>, met: &Cut, piece: &Piece<P>) -> Option<P>
+#[inline(always)]
+fn continued<'a, P: Shape>(hand: &'a Option<P>, met: &Cut, piece: &Piece<P>) -> Option<&'a P>
     requires { IsWithin (2 ^ 34) (value_of met.now.time) }
-    ensures some { IfSome result (λ p. (hand.now ≡ Some p) × GoesOnAs P.Shape p (place met.now) piece.now) }
+    ensures some { IfSome result (λ p. (hand.now ≡ Some p.now) × GoesOnAs P.Shape p.now (place met.now) piece.now) }
     ensures none { result ≡ None → (p : P) → hand.now ≡ Some p → ¬ GoesOnAs P.Shape p (place met.now) piece.now }
 {
     let Some(shape) = hand else {
         return None;
     };
     if goes_on(shape, met, piece) {
-        return Some(*shape);
+        return Some(shape);
     }
     None
 }
@@ -611,8 +635,8 @@ fn lengthen<P: Shape>(
         _ => {
             let until = left(way, &piece.until);
             let slope = at_low(&way.over, &piece.shape);
-            let at = window.out.until();
-            slide(way.side, &at, &mut window.steps, &slope, &until)
+            let at = window.out.until_in_place();
+            slide(way.side, at, &mut window.steps, &slope, &until)
         }
     }
 }

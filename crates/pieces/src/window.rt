@@ -19,6 +19,7 @@ ghost use Rattle.pieces.specs.Steps.{AreSteps, FallOff, HideTo, step_end};
 ghost use Rattle.pieces.specs.Windows.{AreNear, Best, BestOver, CanSlide, HasEntered, IsAtEnd, IsBestEnd, IsLeft, IsNonEmpty, IsPieceFrom, IsReached, IsSmall};
 ghost use Rattle.pieces.specs.Windows.{Keeps, Stands, high_place, low_place};
 
+use crate::order::{earlier, precedes};
 use crate::reach::{Reach, Way, at_high, at_low, entering, leaving};
 use crate::sliding::Sliding;
 use crate::steps::{Step, count, slide};
@@ -199,8 +200,11 @@ fn slide_over<P: Shape>(
     ensures bases { OnOk result (BasesOver P.Shape s.now window.old.way.over window.new.sliding.out) }
     ensures wide { OnErr result (IfSome fault.new (IsCauseOver P.Shape s.now window.old.way.over)) }
 {
+    let mut from = &s.from;
     for i in 0..s.len() {
-        window.meet(s.begin(i), s.piece(i), fault)?;
+        let piece = s.piece(i);
+        window.meet(from, piece, fault)?;
+        from = &piece.until;
     }
     window.end(fault)
 }
@@ -284,11 +288,11 @@ fn tell_under<P: Shape>(
     ensures still { IfOk result (λ told. told ≡ false → window.new ≡ window.old) }
     ensures from { IfOk result (λ _. window.new.out.from ≡ window.old.out.from) }
 {
-    let at = window.out.until();
-    let Some(next) = reached(way, &piece.until, &at) else {
+    let at = window.out.until_in_place();
+    let Some(next) = reached(way, &piece.until, at) else {
         return Ok(true);
     };
-    if is_under(way, piece, window, &at, &next) {
+    if is_under(way, piece, window, at, &next) {
         // For the proof alone: a shape that is never better.
         let _ = of_none::<P>(way.side);
         window.tell_first(way.side, &next)?;
@@ -374,10 +378,10 @@ fn meet_falling<P: Shape>(
     ensures wide { (s : Chain P) → Passes P.Shape s way.now (place from.now) piece.now window.old
         → OnErr result (IfSome fault.new (IsCauseBelow P.Shape s way.now.over (stop s).at)) }
 {
-    let at = window.out.until();
-    if is_hidden(way, &at, &window.steps, &piece.shape, &from.time, gone) {
+    let at = window.out.until_in_place();
+    if is_hidden(way, at, &window.steps, &piece.shape, &from.time, gone) {
         let slope = at_low(&way.over, &piece.shape);
-        return slide(way.side, &at, &mut window.steps, &slope, until);
+        return slide(way.side, at, &mut window.steps, &slope, until);
     }
     enter(way, from, window, fault)?;
     falling(way, from, gone, piece, until, window, fault)?;
@@ -427,10 +431,10 @@ pub(crate) fn steady<P: Shape>(
     ensures falls { OnOk result (FallOff P.Shape way.now.side (stop window.new.out) window.new.steps.items) }
     ensures out { window.new.out ≡ window.old.out }
 {
-    let at = window.out.until();
+    let at = window.out.until_in_place();
     if at.precedes(until) {
         let level = at_high(&way.over, &piece.shape);
-        return count(way.side, &at, &mut window.steps, &level, until);
+        return count(way.side, at, &mut window.steps, &level, until);
     }
     Ok(())
 }
@@ -493,8 +497,8 @@ pub(crate) fn falling<P: Shape>(
 {
     hold(way, piece, from, gone, window, fault)?;
     let slope = at_low(&way.over, &piece.shape);
-    let at = window.out.until();
-    slide(way.side, &at, &mut window.steps, &slope, until)
+    let at = window.out.until_in_place();
+    slide(way.side, at, &mut window.steps, &slope, until)
 }
 
 /// The best value of a piece, which it has at that one of its ends, counts until the window has left that end.
@@ -521,15 +525,15 @@ fn hold<P: Shape>(
     ensures wide { (s : Chain P) (c : Place) → Holds P.Shape s way.now c piece.now (place best.now) window.old
         → OnErr result (IfSome fault.new (IsHeldFault P.Shape s way.now (place best.now).at)) }
 {
-    let at = window.out.until();
+    let at = window.out.until_in_place();
     if !at.precedes(until) {
         return Ok(());
     }
-    if is_hidden(way, &at, &window.steps, &piece.shape, &best.time, until) {
+    if is_hidden(way, at, &window.steps, &piece.shape, &best.time, until) {
         return Ok(());
     }
-    let value = constant(way, &piece.shape, &best.time, &at, until, fault)?;
-    count(way.side, &at, &mut window.steps, &value, until)
+    let value = constant(way, &piece.shape, &best.time, at, until, fault)?;
+    count(way.side, at, &mut window.steps, &value, until)
 }
 
 /// Whether the last step goes on to the place, and what it gives is no worse than the value of the shape at the time, which then need not
@@ -555,7 +559,7 @@ fn is_hidden<P: Shape>(
     let Some(last) = steps.back() else {
         return false;
     };
-    if last.until.precedes(until) {
+    if precedes(&last.until, until) {
         return false;
     }
     if let Some(other) = &last.other {
@@ -705,10 +709,10 @@ pub(crate) fn reached(way: &Way, met: &Cut, at: &Cut) -> Option<Cut>
     ensures some { IfSome result (λ e. IsReached way.now (place met.now) (place e)) }
 {
     let past = entering(&way.over, met);
-    if !at.precedes(&past) {
+    if !precedes(at, &past) {
         return None;
     }
-    Some(past.earlier(way.to))
+    Some(earlier(past, &way.to))
 }
 
 /// The place up to which the window begins before the place, in the domain.
@@ -720,7 +724,7 @@ pub(crate) fn left(way: &Way, c: &Cut) -> Cut
     requires to_within { IsWithin (2 ^ 34) (value_of way.now.to.time) }
     ensures { IsLeft way.now (place c.now) (place result) }
 {
-    leaving(&way.over, c).earlier(way.to)
+    earlier(leaving(&way.over, c), &way.to)
 }
 
 /// Whether no time lies in the window.

@@ -12,11 +12,11 @@ use Rattle.std.proofs.lemmas.Option.{same_Some}
 use Rattle.window_extrema.specs.Range.{IsAtMost, IsGreatestOf}
 use Rattle.window_extrema.specs.Stairs.{AreStairs, AreStairsTo, from_place, spread}
 
--- a value that does not come out as less is at least as great
-pub at_most_where_not_less : (o : Ordering) (v w : Extended) → IsOrderᵉ o v w → (o ≡ Less → ⊥) → w ≤ᵉ v
-at_most_where_not_less Less v w h n = absurd (n refl)
-at_most_where_not_less Equal v w h n = h.at_least
-at_most_where_not_less Greater v w h n = le_of_ltᵉ w v h
+-- a value that does not come out as greater is at most as great
+pub at_most_where_not_greater : (o : Ordering) (v w : Extended) → IsOrderᵉ o v w → (o ≡ Greater → ⊥) → v ≤ᵉ w
+at_most_where_not_greater Less v w h n = le_of_ltᵉ v w h
+at_most_where_not_greater Equal v w h n = h.at_most
+at_most_where_not_greater Greater v w h n = absurd (n refl)
 
 -- a queue spreads from its last place on over what it spreads over without it
 pub spread_last : (queue : List ℕ) (passed : ℕ) → spread (queue ++ passed ∷ []) ≡ spread queue + suc passed

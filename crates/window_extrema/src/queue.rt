@@ -9,7 +9,7 @@ use std::collections::VecDeque;
 use std::sync::ledger::Ledger;
 use value_laws::{Counted, Shape};
 
-/// Drops the places at the end of the queue whose items are below the one at `place`, up to which the queue spreads. It answers how many
+/// Drops the places at the end of the queue whose items are no greater than the one at `place`, up to which the queue spreads. It answers how many
 /// places before that one are passed over then.
 pub(crate) fn drop_smaller<P: Shape, L: Ledger>(
     items: &VecDeque<Counted<P>>,
@@ -30,11 +30,11 @@ pub(crate) fn drop_smaller<P: Shape, L: Ledger>(
     let mut passed = 0;
     while let Some(&before) = queue.back() {
         match items[place - passed - 1].cmp(item, steps) {
-            Ordering::Less => {
+            Ordering::Greater => return passed,
+            _ => {
                 let _ = queue.pop_back();
                 passed += before + 1;
             }
-            _ => return passed,
         }
     }
     passed

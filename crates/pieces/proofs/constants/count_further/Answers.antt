@@ -25,7 +25,7 @@ some_of [] n = absurd (n refl)
 some_of (x ∷ xs) n = omega arith
 
 -- where the constants end
-ends : (g : Over) (c : After-precedes g) → place c.end_of.result ≡ last_end c.args.window.now
+ends : (g : Over) (c : After-precedes g) → place c.end_of.result.now ≡ last_end c.args.window.now
 ends g c = c.end_of.ensures ∙ ap (λ b. steps_end b c.args.window.now.steps.items) c.until-at.ensures.value
 
 pub left-until-requires : goal.left-until-requires

@@ -1,4 +1,4 @@
-use Rattle.std.proofs.Common.{rules, ◌≡◌, ◌+◌, ◌-◌, ◌≤◌, drop, length, ap, ◌∙◌, arith, refl, subst, sym}
+use Rattle.std.proofs.Common.{rules, ◌≡◌, ◌≤◌, drop, length, ap, ◌∙◌, arith, refl, subst, sym}
 use Rattle.std.specs.Prelude.{IsNone}
 use Rattle.std.proofs.lemmas.List.{length-drop}
 use Rattle.window_extrema.specs.Range.{IsGreatestOf}

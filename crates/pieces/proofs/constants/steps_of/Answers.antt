@@ -1,8 +1,7 @@
-use Rattle.std.proofs.Common.{rules, ◌≡◌, ◌+◌, ◌<◌, ◌^◌, Some, [], length, arith, subst, sym, inl, inr}
+use Rattle.std.proofs.Common.{rules, ◌≡◌, Some, length, arith, subst}
 use Rattle.std.specs.Prelude.{slice_get}
 use Rattle.std.specs.VecDeque.{deque_len}
 use Rattle.std.proofs.lemmas.Option.{slice_get_read}
-use Rattle.rational.specs.Places.{AtMost}
 use Rattle.frac128.specs.Cuts.{place}
 use Rattle.pieces.specs.Constants.{GivesFirst}
 use Rattle.pieces.proofs.ConstantLemmas.{level_of, step_later}

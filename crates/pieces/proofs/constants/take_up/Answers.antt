@@ -18,7 +18,7 @@ use Rattle.pieces.proofs.constants.take_up.Goals.{After-precedes}
 use Rattle.pieces.proofs.constants.take_up.Goals as goal
 
 -- where the constants end that are left
-ends : (g : Over) (c : After-precedes g) → place c.end_of.result ≡ last_end c.reach_past.new.window
+ends : (g : Over) (c : After-precedes g) → place c.end_of.result.now ≡ last_end c.reach_past.new.window
 ends g c = c.end_of.ensures ∙ ap (λ b. steps_end b c.reach_past.new.window.steps.items) c.until-at.ensures.value
 
 past : (g : Over) (c : After-precedes g) (s : Chain g.row.P.Denot)
@@ -70,8 +70,8 @@ returns-clause-taken g c s known =
     let k = (goal.at.returns-clause-taken g c).After-precedes in
     let p = c.args.piece.now in
     let l : Step g.row.P.Denot = record { until = c.args.until.now; shape = c.at_high-level.result; other = None } in
-    on_ok_two c.push.result (λ settled out. taken_pushed g.P.Shape (assumption g.met.P.Shape) s c.args.way.now (place c.args.met.now) (place c.args.until.now) p
-    c.args.window.now c.reach_past.new.window known (past g k s known) l c.push.new.window
+    on_ok_two c.push.result (λ settled out. taken_pushed g.P.Shape (assumption g.met.P.Shape) s c.args.way.now (place c.args.met.now) (place c.args.until.now)
+    p c.args.window.now c.reach_past.new.window known (past g k s known) l c.push.new.window
     (fits_there g.P.Shape s c.args.way.now (place c.args.met.now) p known.past.has.can known.piece known.steady c.at_high-level.result
     c.at_high-level.ensures.value c.args.until.now known.left c.at_high-level.ensures.base) refl
     (subst (λ x. Before x (place c.args.until.now)) (ends g k) (c.precedes.ensures.0 c.if-not-precedes.false)) out settled)

@@ -1,4 +1,4 @@
-use Rattle.std.proofs.Common.{rules, arith, ◌≡◌, ◌≤◌, ◌<◌, ◌^◌, ℕ, List, [], ◌∷◌, drop, length, refl, sym, ap, ◌∙◌, subst}
+use Rattle.std.proofs.Common.{rules, arith, ◌≡◌, ◌^◌, [], ◌∷◌, drop, length, refl, sym, ap, ◌∙◌, subst}
 use Rattle.std.specs.Prelude.{slice_get}
 use Rattle.std.specs.VecDeque.{deque_len}
 use Rattle.std.proofs.lemmas.Bool.{false≢true}
@@ -9,7 +9,6 @@ use Rattle.rational.specs.Places.{AtMost, Before, Same}
 use Rattle.rational.proofs.PlaceLemmas.{at_most_of_not_before, same_of_at_most}
 use Rattle.frac128.specs.Cuts.{place}
 use Rattle.pieces.specs.Chains.{stop}
-use Rattle.pieces.specs.Constants.{AreAsked, HasSettled, IsFirstBest}
 use Rattle.pieces.specs.Steps.{step_end}
 use Rattle.pieces.proofs.ConstantLemmas.{all_constant, level_of, settled_first, step_later, told_in_limits, told_none, told_part, told_whole}
 use Rattle.pieces.proofs.ConstantsTaken.{left_none, left_part, left_whole}

@@ -3,7 +3,6 @@ use Rattle.std.specs.Prelude.{OnOk}
 use Rattle.std.specs.Result.{is_err}
 use Rattle.std.specs.VecDeque.{deque_len, deque_capacity}
 use Rattle.std.proofs.lemmas.Bool.{false≢true}
-use Rattle.rational.specs.Places.{Before}
 use Rattle.rational.proofs.Order.{le_refl}
 use Rattle.rational.proofs.PlaceLemmas.{le_of_at_most}
 use Rattle.frac128.specs.Cuts.{place}
@@ -40,11 +39,11 @@ cap-requires g c = record {
       ok_of c.reserve.result c.reserve.ensures.ok (sym c.if-is_err.ensures.value) in omega (arith, h);
 }
 
-pub returns-then-precedes : goal.returns-then-precedes
-returns-then-precedes g c =
-    let at = goal.at.returns-then-precedes g c in
+pub returns-then-ends_before : goal.returns-then-ends_before
+returns-then-ends_before g c =
+    let at = goal.at.returns-then-ends_before g c in
     let b = place c.args.from.now in
-    let later = subst (λ s. Before s (place c.args.until.now)) c.end_of-begin.ensures (c.precedes.ensures.0 c.if-precedes.true) in
+    let later = c.ends_before.ensures.0 c.if-ends_before.true in
     let cap = capped g at.After-cap in
     subst (λ xs. HasCounted g.P.Shape c.args.side b c.args.steps.now.items c.args.constant.now (place c.args.until.now) xs)
     (sym c.push_back_reserved.ensures.items)
@@ -53,9 +52,9 @@ returns-then-precedes g c =
     (constant_step g.P.Shape c.args.side b (steps_end b c.cap.new.steps.items) c.args.until.now c.args.constant.now
     (to_end g.P.Shape c.args.side b c.cap.new.steps.items cap.steps) later c.requires.until_within c.requires.level))
 
-pub returns-else-precedes : goal.returns-else-precedes
-returns-else-precedes g c =
-    let at = goal.at.returns-else-precedes g c in
+pub returns-else-ends_before : goal.returns-else-ends_before
+returns-else-ends_before g c =
+    let at = goal.at.returns-else-ends_before g c in
     counted_whole g.P.Shape c.args.side (place c.args.from.now) c.args.steps.now.items c.args.constant.now c.requires.steps c.requires.falls
     (level g at.Start) c.cap.new.steps.items (place c.args.until.now) (capped g at.After-cap) c.requires.last
-    (λ b. false≢true (sym c.if-precedes.false ∙ c.precedes.ensures.1 (subst (λ s. Before s (place c.args.until.now)) (sym c.end_of-begin.ensures) b)))
+    (λ b. false≢true (sym c.if-ends_before.false ∙ c.ends_before.ensures.1 b))

@@ -47,7 +47,7 @@ pub slide-requires-clause-steps : goal.slide-requires-clause-steps
 slide-requires-clause-steps g c =
     let (s, known) = c.requires.further in
     let counts = counts_of c.args.trend c.in_default.not-Greater known.hand in
-    subst (λ b. AreSteps g.P.Shape c.args.way.now.side b c.args.window.now.steps.items) (sym c.until-at.ensures.value) counts.stands.steps
+    subst (λ b. AreSteps g.P.Shape c.args.way.now.side b c.args.window.now.steps.items) (sym c.until_in_place-at.ensures) counts.stands.steps
 
 pub slide-requires-clause-falls : goal.slide-requires-clause-falls
 slide-requires-clause-falls g c t u a k m =
@@ -77,4 +77,4 @@ returns-in_default-clause-taken g c s known =
     further_counts laws c.args.trend c.in_default.not-Greater known (record { out = old.out; steps = c.slide.new.steps }) refl slope until
     c.left-until.ensures c.at_low-slope.ensures.value
     (further_base laws c.args.trend c.in_default.not-Greater known slope until c.left-until.ensures c.at_low-slope.ensures.base)
-    (subst (λ b. HasSlid g.P.Shape way.side b old.steps.items slope until c.slide.new.steps.items) c.until-at.ensures.value here)) c.slide.ensures
+    (subst (λ b. HasSlid g.P.Shape way.side b old.steps.items slope until c.slide.new.steps.items) c.until_in_place-at.ensures here)) c.slide.ensures

@@ -28,7 +28,8 @@ hold-requires-clause-met g c =
     (chain, place c.args.from.now, holds_first c.requires.trend known)
 
 pub returns-in_err-hold-clause-wide : goal.returns-in_err-hold-clause-wide
-returns-in_err-hold-clause-wide g c chain known = on_err_anyway c.from_residual.result (c.in_err-hold.ensures.wide chain (place c.args.from.now) (holds_first c.requires.trend known))
+returns-in_err-hold-clause-wide g c chain known =
+    on_err_anyway c.from_residual.result (c.in_err-hold.ensures.wide chain (place c.args.from.now) (holds_first c.requires.trend known))
 
 pub at_low-slope-requires-clause-small : goal.at_low-slope-requires-clause-small
 at_low-slope-requires-clause-small g c =
@@ -38,7 +39,7 @@ at_low-slope-requires-clause-small g c =
 pub slide-requires-clause-steps : goal.slide-requires-clause-steps
 slide-requires-clause-steps g c =
     let (chain, known) = c.requires.met in
-    subst (λ s. AreSteps g.P.Shape c.args.way.now.side s c.hold.new.window.steps.items) (sym c.until-at.ensures.value)
+    subst (λ s. AreSteps g.P.Shape c.args.way.now.side s c.hold.new.window.steps.items) (sym c.until_in_place-at.ensures)
     (c.in_ok-hold.ensures.stands chain (place c.args.from.now) (holds_first c.requires.trend known)).steps
 
 pub slide-requires-clause-falls : goal.slide-requires-clause-falls
@@ -69,11 +70,12 @@ returns-clause-met g c chain known =
     let lasts : AtMost until (place way.to) = λ t u. (c.requires.left.upto t u).1 in
     on_ok_weaker c.slide.result (λ here.
     let slid : HasSlid g.P.Shape way.side (stop old.out) old.steps.items c.at_low-slope.result until c.slide.new.steps.items =
-    subst (λ b. HasSlid g.P.Shape way.side b old.steps.items c.at_low-slope.result until c.slide.new.steps.items) c.until-at.ensures.value here in
+    subst (λ b. HasSlid g.P.Shape way.side b old.steps.items c.at_low-slope.result until c.slide.new.steps.items) c.until_in_place-at.ensures here in
     met_piece known (stands_slid g.P.Shape laws chain way known.can.rising known.some from piece known.piece old
     (record { out = old.out; steps = c.slide.new.steps }) (c.in_ok-hold.ensures.stands chain from held) refl
     (λ t a u. known.entered t (subst (λ o. After (stop o) t) c.hold.ensures.out (after_at_most (stop old.out) (last_end old) t
-    (to_end g.P.Shape way.side (stop old.out) old.steps.items (c.in_ok-hold.ensures.stands chain from held).steps) a)) u) past c.at_low-slope.result until c.requires.trend
+    (to_end g.P.Shape way.side (stop old.out) old.steps.items (c.in_ok-hold.ensures.stands chain from held).steps) a)) u) past c.at_low-slope.result until
+    c.requires.trend
     c.at_low-slope.ensures.value slid c.requires.left.upto c.requires.left.after)
     (plays_slid g.P.Shape chain way.over (place way.to) way.side old (record { out = old.out; steps = c.slide.new.steps })
     (c.in_ok-hold.ensures.plays chain from held) refl c.at_low-slope.result until
@@ -97,7 +99,7 @@ returns-clause-wide g c chain known = on_err_anyway c.slide.result
 
 pub returns-clause-past : goal.returns-clause-past
 returns-clause-past g c = on_ok_weaker c.slide.result (λ slid t a u. c.requires.left.after t
-    (slid.past t (subst (λ b. After (steps_end b c.slide.new.steps.items) t) (sym c.until-at.ensures.value) a)).0 u) c.slide.ensures
+    (slid.past t (subst (λ b. After (steps_end b c.slide.new.steps.items) t) (sym c.until_in_place-at.ensures) a)).0 u) c.slide.ensures
 
 pub at_low-slope-requires-clause-room : goal.at_low-slope-requires-clause-room
 at_low-slope-requires-clause-room g c =

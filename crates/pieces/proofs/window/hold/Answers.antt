@@ -39,7 +39,7 @@ returns-then-not-precedes-clause-stands g c chain from known =
     (place c.args.best.now) (place c.args.best.now) c.args.piece.now known.piece c.args.window.now c.args.window.now known.keeps
     (held_ends laws known) refl refl e
     (λ t a. after_at_most e at t (at_most_of_not_before e at (λ b. false≢true (sym c.if-not-precedes.true ∙ c.precedes.ensures.1
-    (subst (λ x. Before x e) (sym c.until-at.ensures.value) b)))) a)
+    (subst (λ x. Before x e) (sym c.until_in_place-at.ensures) b)))) a)
     c.requires.left.after (held_begins laws known)
 
 pub returns-then-not-precedes-clause-past : goal.returns-then-not-precedes-clause-past
@@ -47,7 +47,7 @@ returns-then-not-precedes-clause-past g c chain from known t a u =
     let at = stop c.args.window.now.out in
     let e = place c.args.until.now in
     c.requires.left.after t (after_at_most e at t (at_most_of_not_before e at (λ b. false≢true (sym c.if-not-precedes.true
-    ∙ c.precedes.ensures.1 (subst (λ x. Before x e) (sym c.until-at.ensures.value) b))))
+    ∙ c.precedes.ensures.1 (subst (λ x. Before x e) (sym c.until_in_place-at.ensures) b))))
     (after_at_most at (last_end c.args.window.now) t (to_end g.P.Shape c.args.way.now.side at c.args.window.now.steps.items known.keeps.steps) a))
     u
 
@@ -56,7 +56,7 @@ is_hidden-requires g c =
     let (chain, from, known) = c.requires.met in
     let laws : ShapeLaws g.P.Shape = assumption g.met.P.Shape in
     record {
-      steps = subst (λ b. AreSteps g.P.Shape c.args.way.now.side b c.args.window.now.steps.items) (sym c.until-at.ensures.value) known.keeps.steps;
+      steps = subst (λ b. AreSteps g.P.Shape c.args.way.now.side b c.args.window.now.steps.items) (sym c.until_in_place-at.ensures) known.keeps.steps;
       small = known.can.small;
       near = known.can.near c.args.piece.now.shape known.piece.has;
       within = held_within laws known;
@@ -85,12 +85,12 @@ returns-then-is_hidden-clause-past g c chain from known t a u =
 pub constant-requires-clause-from : goal.constant-requires-clause-from
 constant-requires-clause-from g c =
     let (chain, from, known) = c.requires.met in
-    subst (λ s. whole (pos 0) ≤ʳ s.at) (sym c.until-at.ensures.value) (told_first known.can known.keeps)
+    subst (λ s. whole (pos 0) ≤ʳ s.at) (sym c.until_in_place-at.ensures) (told_first known.can known.keeps)
 
 pub constant-requires-clause-to : goal.constant-requires-clause-to
 constant-requires-clause-to g c =
     let (chain, from, known) = c.requires.met in
-    subst (λ s. s.at ≤ʳ whole (pos (2 ^ 32))) (sym c.until-at.ensures.value) (told_last known.can known.keeps)
+    subst (λ s. s.at ≤ʳ whole (pos (2 ^ 32))) (sym c.until_in_place-at.ensures) (told_last known.can known.keeps)
 
 pub constant-requires-clause-small : goal.constant-requires-clause-small
 constant-requires-clause-small g c =
@@ -115,14 +115,14 @@ constant-requires-clause-bounded g c =
     held_bounded laws known
 
 pub constant-requires-clause-order : goal.constant-requires-clause-order
-constant-requires-clause-order g c = le_of_before (place c.until-at.result) (place c.args.until.now) (c.precedes.ensures.0 c.if-not-precedes.false)
+constant-requires-clause-order g c = le_of_before (place c.until_in_place-at.result.now) (place c.args.until.now) (c.precedes.ensures.0 c.if-not-precedes.false)
 
 pub constant-requires-clause-one : goal.constant-requires-clause-one
 constant-requires-clause-one g c same =
     let (chain, from, known) = c.requires.met in
     let laws : ShapeLaws g.P.Shape = assumption g.met.P.Shape in
-    let at = c.until-at.ensures.value in
-    one_end c.args.way.now.over known.can.small (place c.until-at.result) (place c.args.until.now) (place c.args.best.now) chain.from
+    let at = c.until_in_place-at.ensures in
+    one_end c.args.way.now.over known.can.small (place c.until_in_place-at.result.now) (place c.args.until.now) (place c.args.best.now) chain.from
     (place c.args.way.now.to) c.requires.left.upto c.requires.left.after
     (λ t a u. known.entered t (subst (λ s. After s t) at a) u)
     (subst (λ s. AtMost s chain.from ⊎ ((t : Rational) → Upto s t → ¬ Before (place c.args.best.now)
@@ -133,18 +133,18 @@ constant-requires-clause-one g c same =
 pub count-requires-clause-from_within : goal.count-requires-clause-from_within
 count-requires-clause-from_within g c =
     let (chain, from, known) = c.requires.met in
-    subst (λ s. IsWithin (2 ^ 34) s.at) (sym c.until-at.ensures.value) (told_within known.can known.keeps)
+    subst (λ s. IsWithin (2 ^ 34) s.at) (sym c.until_in_place-at.ensures) (told_within known.can known.keeps)
 
 pub count-requires-clause-steps : goal.count-requires-clause-steps
 count-requires-clause-steps g c =
     let (chain, from, known) = c.requires.met in
-    subst (λ b. AreSteps g.P.Shape c.args.way.now.side b c.args.window.now.steps.items) (sym c.until-at.ensures.value) known.keeps.steps
+    subst (λ b. AreSteps g.P.Shape c.args.way.now.side b c.args.window.now.steps.items) (sym c.until_in_place-at.ensures) known.keeps.steps
 
 pub count-requires-clause-falls : goal.count-requires-clause-falls
 count-requires-clause-falls g c =
     let (chain, from, known) = c.requires.met in
     let laws : ShapeLaws g.P.Shape = assumption g.met.P.Shape in
-    subst (λ s. FallOff g.P.Shape c.args.way.now.side s c.args.window.now.steps.items) (sym c.until-at.ensures.value) (held_falls laws known)
+    subst (λ s. FallOff g.P.Shape c.args.way.now.side s c.args.window.now.steps.items) (sym c.until_in_place-at.ensures) (held_falls laws known)
 
 pub count-requires-clause-level : goal.count-requires-clause-level
 count-requires-clause-level g c = record {
@@ -156,7 +156,7 @@ pub count-requires-clause-last : goal.count-requires-clause-last
 count-requires-clause-last g c =
     let (chain, from, known) = c.requires.met in
     let laws : ShapeLaws g.P.Shape = assumption g.met.P.Shape in
-    let at = place c.until-at.result in
+    let at = place c.until_in_place-at.result.now in
     let xs = c.args.window.now.steps.items in
     let low = λ (t : Rational). low_place c.args.way.now.over.low c.args.way.now.over.low_in t in
     λ t u. elim (sides at t) [
@@ -165,7 +165,7 @@ count-requires-clause-last g c =
         | inl h ↦ h
         | inr h ↦ (let x = give_some g.P.Shape c.args.way.now.side at xs t k u in
             let s = known.keeps.sees t x.0 (subst (λ b. StepsGive g.P.Shape c.args.way.now.side b xs t x.0)
-            c.until-at.ensures.value x.1) in
+            c.until_in_place-at.ensures x.1) in
             absurd (c.requires.left.after t h s.1
             (before_at_most (low t) from (place c.args.best.now) s.0 (held_begins laws known))))
       ]
@@ -177,14 +177,14 @@ returns-clause-stands g c chain from known =
     let way = c.args.way.now in
     let best = place c.args.best.now in
     let piece = c.args.piece.now in
-    let at = c.until-at.ensures.value in
+    let at = c.until_in_place-at.ensures in
     on_ok_weaker c.count.result (λ counted. stands_counted g.P.Shape laws chain way known.can.rising known.some from best best piece
     known.piece c.args.window.now (record { out = c.args.window.now.out; steps = c.count.new.steps }) known.keeps (held_ends laws known) refl
     c.in_ok-value.value (place c.args.until.now)
     (subst (λ b. HasCounted g.P.Shape way.side b c.args.window.now.steps.items c.in_ok-value.value (place c.args.until.now)
     c.count.new.steps.items) at counted)
     (λ t a u. let seen = c.requires.left.upto t u in
-    best_value (symᵉ (c.in_ok-value.ensures.value t (after_le (place c.until-at.result) t (subst (λ b. After b t) (sym at) a))
+    best_value (symᵉ (c.in_ok-value.ensures.value t (after_le (place c.until_in_place-at.result.now) t (subst (λ b. After b t) (sym at) a))
     (upto_le (place c.args.until.now) t u)))
     (best_there g.P.Shape laws chain way known.can.rising from piece known.piece best known.is_best known.some t
     (known.entered t a seen.1) seen.0))
@@ -193,8 +193,8 @@ returns-clause-stands g c chain from known =
 
 pub returns-clause-past : goal.returns-clause-past
 returns-clause-past g c chain from known = on_ok_weaker c.count.result (λ counted t a u. c.requires.left.after t
-    (after_same (steps_end (place c.until-at.result) c.count.new.steps.items) (place c.args.until.now) t counted.ends
-    (subst (λ b. After (steps_end b c.count.new.steps.items) t) (sym c.until-at.ensures.value) a))
+    (after_same (steps_end (place c.until_in_place-at.result.now) c.count.new.steps.items) (place c.args.until.now) t counted.ends
+    (subst (λ b. After (steps_end b c.count.new.steps.items) t) (sym c.until_in_place-at.ensures) a))
     u) c.count.ensures
 
 pub returns-in_err-value-clause-wide : goal.returns-in_err-value-clause-wide
@@ -202,7 +202,7 @@ returns-in_err-value-clause-wide g c chain from known =
     let laws : ShapeLaws g.P.Shape = assumption g.met.P.Shape in
     on_err_anyway c.from_residual.result (IfSome_then c.constant.new.fault c.in_err-value.ensures.wide
     (λ pair x. held_fault laws known (place c.args.until.now) c.requires.left c.args.best.now.time refl
-    (subst (λ b. b.at <ʳ (place c.args.until.now).at) c.until-at.ensures.value x.0) pair x.1))
+    (subst (λ b. b.at <ʳ (place c.args.until.now).at) c.until_in_place-at.ensures x.0) pair x.1))
 
 pub returns-clause-plays : goal.returns-clause-plays
 returns-clause-plays g c chain from known =
@@ -210,11 +210,12 @@ returns-clause-plays g c chain from known =
     let way = c.args.way.now in
     let old = c.args.window.now in
     let until = place c.args.until.now in
-    let here = c.until-at.ensures.value in
+    let here = c.until_in_place-at.ensures in
     on_ok_weaker c.count.result (λ counted. plays_counted g.P.Shape chain way.over (place way.to) way.side old
     (record { out = old.out; steps = c.count.new.steps })
     known.plays refl c.in_ok-value.value until
-    (moved_over g.P.Shape chain way.over (place way.to) c.args.piece.now.shape c.in_ok-value.value (place c.args.best.now).at (place c.until-at.result).at
+    (moved_over g.P.Shape chain way.over (place way.to) c.args.piece.now.shape c.in_ok-value.value (place c.args.best.now).at
+    (place c.until_in_place-at.result.now).at
     known.piece.has c.in_ok-value.ensures.base (le_of_at_most chain.from (place c.args.best.now) (held_after laws known))
     (subst (λ b. b.at ≤ʳ (place way.to).at) (sym here) (le_trans (le_of_at_most (stop old.out) (stop chain) known.keeps.upto)
     (le_of_at_most (stop chain) (place way.to) known.to))))

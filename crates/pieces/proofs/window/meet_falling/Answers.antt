@@ -4,7 +4,7 @@ use Rattle.std.proofs.lemmas.Result.{on_ok_weaker}
 use Rattle.rational.specs.Time.{add, whole}
 use Rattle.rational.specs.Extended.{value_at}
 use Rattle.rational.proofs.Lists.{on_err_anyway}
-use Rattle.rational.proofs.PlaceLemmas.{between, le_of_before}
+use Rattle.rational.proofs.PlaceLemmas.{between}
 use Rattle.rational.proofs.Shift.{le_shift}
 use Rattle.frac128.specs.Cuts.{place}
 use Rattle.value_laws.specs.Members.{ShapeLaws}
@@ -14,7 +14,7 @@ use Rattle.pieces.specs.Causes.{IsCauseBelow}
 use Rattle.pieces.specs.Steps.{AreSteps, HasSlid}
 use Rattle.pieces.proofs.Bests.{nw_back, nw_same, nw_trans}
 use Rattle.pieces.proofs.CountsInPlay.{none_refused}
-use Rattle.pieces.proofs.PieceEnds.{ahead_here, below_here, below_sooner, meets_entered, met_next, reaches_past, stop_below, within_here}
+use Rattle.pieces.proofs.PieceEnds.{ahead_here, below_here, meets_entered, met_next, reaches_past, stop_below, within_here}
 use Rattle.pieces.proofs.StepsToTell.{falls_lagging, plays_lagging, stands_lagging}
 use Rattle.pieces.proofs.BestEnd.{moved_level, on_ok_two}
 use Rattle.pieces.proofs.WindowGoesOn.{falls_off}
@@ -26,7 +26,7 @@ pub is_hidden-requires : goal.is_hidden-requires
 is_hidden-requires g c =
     let (chain, known) = c.requires.met in
     record {
-      steps = subst (λ b. AreSteps g.P.Shape c.args.way.now.side b c.args.window.now.steps.items) (sym c.until-at.ensures.value) known.met.stands.steps;
+      steps = subst (λ b. AreSteps g.P.Shape c.args.way.now.side b c.args.window.now.steps.items) (sym c.until_in_place-at.ensures) known.met.stands.steps;
       small = known.met.can.small;
       near = known.met.can.near c.args.piece.now.shape known.piece.has;
       within = within_here known;
@@ -46,7 +46,7 @@ at_low-slope-requires-clause-room g c =
 pub slide-requires-clause-steps : goal.slide-requires-clause-steps
 slide-requires-clause-steps g c =
     let (chain, known) = c.requires.met in
-    subst (λ s. AreSteps g.P.Shape c.args.way.now.side s c.args.window.now.steps.items) (sym c.until-at.ensures.value) known.met.stands.steps
+    subst (λ s. AreSteps g.P.Shape c.args.way.now.side s c.args.window.now.steps.items) (sym c.until_in_place-at.ensures) known.met.stands.steps
 
 pub slide-requires-clause-falls : goal.slide-requires-clause-falls
 slide-requires-clause-falls g c t u a k m =
@@ -73,7 +73,7 @@ returns-then-is_hidden-clause-met g c chain known =
     on_ok_weaker c.slide.result (λ here.
     let slid : HasSlid g.P.Shape way.side (stop old.out) old.steps.items c.at_low-slope.result (place c.args.until.now) c.slide.new.steps.items =
     subst (λ b. HasSlid g.P.Shape way.side b old.steps.items c.at_low-slope.result (place c.args.until.now) c.slide.new.steps.items)
-    c.until-at.ensures.value here in
+    c.until_in_place-at.ensures here in
     met_next known (stands_lagging g.P.Shape laws chain way from c.args.piece.now old new known c.requires.trend (place c.args.gone.now)
     (place c.args.until.now) c.requires.gone c.requires.left (c.is_hidden.ensures c.if-is_hidden.true) c.at_low-slope.result
     c.at_low-slope.ensures.value c.at_low-slope.ensures.base refl slid)
@@ -92,7 +92,7 @@ returns-then-is_hidden-clause-falls g c =
     (place c.args.until.now) c.requires.gone c.requires.left (c.is_hidden.ensures c.if-is_hidden.true) c.at_low-slope.result
     c.at_low-slope.ensures.value c.at_low-slope.ensures.base refl
     (subst (λ b. HasSlid g.P.Shape way.side b old.steps.items c.at_low-slope.result (place c.args.until.now) c.slide.new.steps.items)
-    c.until-at.ensures.value here)) c.slide.ensures
+    c.until_in_place-at.ensures here)) c.slide.ensures
 
 pub returns-then-is_hidden-clause-wide : goal.returns-then-is_hidden-clause-wide
 returns-then-is_hidden-clause-wide g c chain known = on_err_anyway c.slide.result

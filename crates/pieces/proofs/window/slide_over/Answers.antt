@@ -12,21 +12,21 @@ use Rattle.pieces.proofs.OverWindow.{piece_from}
 use Rattle.pieces.proofs.ReadUpTo.{last_begin, next_begin}
 use Rattle.rational.proofs.Lists.{on_err_anyway}
 use Rattle.pieces.proofs.window.slide_over.Given.{Over}
-use Rattle.pieces.proofs.window.slide_over.Goals.{After-loop-i, After-piece}
+use Rattle.pieces.proofs.window.slide_over.Goals.{After-loop-i, After-piece-piece}
 use Rattle.pieces.proofs.window.slide_over.Goals as goal
 
 -- the window stands where the next piece begins
-stands : (g : Over) (c : After-piece g) → StandsFor g.P.Shape c.args.s.now (place c.begin.result.now) c.loop-i.window
-stands g c = subst (λ b. StandsFor g.P.Shape c.args.s.now b c.loop-i.window) (sym c.begin.ensures) c.loop-i.invariant.stands
+stands : (g : Over) (c : After-piece-piece g) → StandsFor g.P.Shape c.args.s.now (place c.loop-i.from.now) c.loop-i.window
+stands g c = subst (λ b. StandsFor g.P.Shape c.args.s.now b c.loop-i.window) (sym c.loop-i.invariant.begins) c.loop-i.invariant.stands
 
 -- that piece of the chain
-next : (g : Over) (c : After-piece g) → IsNext g.P.Shape c.args.s.now c.loop-i.window.way (place c.begin.result.now) c.piece.result.now
+next : (g : Over) (c : After-piece-piece g) → IsNext g.P.Shape c.args.s.now c.loop-i.window.way (place c.loop-i.from.now) c.piece-piece.result.now
 next g c =
     let s = c.args.s.now in
     let normal = c.len-i-end.ensures.normal in
-    subst (λ b. IsNext g.P.Shape s c.loop-i.window.way b c.piece.result.now) (sym c.begin.ensures) (record {
-      piece = piece_from g.P.Shape (assumption g.met.P.Shape) s c.loop-i.window.way normal.rising c.loop-i.i c.piece.result.now c.piece.ensures;
-      breaks = breaks_at g.P.Shape s c.loop-i.i c.piece.result.now normal c.piece.ensures;
+    subst (λ b. IsNext g.P.Shape s c.loop-i.window.way b c.piece-piece.result.now) (sym c.loop-i.invariant.begins) (record {
+      piece = piece_from g.P.Shape (assumption g.met.P.Shape) s c.loop-i.window.way normal.rising c.loop-i.i c.piece-piece.result.now c.piece-piece.ensures;
+      breaks = breaks_at g.P.Shape s c.loop-i.i c.piece-piece.result.now normal c.piece-piece.ensures;
       ahead = inl (subst (λ e. AtMost (place c.loop-i.window.way.to) e) (ap (λ w. place w.to) c.loop-i.invariant.way ∙ c.requires.ends)
           (at_most_itself (place c.loop-i.window.way.to)));
     })
@@ -34,20 +34,21 @@ next g c =
 pub meet-requires-clause-next : goal.meet-requires-clause-next
 meet-requires-clause-next g c = (
   c.args.s.now,
-  stands g (goal.at.meet-requires-clause-next g c).After-piece,
-  next g (goal.at.meet-requires-clause-next g c).After-piece,
+  stands g (goal.at.meet-requires-clause-next g c).After-piece-piece,
+  next g (goal.at.meet-requires-clause-next g c).After-piece-piece,
 )
 
 pub loop-i-preserved : goal.loop-i-preserved
 loop-i-preserved g c =
     let chain = c.args.s.now in
-    let piece = c.piece.result.now in
+    let piece = c.piece-piece.result.now in
     let one_more : suc c.loop-i.i ≡ c.loop-i.i + 1 = omega arith in
     let at : end piece ≡ begin_at chain.from chain.pieces (c.loop-i.i + 1) = sym (subst (λ n. begin_at chain.from chain.pieces n ≡ end piece) one_more
-    (next_begin chain.from chain.pieces c.loop-i.i piece c.piece.ensures)) in
+    (next_begin chain.from chain.pieces c.loop-i.i piece c.piece-piece.ensures)) in
     record {
+      begins = at;
       stands = subst (λ b. StandsFor g.P.Shape chain b c.meet.new.self) at (c.in_ok-meet.ensures.stands chain
-          (stands g (goal.at.loop-i-preserved g c).After-piece) (next g (goal.at.loop-i-preserved g c).After-piece));
+          (stands g (goal.at.loop-i-preserved g c).After-piece-piece) (next g (goal.at.loop-i-preserved g c).After-piece-piece));
       way = c.meet.ensures.way ∙ c.loop-i.invariant.way;
       still = c.in_ok-meet.ensures.still;
     }
@@ -95,5 +96,5 @@ pub returns-in_err-meet-clause-wide : goal.returns-in_err-meet-clause-wide
 returns-in_err-meet-clause-wide g c =
     let s = c.args.s.now in
     on_err_anyway c.from_residual.result (subst (λ w. IfSome c.meet.new.fault (IsCauseOver g.P.Shape s w.over)) c.loop-i.invariant.way
-    (c.in_err-meet.ensures.wide s (stands g (goal.at.returns-in_err-meet-clause-wide g c).After-piece)
-    (next g (goal.at.returns-in_err-meet-clause-wide g c).After-piece)))
+    (c.in_err-meet.ensures.wide s (stands g (goal.at.returns-in_err-meet-clause-wide g c).After-piece-piece)
+    (next g (goal.at.returns-in_err-meet-clause-wide g c).After-piece-piece)))

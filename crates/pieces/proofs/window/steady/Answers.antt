@@ -29,12 +29,12 @@ use Rattle.pieces.proofs.window.steady.Goals as goal
 pub count-requires-clause-from_within : goal.count-requires-clause-from_within
 count-requires-clause-from_within g c =
     let (chain, from, known) = c.requires.met in
-    subst (λ s. IsWithin (2 ^ 34) s.at) (sym c.until-at.ensures.value) (told_within known.can known.stands)
+    subst (λ s. IsWithin (2 ^ 34) s.at) (sym c.until_in_place-at.ensures) (told_within known.can known.stands)
 
 pub count-requires-clause-steps : goal.count-requires-clause-steps
 count-requires-clause-steps g c =
     let (chain, from, known) = c.requires.met in
-    subst (λ b. AreSteps g.P.Shape c.args.way.now.side b c.args.window.now.steps.items) (sym c.until-at.ensures.value) known.stands.steps
+    subst (λ b. AreSteps g.P.Shape c.args.way.now.side b c.args.window.now.steps.items) (sym c.until_in_place-at.ensures) known.stands.steps
 
 pub at_high-level-requires-clause-small : goal.at_high-level-requires-clause-small
 at_high-level-requires-clause-small g c =
@@ -44,7 +44,7 @@ at_high-level-requires-clause-small g c =
 pub count-requires-clause-falls : goal.count-requires-clause-falls
 count-requires-clause-falls g c =
     let (chain, from, known) = c.requires.met in
-    subst (λ s. FallOff g.P.Shape c.args.way.now.side s c.args.window.now.steps.items) (sym c.until-at.ensures.value)
+    subst (λ s. FallOff g.P.Shape c.args.way.now.side s c.args.window.now.steps.items) (sym c.until_in_place-at.ensures)
     (falls_off g.P.Shape (assumption g.met.P.Shape) chain c.args.way.now known.can.rising from from
     from c.args.window.now known.stands known.entered)
 
@@ -64,7 +64,7 @@ count-requires-clause-level g c =
 pub count-requires-clause-last : goal.count-requires-clause-last
 count-requires-clause-last g c =
     let (chain, from, known) = c.requires.met in
-    let at = place c.until-at.result in
+    let at = place c.until_in_place-at.result.now in
     let xs = c.args.window.now.steps.items in
     let low = λ (t : Rational). low_place c.args.way.now.over.low c.args.way.now.over.low_in t in
     λ t u. elim (sides at t) [
@@ -73,7 +73,7 @@ count-requires-clause-last g c =
         | inl h ↦ h
         | inr h ↦ (let x = give_some g.P.Shape c.args.way.now.side at xs t k u in
             let s = known.stands.sees t x.0 (subst (λ b. StepsGive g.P.Shape c.args.way.now.side b xs t x.0)
-            c.until-at.ensures.value x.1) in
+            c.until_in_place-at.ensures x.1) in
             absurd (c.requires.left.after t h s.1
             (before_trans (low t) from (end c.args.piece.now) s.0 known.piece.order)))
       ]
@@ -88,7 +88,7 @@ returns-then-precedes-clause-met g c chain from known =
     let until = place c.args.until.now in
     on_ok_weaker c.count.result (λ here.
     let counted : HasCounted g.P.Shape way.side (stop old.out) old.steps.items c.at_high-level.result until c.count.new.steps.items =
-    subst (λ b. HasCounted g.P.Shape way.side b old.steps.items c.at_high-level.result until c.count.new.steps.items) c.until-at.ensures.value here in
+    subst (λ b. HasCounted g.P.Shape way.side b old.steps.items c.at_high-level.result until c.count.new.steps.items) c.until_in_place-at.ensures here in
     met_piece known (stands_counted g.P.Shape laws chain way known.can.rising known.some from from (end piece) piece known.piece old
     (record { out = old.out; steps = c.count.new.steps }) known.stands (at_most_of_before from (end piece) known.piece.order) refl
     c.at_high-level.result until counted
@@ -106,8 +106,8 @@ returns-then-precedes-clause-met g c chain from known =
 
 pub returns-then-precedes-clause-past : goal.returns-then-precedes-clause-past
 returns-then-precedes-clause-past g c = on_ok_weaker c.count.result (λ counted t a u. c.requires.left.after t
-    (after_same (steps_end (place c.until-at.result) c.count.new.steps.items) (place c.args.until.now) t counted.ends
-    (subst (λ b. After (steps_end b c.count.new.steps.items) t) (sym c.until-at.ensures.value) a)) u) c.count.ensures
+    (after_same (steps_end (place c.until_in_place-at.result.now) c.count.new.steps.items) (place c.args.until.now) t counted.ends
+    (subst (λ b. After (steps_end b c.count.new.steps.items) t) (sym c.until_in_place-at.ensures) a)) u) c.count.ensures
 
 pub returns-clause-met : goal.returns-clause-met
 returns-clause-met g c chain from known =
@@ -117,7 +117,7 @@ returns-clause-met g c chain from known =
     from (end c.args.piece.now) c.args.piece.now known.piece c.args.window.now c.args.window.now known.stands
     (at_most_of_before from (end c.args.piece.now) known.piece.order) refl refl e
     (λ t a. after_at_most e at t (at_most_of_not_before e at (λ b. false≢true (sym c.if-precedes.false ∙ c.precedes.ensures.1
-    (subst (λ x. Before x e) (sym c.until-at.ensures.value) b)))) a)
+    (subst (λ x. Before x e) (sym c.until_in_place-at.ensures) b)))) a)
     c.requires.left.after
     (at_most_of_before from (end c.args.piece.now) known.piece.order)) known.plays
 
@@ -127,7 +127,7 @@ returns-clause-past g c t a u =
     let at = stop c.args.window.now.out in
     let e = place c.args.until.now in
     c.requires.left.after t (after_at_most e at t (at_most_of_not_before e at (λ b. false≢true (sym c.if-precedes.false ∙ c.precedes.ensures.1
-    (subst (λ x. Before x e) (sym c.until-at.ensures.value) b))))
+    (subst (λ x. Before x e) (sym c.until_in_place-at.ensures) b))))
     (after_at_most at (last_end c.args.window.now) t (to_end g.P.Shape c.args.way.now.side at c.args.window.now.steps.items known.stands.steps) a)) u
 
 pub returns-then-precedes-clause-falls : goal.returns-then-precedes-clause-falls
@@ -136,9 +136,9 @@ returns-then-precedes-clause-falls g c =
     let side = c.args.way.now.side in
     let old = c.args.window.now in
     let until = place c.args.until.now in
-    let at = c.until-at.ensures.value in
+    let at = c.until_in_place-at.ensures in
     on_ok_weaker c.count.result (λ counted. subst (λ b. FallOff g.P.Shape side b c.count.new.steps.items) at
-    (counted_falls g.P.Shape side (place c.until-at.result) old.steps.items c.count.new.steps.items c.at_high-level.result until
+    (counted_falls g.P.Shape side (place c.until_in_place-at.result.now) old.steps.items c.count.new.steps.items c.at_high-level.result until
     (subst (λ b. AreSteps g.P.Shape side b old.steps.items) (sym at) known.stands.steps)
     (subst (λ s. FallOff g.P.Shape side s old.steps.items) (sym at) (falls_off g.P.Shape (assumption g.met.P.Shape) chain c.args.way.now
     known.can.rising from from from old known.stands known.entered))

@@ -29,7 +29,7 @@ reached-requires-clause-to_within g c =
 
 pub returns-in_default-clause-holds : goal.returns-in_default-clause-holds
 returns-in_default-clause-holds g c chain from known is = holds_reached known (assumption g.met.P.Shape) c.requires.trend
-    (λ t a u. c.in_default.ensures.none refl t (subst (λ s. After s t) (sym c.until-at.ensures.value) a))
+    (λ t a u. c.in_default.ensures.none refl t (subst (λ s. After s t) (sym c.until_in_place-at.ensures) a))
 
 pub tell_first-requires-clause-first : goal.tell_first-requires-clause-first
 tell_first-requires-clause-first g c =

@@ -7,7 +7,7 @@ use Rattle.window_extrema.specs.Range.{IsAtMost}
 use Rattle.window_extrema.specs.Stairs.{AreStairs, AreStairsTo, spread}
 use Rattle.rational.proofs.ExtendedLemmas.{le_of_ltᵉ}
 use Rattle.rational.proofs.Lists.{last_apart}
-use Rattle.window_extrema.proofs.StairLemmas.{at_most_where_not_less, spread_last, with_first, with_last, without_last}
+use Rattle.window_extrema.proofs.StairLemmas.{at_most_where_not_greater, spread_last, with_first, with_last, without_last}
 use Rattle.window_extrema.proofs.queue.drop_smaller.Goals as goal
 
 pub overflow_add-passed : goal.overflow_add-passed
@@ -21,8 +21,8 @@ overflow_add-passed g c =
     let is : c.in-Some.field-0.now ≡ c.in-Some.before = search rules in
     search rules
 
-pub overflow_add-passed-in-Less : goal.overflow_add-passed-in-Less
-overflow_add-passed-in-Less g c =
+pub overflow_add-passed-in_default-cmp : goal.overflow_add-passed-in_default-cmp
+overflow_add-passed-in_default-cmp g c =
     let rest = take (deque_len c.loop-before.queue - 1) c.loop-before.queue.items in
     let e : c.loop-before.queue.items ≡ rest ++ c.in-Some.before ∷ [] =
     last_apart c.loop-before.queue.items (deque_len c.loop-before.queue) c.in-Some.before (search rules) (search rules) (search rules) in
@@ -47,7 +47,8 @@ loop-before-preserved g c =
     let v : slice_get c.args.items.now.items c.args.place ≡ Some c.index-item.result.now =
     slice_get_read c.args.items.now.items (length c.args.items.now.items) c.args.place c.index-item.result.now
     (search rules) (search rules) (search rules) in
-    let le : IsAtMost g.P.Shape.function c.index.result.now c.index-item.result.now = le_of_ltᵉ _ _ c.in-Less.ensures.order in
+    let le : IsAtMost g.P.Shape.function c.index.result.now c.index-item.result.now =
+    at_most_where_not_greater _ _ _ c.cmp.ensures.order c.in_default-cmp.not-Greater in
     let gone : c.pop_back.new.self.items ≡ rest = c.pop_back.ensures.rest in
     let nearer : c.args.place - c.loop-before.passed - suc c.in-Some.before ≡ c.args.place - (c.loop-before.passed + (c.in-Some.field-0.now + 1)) =
     omega (arith, is) in (
@@ -65,8 +66,8 @@ loop-before-preserved g c =
       search rules,
     )
 
-pub returns-in_default-cmp : goal.returns-in_default-cmp
-returns-in_default-cmp g c =
+pub returns-in-Greater : goal.returns-in-Greater
+returns-in-Greater g c =
     let rest = take (deque_len c.loop-before.queue - 1) c.loop-before.queue.items in
     let e : c.loop-before.queue.items ≡ rest ++ c.in-Some.before ∷ [] =
     last_apart c.loop-before.queue.items (deque_len c.loop-before.queue) c.in-Some.before (search rules) (search rules) (search rules) in
@@ -80,8 +81,7 @@ returns-in_default-cmp g c =
     let v : slice_get c.args.items.now.items c.args.place ≡ Some c.index-item.result.now =
     slice_get_read c.args.items.now.items (length c.args.items.now.items) c.args.place c.index-item.result.now
     (search rules) (search rules) (search rules) in
-    let le : IsAtMost g.P.Shape.function c.index-item.result.now c.index.result.now =
-    at_most_where_not_less _ _ _ c.cmp.ensures.order c.in_default-cmp.not-Less in
+    let le : IsAtMost g.P.Shape.function c.index-item.result.now c.index.result.now = le_of_ltᵉ _ _ c.in-Greater.ensures.order in
     record {
       stairs = λ low h.
           subst (λ n. AreStairs g.P.Shape.function c.args.items.now.items low n (c.loop-before.queue.items ++ c.loop-before.passed ∷ [])) (omega arith)

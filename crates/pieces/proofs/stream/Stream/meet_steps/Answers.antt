@@ -46,7 +46,7 @@ lengthen-requires g c =
     record {
       further = (
         s,
-        follows_further g.P.Shape s c.args.self.now c.args.piece.now c.in-Some.shape e known (c.is_empty.ensures.not c.if-is_empty.false) next goes,
+        follows_further g.P.Shape s c.args.self.now c.args.piece.now c.in-Some.shape.now e known (c.is_empty.ensures.not c.if-is_empty.false) next goes,
       );
     }
 
@@ -54,8 +54,8 @@ pub returns-clause-follows : goal.returns-clause-follows
 returns-clause-follows g c s known next =
     let some = c.is_empty.ensures.not c.if-is_empty.false in
     let (e, goes) = c.in-Some.ensures.some in
-    follows_longer g.P.Shape s c.args.self.now c.args.piece.now c.in-Some.shape e known some next c.lengthen.new.window
-    (c.in_ok-lengthen.ensures.taken s (follows_further g.P.Shape s c.args.self.now c.args.piece.now c.in-Some.shape e known some next goes))
+    follows_longer g.P.Shape s c.args.self.now c.args.piece.now c.in-Some.shape.now e known some next c.lengthen.new.window
+    (c.in_ok-lengthen.ensures.taken s (follows_further g.P.Shape s c.args.self.now c.args.piece.now c.in-Some.shape.now e known some next goes))
 
 pub turn-requires-clause-next : goal.turn-requires-clause-next
 turn-requires-clause-next g c =

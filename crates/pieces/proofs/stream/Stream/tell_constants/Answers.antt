@@ -1,8 +1,7 @@
-use Rattle.std.proofs.Common.{◌≡◌, Some, None, sym, ◌∙◌}
+use Rattle.std.proofs.Common.{sym, ◌∙◌}
 use Rattle.std.proofs.lemmas.Option.{none-some}
 use Rattle.frac128.specs.Value.{value}
 use Rattle.frac128.specs.Cuts.{place}
-use Rattle.window_extrema.specs.Range.{Range}
 use Rattle.pieces.specs.Chains.{Chain}
 use Rattle.pieces.specs.ConstantsMet.{TellsBest}
 use Rattle.pieces.specs.Streaming.{Follows, HasAll, before_time}
