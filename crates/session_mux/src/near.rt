@@ -16,7 +16,7 @@ pub(crate) const NEAR: usize = 32;
 
 /// The bytes from a place on.
 #[inline(always)]
-fn bytes_at(text: &[u8], at: usize) -> u8x32
+pub(crate) fn bytes_at(text: &[u8], at: usize) -> u8x32
     requires { at + 32 ≤ length text.now }
     ensures { HasLanes result (λ k. slice_index text.now (at + k)) }
 {
@@ -194,6 +194,17 @@ pub(crate) fn goes_on_alike(text: &[u8], at: usize, len: usize) -> bool {
     clear_bits(marks) > len
 }
 
+/// Puts the first of 32 bytes that were loaded, so many of them, behind what stands before `at`, and answers where they end. All are copied.
+#[inline(always)]
+pub(crate) fn store(buf: &mut [u8], at: usize, bytes: u8x32, len: usize) -> usize
+    requires few { len ≤ 32 }
+    requires room { at + 32 ≤ length buf.old }
+    ensures { IsAdded (take len bytes) buf.old at buf.new result }
+{
+    bytes.copy_to_slice(&mut buf[at..]);
+    at + len
+}
+
 /// Puts the first bytes of a text, a few of its first 32, behind what stands before `at`, and answers where they end. All 32 are copied.
 #[inline(always)]
 pub(crate) fn put_wide(buf: &mut [u8], at: usize, text: &[u8], len: usize) -> usize
@@ -202,8 +213,7 @@ pub(crate) fn put_wide(buf: &mut [u8], at: usize, text: &[u8], len: usize) -> us
     requires room { at + 32 ≤ length buf.old }
     ensures { IsAdded (take len text.now) buf.old at buf.new result }
 {
-    bytes_at(text, 0).copy_to_slice(&mut buf[at..]);
-    at + len
+    store(buf, at, bytes_at(text, 0), len)
 }
 
 /// Puts some bytes behind what stands before `at`, and answers where they end. A few are copied as 32, where the text at whose front they

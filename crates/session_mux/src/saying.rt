@@ -9,7 +9,7 @@ ghost use Rattle.session_mux.specs.Near.{IsNextFeed};
 
 use crate::near::{NEAR, first_feed, front_feed, is_next_feed};
 use crate::recent::{Recent, keep, last_lines};
-use crate::tag::Tag;
+use crate::tag::{LoadedTag, Tag};
 use crate::waiting::Waiting;
 use answer_lines::add_part;
 use frac128::Memory;
@@ -111,7 +111,7 @@ fn put_any<'a>(
 #[inline(always)]
 fn put_near<'a>(
     waiting: &mut Waiting,
-    tag: &Tag,
+    tag: &LoadedTag,
     text: &'a [u8],
     at: usize,
     out: &mut Text,
@@ -135,7 +135,7 @@ fn put_near<'a>(
 #[inline(always)]
 fn put_all_near<'a>(
     waiting: &mut Waiting,
-    tag: &Tag,
+    tag: &LoadedTag,
     text: &'a [u8],
     out: &mut Text,
 ) -> Result<&'a [u8], Memory>
@@ -160,7 +160,7 @@ fn put_lines(tag: &Tag, text: &[u8], out: &mut Text) -> Result<(), Memory>
     ensures err { OnErr result (GrewInPart (Is (said_lines tag.now text.now)) out.old out.new) }
 {
     let mut waiting = Waiting::new();
-    let mut rest = put_all_near(&mut waiting, tag, text, out)?;
+    let mut rest = put_all_near(&mut waiting, &tag.loaded(), text, out)?;
     while !rest.is_empty() {
         rest = put_any(&mut waiting, tag, rest, out)?;
     }

@@ -5,9 +5,10 @@ ghost use Rattle.session_mux.specs.Sessions.{is_tag_byte as is_of_tag, Tagged, I
 ghost use Rattle.answer_lines.specs.After.{IsAdded};
 ghost use Rattle.session_mux.specs.Tags.{number_of as number};
 
-use crate::near::{NEAR, begins_with, put_front};
+use crate::near::{NEAR, begins_with, bytes_at, put_front, store};
 use answer_lines::{add_byte, add_part};
 use std::marker::Model;
+use std::simd::prelude::*;
 
 /// The most bytes of a tag.
 pub(crate) const LONGEST: usize = 16;
@@ -97,6 +98,17 @@ impl Tag {
         &self.bytes[..self.len]
     }
 
+    /// The tag, loaded to be put before many lines.
+    #[inline(always)]
+    pub(crate) fn loaded(&self) -> LoadedTag
+        ensures { result ≡ self.now }
+    {
+        LoadedTag {
+            bytes: bytes_at(&self.bytes, 0),
+            len: self.len,
+        }
+    }
+
     /// What follows the tag and a space, where a piece begins with them.
     #[inline(always)]
     pub(crate) fn rest<'a>(&self, piece: &'a [u8]) -> Option<&'a [u8]>
@@ -155,6 +167,35 @@ impl Tag {
         ensures few { result ≤ at + 17 }
     {
         add_part(buf, at, &self.bytes, self.len + 1)
+    }
+}
+
+/// A tag with a space behind it, loaded once to be put before many lines. Contracts see the tag.
+#[derive(Drop)]
+pub(crate) struct LoadedTag {
+    bytes: u8x32,
+    len: usize,
+}
+
+impl Model for LoadedTag {
+    ghost use Rattle.std.specs.Prelude.{ℕ, List, ◌≡◌, ◌≤◌, ◌+◌, ◌++◌, codes, take};
+
+    ghost Value = { List ℕ };
+
+    ghost view = { λ t. take t.len t.bytes };
+
+    ghost invariant = { λ t. (t.len ≤ 16) × (take (t.len + 1) t.bytes ≡ take t.len t.bytes ++ codes " ") };
+}
+
+impl LoadedTag {
+    /// Puts the tag and a space behind what stands before `at`, and answers where they end.
+    #[inline(always)]
+    pub(crate) fn put(&self, buf: &mut [u8], at: usize) -> usize
+        requires { at + 32 ≤ length buf.old }
+        ensures added { IsAdded (self.now ++ codes " ") buf.old at buf.new result }
+        ensures few { result ≤ at + 17 }
+    {
+        store(buf, at, self.bytes, self.len + 1)
     }
 }
 

@@ -3,7 +3,7 @@ ghost use Rattle.std.specs.Prelude.{◌≡◌, ◌≤◌, ◌++◌, ◌∷◌, �
 ghost use Rattle.stl_syntax.specs.Texts.{newline};
 
 use crate::near::{put_front, put_wide};
-use crate::tag::Tag;
+use crate::tag::{LoadedTag, Tag};
 use answer_lines::add_byte;
 use frac128::Memory;
 use std::marker::Model;
@@ -76,7 +76,7 @@ impl Waiting {
 
     /// Puts the first bytes of a text, a few, after the tag and a space.
     #[inline(always)]
-    pub(crate) fn put_near(&mut self, tag: &Tag, text: &[u8], len: usize)
+    pub(crate) fn put_near(&mut self, tag: &LoadedTag, text: &[u8], len: usize)
         requires few { len ≤ 32 }
         requires long { 32 ≤ length text.now }
         requires room { length self.old ≤ 512 }

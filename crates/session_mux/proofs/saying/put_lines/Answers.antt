@@ -1,15 +1,20 @@
-use Rattle.std.proofs.Common.{◌++◌, sym}
+use Rattle.std.proofs.Common.{◌++◌, sym, subst}
 use Rattle.std.proofs.lemmas.Result.{on_ok_weaker, on_err_weaker}
 use Rattle.std.specs.Prelude.{codes}
 use Rattle.rational.proofs.Lists.{empty_of_test, on_err_anyway}
+use Rattle.answer_lines.specs.Appended.{GrewInPart, Is}
+use Rattle.session_mux.specs.Saying.{said_lines, Putting}
 use Rattle.session_mux.proofs.LineTexts.{putting_on, putting_cut, putting_all, putting_left}
 use Rattle.session_mux.proofs.saying.put_lines.Goals as goal
 
 pub loop-rest-init : goal.loop-rest-init
-loop-rest-init c = c.in_ok-rest.ensures
+loop-rest-init c =
+    subst (λ t. Putting (t ++ codes " ") c.args.text.now c.args.out.now c.in_ok-rest.rest.now c.put_all_near.new.out c.put_all_near.new.waiting)
+    c.loaded.ensures c.in_ok-rest.ensures
 
 pub returns-in_err-rest-clause-err : goal.returns-in_err-rest-clause-err
-returns-in_err-rest-clause-err c = on_err_anyway _ c.in_err-rest.ensures
+returns-in_err-rest-clause-err c =
+    on_err_anyway _ (subst (λ t. GrewInPart (Is (said_lines t c.args.text.now)) c.args.out.now c.put_all_near.new.out) c.loaded.ensures c.in_err-rest.ensures)
 
 pub returns-in_err-rest-2-clause-err : goal.returns-in_err-rest-2-clause-err
 returns-in_err-rest-2-clause-err c =
