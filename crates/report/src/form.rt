@@ -37,6 +37,7 @@ pub(crate) fn part(text: &str, from: usize, to: usize) -> &str
 }
 
 /// Puts a text in the place of another, whose memory it takes over.
+#[inline(always)]
 fn put_text(slot: &mut Value, content: &str) -> Result<(), Memory>
     requires { IsSome (as_str (view slot.old)) }
     ensures ok { OnOk result (view slot.new ≡ string content.now) }
@@ -51,6 +52,7 @@ fn put_text(slot: &mut Value, content: &str) -> Result<(), Memory>
 }
 
 /// Puts a text in the place of the one that is at the key.
+#[inline(always)]
 fn set_member(members: &mut Map<String, Value>, key: &str, content: &str) -> Result<(), Memory>
     requires { HasTextAt key.now (members_view members.old.entries) }
     ensures ok { OnOk result (members_view members.new.entries ≡ replaced key.now (string content.now) (members_view members.old.entries)) }
@@ -63,6 +65,7 @@ fn set_member(members: &mut Map<String, Value>, key: &str, content: &str) -> Res
 }
 
 /// Puts a truth in the place of another.
+#[inline(always)]
 fn put_truth(slot: &mut Value, holds: bool)
     requires { IsSome (as_bool (view slot.old)) }
     ensures { view slot.new ≡ boolean holds }
@@ -74,6 +77,7 @@ fn put_truth(slot: &mut Value, holds: bool)
 }
 
 /// Puts a truth in the place of the one with which the members end.
+#[inline(always)]
 fn set_last_truth(members: &mut Map<String, Value>, holds: bool)
     requires { (k : List ℕ) × (b : Bool) × EndAt k (boolean b) (members_view members.old.entries) }
     ensures { (k : List ℕ) (b : Bool) → EndAt k (boolean b) (members_view members.old.entries)
@@ -86,6 +90,7 @@ fn set_last_truth(members: &mut Map<String, Value>, holds: bool)
 }
 
 /// Puts a truth in the place of the one that the object of a verdict has.
+#[inline(always)]
 pub(crate) fn set_truth(verdict: &mut Value, holds: bool)
     requires { IsVerdictForm (view verdict.old) }
     ensures { (on : List ℕ) (b : Bool) → view verdict.old ≡ verdict_object on b → view verdict.new ≡ verdict_object on holds }
@@ -97,6 +102,7 @@ pub(crate) fn set_truth(verdict: &mut Value, holds: bool)
 }
 
 /// Puts a text in the place of the one that the object has at the key.
+#[inline(always)]
 pub(crate) fn set_text(object: &mut Value, key: &str, content: &str) -> Result<(), Memory>
     requires { HasText key.now (view object.old) }
     ensures ok { OnOk result (view object.new ≡ with_member key.now (string content.now) (view object.old)) }
@@ -109,6 +115,7 @@ pub(crate) fn set_text(object: &mut Value, key: &str, content: &str) -> Result<(
 }
 
 /// Puts a text in the place of the one with which the members begin, which is at the key.
+#[inline(always)]
 fn set_first_member(
     members: &mut Map<String, Value>,
     key: &str,
@@ -125,6 +132,7 @@ fn set_first_member(
 }
 
 /// Puts a text in the place of the one with which the object begins, which it has at the key. It costs less than `set_text`, since no key is looked up.
+#[inline(always)]
 pub(crate) fn set_first(object: &mut Value, key: &str, content: &str) -> Result<(), Memory>
     requires form { HasText key.now (view object.old) }
     requires place { IsFirst key.now (view object.old) }
@@ -138,6 +146,7 @@ pub(crate) fn set_first(object: &mut Value, key: &str, content: &str) -> Result<
 }
 
 /// Puts a text in the place of the one with which the members end, which is at the key.
+#[inline(always)]
 fn set_last_member(members: &mut Map<String, Value>, key: &str, content: &str) -> Result<(), Memory>
     requires { EndsAt key.now (members_view members.old.entries) }
     ensures ok { OnOk result (members_view members.new.entries ≡ replaced key.now (string content.now) (members_view members.old.entries)) }
@@ -150,6 +159,7 @@ fn set_last_member(members: &mut Map<String, Value>, key: &str, content: &str) -
 }
 
 /// Puts a text in the place of the one with which the object ends, which it has at the key. It costs less than `set_text`, since no key is looked up.
+#[inline(always)]
 pub(crate) fn set_last(object: &mut Value, key: &str, content: &str) -> Result<(), Memory>
     requires form { HasText key.now (view object.old) }
     requires place { IsLast key.now (view object.old) }

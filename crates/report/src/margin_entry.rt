@@ -105,6 +105,7 @@ fn step_texts<'a>(
 }
 
 /// Has the object be that of a knot.
+#[inline(always)]
 fn fill_knot(knot: &mut Value, at: &str, margin: &str) -> Result<(), Memory>
     requires { IsKnotForm (view knot.old) }
     ensures ok { OnOk result (view knot.new ≡ knot_object at.now margin.now) }
@@ -115,6 +116,7 @@ fn fill_knot(knot: &mut Value, at: &str, margin: &str) -> Result<(), Memory>
 }
 
 /// Has the object be that of a piece.
+#[inline(always)]
 fn fill_piece(piece: &mut Value, from: &str, on: &str, to: &str) -> Result<(), Memory>
     requires { IsPieceForm (view piece.old) }
     ensures ok { OnOk result (view piece.new ≡ piece_object from.now on.now to.now) }

@@ -1,4 +1,4 @@
-use Rattle.std.proofs.Common.{◌≡◌, length, subst, arith}
+use Rattle.std.proofs.Common.{◌≡◌, subst, arith}
 use Rattle.value_laws.specs.Kinds.{truth_shape}
 use Rattle.implicants.specs.Signals.{AreTruthAtoms}
 use Rattle.implicants.proofs.signals.atoms_of.Goals as goal
@@ -7,7 +7,7 @@ pub add_atom-requires : goal.add_atom-requires
 add_atom-requires c = record {
   bound = c.requires.bound;
   some = c.requires.some;
-  inside = let t = c.loop-i-test.true in let n = c.len-i-end.ensures.count in omega (arith, t, n);
+  inside = let t = c.loop-i-test.true in let w = c.requires.within in omega (arith, t, w);
   before = c.loop-i.invariant;
 }
 
@@ -18,6 +18,5 @@ pub returns : goal.returns
 returns c =
     let t = c.loop-i-test.false in
     let e = c.loop-i.auto.i-end in
-    let n = c.len-i-end.ensures.count in
-    let all : c.loop-i.i ≡ length c.args.formula.now.nodes = omega (arith, t, e, n) in
+    let all : c.loop-i.i ≡ c.args.count = omega (arith, t, e) in
     subst (λ k. AreTruthAtoms truth_shape c.args.formula.now.nodes c.args.trace.now k c.loop-i.atoms) all c.loop-i.invariant
