@@ -9,13 +9,14 @@ ghost use Rattle.whole_answers.specs.Answering.{IsRootOf};
 ghost use Rattle.explained_answers.specs.Reasons.{truth_of as truth_explained, items_of};
 ghost use Rattle.whole_answers.specs.Judging.{IsAnswerOf, IsUnanswered};
 
-use crate::explain::{fault_stop, reasons};
-use implicants::{ExplainFault, Explained};
+use crate::explain::fault_stop;
+use frac128::Steps;
+use implicants::{ExplainFault, Explained, explain_violation};
 use pl_signal::Signal;
 use report::put_json;
 use std::alloc::Global;
 use std::marker::Brand;
-use std::sync::ledger::Blank;
+use std::sync::ledger::{Blank, Ledger};
 use stl_syntax::{Formula, Items, Text};
 use trace_stream::Case;
 use value_laws::{Shape, Truth};
@@ -43,22 +44,59 @@ fn holds_at_start(case: &Case, truth: &Signal<Truth>) -> bool
     truth.knot(0).point.holds()
 }
 
-/// Why the formula of the case is false at the start of the trace. Where its truth tells that it holds there, nothing more is asked.
+/// Why the formula of the case is false at the start of the trace, as it is, from the signal of its truth, which is handed back.
 ///
 /// # Errors
 /// A violation with too many cells; want of memory.
-fn reasons_for(alloc: Global, case: &Case, truth: &Signal<Truth>) -> Result<Explained, ExplainFault>
+fn reasons_from<L: Ledger>(
+    alloc: Global,
+    case: &Case,
+    truth: Signal<Truth>,
+    blank: Blank,
+) -> Result<(Explained, Signal<Truth>), ExplainFault>
     requires bound { IsBound case.now.bound case.now.formula case.now.trace.header }
     requires some { 0 < length case.now.trace.rows }
-    requires told { IsRootOf ⟦<Truth as Shape>⟧ truths case.now truth.now }
+    requires told { IsRootOf ⟦<Truth as Shape>⟧ truths case.now truth }
+    requires fails { ¬ HoldsAtStart case.now.formula.nodes case.now.trace }
+    requires name { blank.name ≡ L.name }
+    requires parts { blank.parts ≡ L.parts }
+    requires shares { 0 < blank.parts }
     ensures { MatchResult result
-        (λ r. (steps : ℕ) × IsExplained case.now.formula.nodes case.now.trace steps r)
+        (λ r. (steps : ℕ) × IsExplained case.now.formula.nodes case.now.trace steps r.0 × (r.1 ≡ truth))
         (IsExplainFault case.now.formula.nodes case.now.trace) }
 {
-    if holds_at_start(case, truth) {
-        return Ok(Explained::Holds);
+    let mut steps: Steps<L> = Steps::new(blank);
+    explain_violation(
+        alloc,
+        &case.formula,
+        &case.bound,
+        &case.trace,
+        truth,
+        &mut steps,
+    )
+}
+
+/// Why the formula of the case is false at the start of the trace, from the signal of its truth, which is handed back. Where that tells that
+/// it holds there, nothing more is asked.
+///
+/// # Errors
+/// A violation with too many cells; want of memory.
+fn reasons_for(
+    alloc: Global,
+    case: &Case,
+    truth: Signal<Truth>,
+) -> Result<(Explained, Signal<Truth>), ExplainFault>
+    requires bound { IsBound case.now.bound case.now.formula case.now.trace.header }
+    requires some { 0 < length case.now.trace.rows }
+    requires told { IsRootOf ⟦<Truth as Shape>⟧ truths case.now truth }
+    ensures { MatchResult result
+        (λ r. (steps : ℕ) × IsExplained case.now.formula.nodes case.now.trace steps r.0 × (r.1 ≡ truth))
+        (IsExplainFault case.now.formula.nodes case.now.trace) }
+{
+    if holds_at_start(case, &truth) {
+        return Ok((Explained::Holds, truth));
     }
-    reasons::<Brand>(alloc, case, Blank::new(1))
+    reasons_from::<Brand>(alloc, case, truth, Blank::new(1))
 }
 
 /// The verdicts, the robustness and the explanation over a trace that has a row, of the formula of which the case is made, as one
@@ -80,8 +118,8 @@ pub fn give_report(alloc: Global, formula: &Formula, case: &Case) -> Result<Answ
         Ok(truth) => truth,
         Err(_) => return Err(NoAnswer::NoMemory),
     };
-    let explained = match reasons_for(alloc, case, &truth) {
-        Ok(explained) => explained,
+    let (explained, truth) = match reasons_for(alloc, case, truth) {
+        Ok(both) => both,
         Err(fault) => return Err(fault_stop(fault)),
     };
     let margins = match margins_of(alloc, case) {

@@ -17,7 +17,7 @@ pub put_json-requires-clause-atoms : goal.put_json-requires-clause-atoms
 put_json-requires-clause-atoms c =
     let is = c.in-Ok-reasons_for.ensures in
     subst (All (IsOfAtom c.args.formula.now)) (sym c.truth_and_items-holds.ensures.items)
-    (atoms_of_reasons c.args.formula.now c.args.case.now is.0 c.in-Ok-reasons_for.explained c.requires.case is.1)
+    (atoms_of_reasons c.args.formula.now c.args.case.now is.0 c.in-Ok-reasons_for.both.0 c.requires.case is.1)
 
 pub returns-in-Err-reasons_for : goal.returns-in-Err-reasons_for
 returns-in-Err-reasons_for c =
@@ -32,7 +32,7 @@ returns-in-Err-margins_of c =
     let case = c.args.case.now in
     let is = c.in-Ok-reasons_for.ensures in
     unmarked f case.trace c.in-Err-margins_of.stop
-    (few f case.trace is.0 c.in-Ok-reasons_for.explained (subst (λ ns. IsExplained ns case.trace is.0 c.in-Ok-reasons_for.explained) (nodes_of f case c.requires.case) is.1))
+    (few f case.trace is.0 c.in-Ok-reasons_for.both.0 (subst (λ ns. IsExplained ns case.trace is.0 c.in-Ok-reasons_for.both.0) (nodes_of f case c.requires.case) is.1))
     (c.in-Err-margins_of.ensures.none f c.requires.case)
 
 pub returns-in-Ok-put_json : goal.returns-in-Ok-put_json
@@ -42,11 +42,12 @@ returns-in-Ok-put_json c =
     let is = c.in-Ok-reasons_for.ensures in
     let (w, report, e) = c.in-Ok-put_json.ensures.ok in
     let text_is : c.put_json.new.text ≡ w = e ∙ ap (λ o. o ++ w) c.new-text.ensures in
-    let of : IsReportText case.formula.scale f c.in-Ok.truth c.in-Ok-margins_of.margins (items_of c.in-Ok-reasons_for.explained) w =
-    subst (λ s. IsReportText s f c.in-Ok.truth c.in-Ok-margins_of.margins (items_of c.in-Ok-reasons_for.explained) w) c.scale-scale.ensures.scale
-    (subst (λ items. IsReportText c.scale-scale.result f c.in-Ok.truth c.in-Ok-margins_of.margins items w)
-    c.truth_and_items-holds.ensures.items report) in
+    let of : IsReportText case.formula.scale f c.in-Ok.truth c.in-Ok-margins_of.margins (items_of c.in-Ok-reasons_for.both.0) w =
+    subst (λ x. IsReportText case.formula.scale f x c.in-Ok-margins_of.margins (items_of c.in-Ok-reasons_for.both.0) w) is.2
+    (subst (λ s. IsReportText s f c.in-Ok-reasons_for.both.1 c.in-Ok-margins_of.margins (items_of c.in-Ok-reasons_for.both.0) w) c.scale-scale.ensures.scale
+    (subst (λ items. IsReportText c.scale-scale.result f c.in-Ok-reasons_for.both.1 c.in-Ok-margins_of.margins items w)
+    c.truth_and_items-holds.ensures.items report)) in
     subst (λ h. IsAnswerOf json f case.trace h c.put_json.new.text) (sym c.truth_and_items-holds.ensures.truth)
-    (subst (IsAnswerOf json f case.trace (truth_of c.in-Ok-reasons_for.explained)) (sym text_is)
+    (subst (IsAnswerOf json f case.trace (truth_of c.in-Ok-reasons_for.both.0)) (sym text_is)
     (reported f case c.requires.case c.in-Ok.truth c.in-Ok-margins_of.margins w c.in-Ok.ensures
-    c.in-Ok-margins_of.ensures.told is.0 c.in-Ok-reasons_for.explained is.1 c.len.ensures.well_formed of))
+    c.in-Ok-margins_of.ensures.told is.0 c.in-Ok-reasons_for.both.0 is.1 c.len.ensures.well_formed of))
