@@ -24,7 +24,8 @@ returns-in-Err-reasons_for c =
     let f = c.args.formula.now in
     let tr = c.args.case.now.trace in
     unreported f tr c.fault_stop.result
-    (subst (IsUnanswered explaining f tr) (sym c.fault_stop.ensures) (unreasoned f c.args.case.now c.in-Err-reasons_for.fault c.requires.case c.in-Err-reasons_for.ensures))
+    (subst (IsUnanswered explaining f tr) (sym c.fault_stop.ensures)
+    (unreasoned f c.args.case.now c.in-Err-reasons_for.fault c.requires.case c.in-Err-reasons_for.ensures))
 
 pub returns-in-Err-margins_of : goal.returns-in-Err-margins_of
 returns-in-Err-margins_of c =
@@ -32,7 +33,8 @@ returns-in-Err-margins_of c =
     let case = c.args.case.now in
     let is = c.in-Ok-reasons_for.ensures in
     unmarked f case.trace c.in-Err-margins_of.stop
-    (few f case.trace is.0 c.in-Ok-reasons_for.both.0 (subst (λ ns. IsExplained ns case.trace is.0 c.in-Ok-reasons_for.both.0) (nodes_of f case c.requires.case) is.1))
+    (few f case.trace is.0 c.in-Ok-reasons_for.both.0
+    (subst (λ ns. IsExplained ns case.trace is.0 c.in-Ok-reasons_for.both.0) (nodes_of f case c.requires.case) is.1))
     (c.in-Err-margins_of.ensures.none f c.requires.case)
 
 pub returns-in-Ok-put_json : goal.returns-in-Ok-put_json

@@ -11,7 +11,8 @@ use Rattle.online_robust.proofs.net.take_row_all.Goals as goal
 pub loop-i-init : goal.loop-i-init
 loop-i-init c = (refl, (λ p g. going_first p c.args.edges.now c.args.stations.now.items g.0), refl)
 
-module _ (c : After-index_mut) (p : Passing) (g : CanGoByRow p c.args.edges.now c.args.stations.now.items c.args.bound.now c.args.before.now c.args.row.now) where
+module _ (c : After-index_mut) (p : Passing)
+    (g : CanGoByRow p c.args.edges.now c.args.stations.now.items c.args.bound.now c.args.before.now c.args.row.now) where
   within : c.loop-i.i < length p.nodes
   within =
       let all = g.0.shows.stations in
