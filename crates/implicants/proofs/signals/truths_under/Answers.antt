@@ -17,8 +17,12 @@ unreachable-requires g c =
     let nodes = c.args.formula.now.nodes in
     let s = truth_setting c.args.trace.now in
     let fault = c.in-Err-Wide.ensures.wide s
-    (record { lowest = refl; highest = refl; from = ap (λ n. whole (pos n)) (sym c.first-from.ensures);
-      to = ap (λ n. whole (pos n)) (sym c.last-to.ensures.last) })
+    (record {
+      lowest = refl;
+      highest = refl;
+      from = ap (λ n. whole (pos n)) (sym c.first-from.ensures);
+      to = ap (λ n. whole (pos n)) (sym c.last-to.ensures.last);
+    })
     (subst (λ n. TellAtomsBelow truth_shape (n - 1) nodes c.in_ok-atoms.atoms s) c.len-below.ensures.count c.in_ok-atoms.ensures.told) in
     let wide = subst (IsFault truth_shape nodes s) c.in-Err-Wide.field-0-is fault in
     levels_are_never_wide truth_shape (λ p. truth_value p.holds) (λ p. refl) nodes s c.in-Err-Wide.field-0-0.node c.in-Err-Wide.field-0-0.pair wide.1
