@@ -15,7 +15,7 @@ use std::mem::{replace, swap};
 use stl_syntax::Text;
 
 /// How many objects of a list are printed by one call at most.
-pub(crate) const MOST: usize = 512;
+pub(crate) const MOST: usize = 192;
 
 /// Puts the list of an array in the place of another, which comes into the array.
 fn exchange(all: &mut Value, objects: &mut Vec<Value>)

@@ -1,7 +1,7 @@
 //! The report as one object of JSON.
 //!
 //! Its text is the compact one that `serde_json` has for the report as a value. Each entry (a knot, a piece, an item, a verdict) is a value.
-//! An item is printed before the next one; 512 knots and pieces are printed by one call, and as many verdicts, so that a report of
+//! An item is printed before the next one; 192 knots and pieces are printed by one call, and as many verdicts, so that a report of
 //! many knots takes no memory beside its text but that of so many entries. Their objects have the texts of one entry after another.
 //! What stands around the lists are objects with an empty list at their end, each printed up to where the items of that list begin.
 ghost use Rattle.std.specs.Prelude.{◌≡◌, ◌≤◌, ◌<◌, ◌^◌, ◌++◌, ℕ, List, [], false, All, IfOk, OnOk, OnErr, codes, drop, length};

@@ -26,7 +26,6 @@ fn closing(inside: bool) -> u8
 }
 
 /// Puts a span in the place of the text at `on`. What `room` has does not matter: it lends its bytes.
-#[inline(always)]
 fn set_span(
     verdict: &mut Value,
     room: &mut [u8; SPAN_ROOM],
@@ -51,7 +50,6 @@ fn set_span(
 }
 
 /// Has the object be that of a verdict.
-#[inline(always)]
 fn fill_verdict(
     verdict: &mut Value,
     room: &mut [u8; SPAN_ROOM],
@@ -70,7 +68,6 @@ fn fill_verdict(
 }
 
 /// Has the object at a place be that of a verdict.
-#[inline(always)]
 fn fill_at(
     objects: &mut [Value],
     at: usize,
